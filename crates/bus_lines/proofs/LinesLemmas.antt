@@ -4,6 +4,8 @@ use Rattle.wire_spec.specs.Wires.{tick}
 use Rattle.wire_spec.specs.Bus.{Bus, bus_of, edge, each, rises, scl_level, sda_level, pulled, looked, rejoined}
 use Rattle.wire_spec.specs.Sites.{NodeState, node_table, mask_of}
 use Rattle.i2c_bits.specs.Wiring.{Wire, wire_pulled, wire_looked, the_table, mask_at, levelled_bits, lined}
+use Rattle.i2c_bits.specs.Stands.{sites_of, world_at}
+use Rattle.bus_lines.specs.Aparts.{ApartView, apart_of, world_apart}
 use Rattle.bus_lines.specs.LinesViews.{TargetsView, LinesView, lines_of}
 
 module _ (t : TargetsView) (w v : Wire) (now new : LinesView) (view : lines_of t w ≡ now) where
@@ -48,3 +50,9 @@ line_is t u w now view m level is =
     ap (λ (x : TargetsView). (lines_of x w).bus) is
     ∙ ap (λ (l : LinesView). bus_of l.bus.scl l.bus.sda (rejoined (mask_of l.rooted.board l.rooted.root) (levelled_bits m level l.bus.targets))
     l.bus.counts) view
+
+-- the targets are the same world on the lines and off them
+pub apart_is : (t : TargetsView) (w : Wire) (now : LinesView) → lines_of t w ≡ now → (a : ApartView) → a ≡ apart_of t.rooted t.bits
+    → (busy : Bool) → world_apart busy a ≡ world_at now.rooted busy now.bus
+unfolding sites_of
+apart_is t w now view a is busy = ap (world_apart busy) is ∙ ap (λ (l : LinesView). world_at l.rooted busy l.bus) view

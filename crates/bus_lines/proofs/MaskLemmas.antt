@@ -1,5 +1,5 @@
 -- Who is joined by the places of a board is who is joined by its mask.
-use Rattle.std.proofs.Common.{◌≡◌, ℕ, zero, suc, ◌+◌, ◌-◌, ◌<◌, ◌≤◌, ◌==◌, Bool, true, false, ◌&&◌, List, [], ◌∷◌, ◌++◌, length, map, Some, refl, sym, ap, ◌∙◌, arith}
+use Rattle.std.proofs.Common.{◌≡◌, ℕ, zero, suc, ◌+◌, ◌-◌, ◌<◌, ◌≤◌, ◌==◌, Bool, true, false, ◌&&◌, cond, List, [], ◌∷◌, ◌++◌, length, map, Some, refl, sym, ap, ◌∙◌, arith}
 use Rattle.std.specs.Prelude.{not, is_some, nat_lt, slice_get, replicate, if◌then◌else◌}
 use Rattle.std.specs.List.{list_all}
 use Rattle.std.specs.Option.{option_map_or}
@@ -23,7 +23,7 @@ opens_in ch nodes i = option_map_or (node_opens ch) (slice_get nodes i) false
 abbrev opens_chip : ℕ → List (Site ChipView) → ℕ → Bool
 opens_chip ch cs i = option_map_or (λ c. is_open c ch) (slice_get (states_of cs) i) false
 
-abbrev Kinds : ℕ → ℕ → List NodeState → Type 0
+abbrev pub Kinds : ℕ → ℕ → List NodeState → Type 0
 Kinds n m nodes = map is_chip nodes ≡ replicate n true ++ replicate m false
 
 -- no device opens one
@@ -60,7 +60,7 @@ opens_cons ch s (Device x) nodes rest zero (suc m) (suc i) is same =
     let e : map is_chip nodes ≡ replicate m false = cc in
     none_open ch m i nodes e ∙ sym (none_open ch m (suc i) nodes e) ∙ same 0 m (suc i) e
 
-abbrev sites_on : List (Bit NodeState) → List (Site NodeState)
+abbrev pub sites_on : List (Bit NodeState) → List (Site NodeState)
 sites_on bs = map {A = Bit NodeState} (λ (b : Bit NodeState). b.site) bs
 
 opens_same : (ch : ℕ) (bs : List (Bit NodeState)) (n m i : ℕ) → Kinds n m (states_on bs)
@@ -98,12 +98,12 @@ all_same : {A : Type 0} (p q : A → Bool) → ((x : A) → p x ≡ q x) → (xs
 all_same p q same [] = refl
 all_same p q same (x ∷ xs) = rw (same x, all_same p q same xs) refl
 
-get_left : {A : Type 0} (xs ys : List A) (k : ℕ) → k < length xs → slice_get (xs ++ ys) k ≡ slice_get xs k
+pub get_left : {A : Type 0} (xs ys : List A) (k : ℕ) → k < length xs → slice_get (xs ++ ys) k ≡ slice_get xs k
 get_left [] ys k lt = absurd (omega (arith, lt))
 get_left (x ∷ xs) ys zero lt = refl
 get_left (x ∷ xs) ys (suc k) lt = get_left xs ys k (omega (arith, lt))
 
-get_right : {A : Type 0} (xs ys : List A) (k : ℕ) → length xs ≤ k → slice_get (xs ++ ys) k ≡ slice_get ys (k - length xs)
+pub get_right : {A : Type 0} (xs ys : List A) (k : ℕ) → length xs ≤ k → slice_get (xs ++ ys) k ≡ slice_get ys (k - length xs)
 get_right [] ys k le = let e : k ≡ k - 0 = omega arith in ap (slice_get ys) e
 get_right (x ∷ xs) ys zero le = absurd (omega (arith, le))
 get_right (x ∷ xs) ys (suc k) le =
@@ -114,17 +114,23 @@ and_assoc : (a b c : Bool) → ((a && b) && c) ≡ (a && (b && c))
 and_assoc true b c = refl
 and_assoc false b c = refl
 
+kept_where : (w : Bool) (p : Hop → Bool) (hs : List Hop) → (w && list_all p (cond w hs [])) ≡ (w && list_all p hs)
+kept_where true p hs = refl
+kept_where false p hs = refl
+
 joins_mux : (w : World) (nodes : List NodeState) (m : ℕ) (x : MuxSpec) → slice_get w.board.muxes m ≡ Some x
     → ((h : Hop) → opens_at nodes h ≡ opens_hop w.chips h) → joins nodes (mux_place w.board w.root x) ≡ joins_chip w m
 joins_mux w nodes m x is same =
-    ap (λ t. ((not x.absent && is_some x.addr) && (root_of w.board x.bus == w.root)) && t)
+    kept_where ((not x.absent && is_some x.addr) && (root_of w.board x.bus == w.root)) (opens_at nodes) (hops w.board x.bus)
+    ∙ ap (λ t. ((not x.absent && is_some x.addr) && (root_of w.board x.bus == w.root)) && t)
     (all_same (opens_at nodes) (opens_hop w.chips) same (hops w.board x.bus))
     ∙ rw is (and_assoc (not x.absent && is_some x.addr) (root_of w.board x.bus == w.root) (list_all (opens_hop w.chips) (hops w.board x.bus)))
 
 joins_dev : (w : World) (nodes : List NodeState) (d : ℕ) (x : DeviceView) → slice_get w.board.devices d ≡ Some x
     → ((h : Hop) → opens_at nodes h ≡ opens_hop w.chips h) → joins nodes (device_place w.board w.root x) ≡ joins_device w d
 joins_dev w nodes d x is same =
-    ap (λ t. (root_of w.board x.bus == w.root) && t) (all_same (opens_at nodes) (opens_hop w.chips) same (hops w.board x.bus))
+    kept_where (root_of w.board x.bus == w.root) (opens_at nodes) (hops w.board x.bus)
+    ∙ ap (λ t. (root_of w.board x.bus == w.root) && t) (all_same (opens_at nodes) (opens_hop w.chips) same (hops w.board x.bus))
     ∙ rw is refl
 
 module _ (b : BoardView) (r : ℕ) (bs : List (Bit NodeState)) (is : map is_chip (states_on bs) ≡ kinds_of b) where

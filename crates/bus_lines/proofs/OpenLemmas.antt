@@ -1,6 +1,5 @@
 -- The targets of a root as its board is opened.
-use Rattle.std.proofs.Common.{◌≡◌, ℕ, suc, ◌+◌, Bool, true, false, cond, List, [], ◌∷◌, ◌++◌, length, map, refl, sym, ap, ◌∙◌, subst, arith}
-use Rattle.std.specs.Prelude.{◌&&◌, replicate}
+use Rattle.std.proofs.Common.{◌≡◌, ℕ, suc, Bool, false, List, [], ◌∷◌, ◌++◌, map, refl, sym, ap, ◌∙◌, subst, arith}
 use Rattle.i2c_base.specs.declared.board.MuxSpec.{MuxSpec}
 use Rattle.i2c_base.specs.Board.{BoardView, DeviceView}
 use Rattle.std.specs.List.{All, AllByRecursion}
@@ -9,33 +8,20 @@ use Rattle.i2c_spec.specs.Plain.{IsPlainBoard, IsPlainDevice}
 use Rattle.i2c_spec.specs.Targets.{TargetState, HoldsBytes}
 use Rattle.i2c_spec.specs.World.{opening_world}
 use Rattle.i2c_spec.proofs.StateLemmas.{opening-bytes}
-use Rattle.wire_spec.specs.declared.mode.Mode.{Mode}
 use Rattle.wire_spec.specs.declared.mode.Mode.TheVariants.{Out}
 use Rattle.wire_spec.specs.Wires.{Site, Bit}
-use Rattle.wire_spec.specs.Roots.{at, hearing}
-use Rattle.wire_spec.specs.Bus.{Counts, Bus, Mask, bus_of, rejoin_from, rejoined}
-use Rattle.wire_spec.specs.Calls.{free, joined_from, rejoin}
+use Rattle.wire_spec.specs.Roots.{at}
+use Rattle.wire_spec.specs.Bus.{Counts, Bus, bus_of, rejoined}
+use Rattle.wire_spec.specs.Calls.{free}
 use Rattle.wire_spec.specs.Sites.{NodeState, Device, site_with, both, chip_site, device_site, opened_chips, opened_devices, mask_of}
 use Rattle.wire_spec.specs.WorldLaws.{PartsOfBoth, OpenedSites}
 use Rattle.wire_spec.proofs.SiteLemmas.{rejoin_both}
 use Rattle.i2c_bits.specs.Wiring.{Rooted, Wire}
 use Rattle.bus_lines.specs.LinesViews.{TargetsView, LinesView, lines_of}
 use Rattle.i2c_bits.specs.Stands.{IsFree, chips_on, world_at}
-use Rattle.i2c_bits.proofs.Told.{On, on_lines, world_on, told_on, sites_map}
-use Rattle.bus_lines.specs.Joins.{is_chip, kinds_of, states_on}
+use Rattle.i2c_bits.proofs.Stops.{all_joined, rejoined_out}
+use Rattle.i2c_bits.proofs.Told.{On, on_lines, world_on, told_on}
 use Rattle.bus_lines.specs.Opens.{chip_bit, device_bit, bits_of, opened_targets}
-
-device_kinds : (ds : List DeviceView) → map is_chip (states_on (map device_bit ds)) ≡ replicate (length ds) false
-device_kinds [] = refl
-device_kinds (d ∷ ds) = ap (λ ks. false ∷ ks) (device_kinds ds)
-
-all_kinds : (ms : List MuxSpec) (ds : List DeviceView)
-    → map is_chip (states_on (map chip_bit ms ++ map device_bit ds)) ≡ replicate (length ms) true ++ replicate (length ds) false
-all_kinds [] ds = device_kinds ds
-all_kinds (m ∷ ms) ds = ap (λ ks. true ∷ ks) (all_kinds ms ds)
-
-pub opened_kinds : (b : BoardView) → map is_chip (states_on (bits_of b)) ≡ kinds_of b
-opened_kinds b = all_kinds b.muxes b.devices
 
 -- ---- the lines are free
 device_bits : (ds : List DeviceView) → map device_bit ds ≡ map (at Out) (map (site_with Device) (map device_site ds))
@@ -46,28 +32,6 @@ all_bits : (ms : List MuxSpec) (ds : List DeviceView)
     → (map chip_bit ms ++ map device_bit ds) ≡ map (at Out) (both (map chip_site ms) (map device_site ds))
 all_bits [] ds = device_bits ds
 all_bits (m ∷ ms) ds = ap (λ bs. chip_bit m ∷ bs) (all_bits ms ds)
-
-out_either : (a b : Bool) → cond {A = Mode} a Out Out ≡ cond {A = Mode} b Out Out
-out_either true true = refl
-out_either true false = refl
-out_either false true = refl
-out_either false false = refl
-
-rejoin_out : (f : ℕ → Bool) (n : ℕ) (ss : List (Site NodeState)) → rejoin_from f n (map (at Out) ss) ≡ map (at Out) (joined_from f n ss)
-rejoin_out f n [] = refl
-rejoin_out f n (s ∷ ss) =
-    ap (λ (m : Mode). record { site = record s { joined = f n; heard = false }; mode = m; hold = 0 } ∷ rejoin_from f (n + 1) (map (at Out) ss))
-    (out_either (hearing s) (f n && false))
-    ∙ ap (λ bs. at Out (record s { joined = f n; heard = false }) ∷ bs) (rejoin_out f (n + 1) ss)
-
-rejoined_out : (mask : Mask NodeState) (ss : List (Site NodeState)) → rejoined mask (map (at Out) ss) ≡ map (at Out) (rejoin mask ss)
-rejoined_out mask ss =
-    ap (λ xs. rejoin_from (mask xs) 0 (map (at Out) ss)) (sites_map Out ss) ∙ rejoin_out (mask ss) 0 ss
-
-all_joined : (f : ℕ → Bool) (n : ℕ) (ds : List (Site TargetState)) → AllByRecursion (λ (s : Site TargetState). HoldsBytes s.state) ds
-    → AllByRecursion (λ (s : Site TargetState). HoldsBytes s.state) (joined_from f n ds)
-all_joined f n [] all = tt
-all_joined f n (d ∷ ds) all = (all.0, all_joined f (n + 1) ds all.1)
 
 all_opened : (ds : List DeviceView) → All IsPlainDevice ds → AllByRecursion (λ (s : Site TargetState). HoldsBytes s.state) (map device_site ds)
 all_opened [] all = tt

@@ -1,5 +1,5 @@
 -- Who is joined to the wires, by the board's tree and the states of all targets, which stand by number, mux chips first.
-use Rattle.std.specs.Prelude.{ℕ, ◌==◌, Bool, true, false, not, ◌&&◌, List, ◌++◌, map, length, replicate, is_some, slice_get}
+use Rattle.std.specs.Prelude.{ℕ, ◌==◌, Bool, true, false, not, ◌&&◌, List, [], ◌++◌, cond, map, length, replicate, is_some, slice_get}
 use Rattle.std.specs.List.{list_all}
 use Rattle.std.specs.Option.{option_map_or}
 use Rattle.i2c_base.specs.declared.board.MuxSpec.{MuxSpec}
@@ -17,8 +17,12 @@ pub record PlaceView : Type 0 where
   -- the muxes over its bus, nearest first
   pub above : List Hop
 
+-- nothing is kept of the muxes over a target that isn't there
+abbrev pub placed : Bool → List Hop → PlaceView
+placed wired above = record { wired = wired; above = cond wired above [] }
+
 abbrev pub place_on : BoardView → ℕ → ℕ → Bool → PlaceView
-place_on b root bus there = record { wired = there && (root_of b bus == root); above = hops b bus }
+place_on b root bus there = placed (there && (root_of b bus == root)) (hops b bus)
 
 -- a mux has a chip on the wires where it is there and has an address
 abbrev pub mux_place : BoardView → ℕ → MuxSpec → PlaceView

@@ -1,13 +1,15 @@
 //! The two lines of a root with its targets on them.
-ghost use Rattle.std.specs.Prelude.{◌≡◌, false, true, cond, min, IfOk};
+ghost use Rattle.std.specs.Prelude.{◌≡◌, Bool, false, true, cond, min, IfOk};
 ghost use Rattle.ports.specs.Causes.{MOST};
 ghost use Rattle.i2c_spec.specs.World.{opening_world};
 ghost use Rattle.wire_spec.specs.Bus.{edge, each, rises, scl_level, sda_level};
 ghost use Rattle.wire_spec.specs.Wires.{tick};
 ghost use Rattle.wire_spec.specs.Sites.{node_table, mask_of};
 ghost use Rattle.i2c_bits.specs.Wiring.{AreLetGo};
+ghost use Rattle.bus_lines.specs.Aparts.{world_apart};
 ghost use Rattle.i2c_bits.specs.Stands.{IsFree, world_at};
 
+use crate::Apart;
 use crate::root_targets::RootTargets;
 use crate::wire_state::WireState;
 use i2c_base::{MuxId, NoMemory, SegId};
@@ -50,6 +52,13 @@ impl BusLines {
         })
     }
 
+    /// The targets, taken off the lines: the world that they are stays.
+    pub fn apart(self) -> Apart
+        ensures { (busy : Bool) → world_apart busy result ≡ world_at self.rooted busy self.bus }
+    {
+        self.targets.apart()
+    }
+
     /// How often SCL rose, up to 2^64 - 1.
     pub fn edges(&self) -> u64
         ensures { result ≡ min self.now.bus.counts.edges MOST }
@@ -65,6 +74,7 @@ impl BusLines {
     }
 
     /// The level of SCL: true is high.
+    #[inline(always)]
     fn clock_high(&self) -> bool
         ensures { result ≡ scl_level self.now.bus }
     {
@@ -72,6 +82,7 @@ impl BusLines {
     }
 
     /// The level of SDA: true is high.
+    #[inline(always)]
     fn data_high(&self) -> bool
         ensures { result ≡ sda_level node_table self.now.bus }
     {
@@ -79,6 +90,7 @@ impl BusLines {
     }
 
     /// The levels have changed, from these: the targets see it.
+    #[inline(always)]
     fn change(&mut self, clock_was: bool, data_was: bool)
         ensures { self.new ≡ record self.old { bus = edge node_table (mask_of self.old.rooted.board self.old.rooted.root) clock_was data_was self.old.bus } }
     {
@@ -98,6 +110,7 @@ impl BusLines {
     }
 
     /// SCL was looked at and was low: who holds it has a look less to go, and SCL rises where that was the last.
+    #[inline(never)]
     fn tick(&mut self)
         ensures { self.new ≡ record self.old { bus = cond (scl_level (each tick self.old.bus)) (rises node_table (each tick self.old.bus)) (each tick self.old.bus) } }
     {
@@ -118,6 +131,7 @@ impl Lines for BusLines {
 
     ghost bus = { λ l. l.bus };
 
+    #[inline(always)]
     fn pull(&mut self, scl: bool, sda: bool) {
         let clock_was = self.clock_high();
         let data_was = self.data_high();
@@ -125,6 +139,7 @@ impl Lines for BusLines {
         self.change(clock_was, data_was);
     }
 
+    #[inline(always)]
     fn look(&mut self) -> (bool, bool) {
         let clock = self.clock_high();
         let data = self.data_high();

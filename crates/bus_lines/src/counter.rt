@@ -39,6 +39,7 @@ impl Counter {
     }
 
     /// SCL has risen once more.
+    #[inline(always)]
     pub fn add_edge(&mut self)
         ensures { self.new ≡ one_edge self.old }
     {

@@ -1,5 +1,5 @@
 //! Who is joined to the wires after a stop.
-ghost use Rattle.std.specs.Prelude.{◌≡◌, length};
+ghost use Rattle.std.specs.Prelude.{◌≡◌};
 ghost use Rattle.wire_spec.specs.Roots.{some_one, pulls_line};
 ghost use Rattle.wire_spec.specs.Bus.{holds_line, rejoin_from};
 ghost use Rattle.wire_spec.specs.Sites.{node_table};

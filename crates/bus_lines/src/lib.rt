@@ -7,18 +7,30 @@
 //! of `wire_spec`, by UM10204, "I2C-bus specification and user manual", sections 3.1.1, 3.1.4 and 3.1.9; `specs/Joins.antt` is
 //! who is joined, by the places of the targets; `specs/LinesViews.antt` and `specs/Opens.antt` what is seen of the lines, and
 //! how they are opened; `specs/Tallies.antt` the two counts.
+//!
+//! An edge touches only those that aren't out of the message, whose numbers are kept, and a look touches nobody. While an
+//! address byte comes in, one register takes it in for all that is joined; at its last bit those at the address are called, by
+//! an index, and those that a message has reached since their last stop see another's start (`specs/Units.antt`). A stop
+//! touches these alone, and who is joined is read anew only where a byte waited for it in the chip of a mux, or where someone
+//! that a message had reached was no longer joined. Nothing is kept of another root's devices (`specs/Away.antt`).
 #![tactic(auto)]
 
+mod apart;
 mod bus_lines;
 mod counter;
 mod edges;
+mod index;
 mod joining;
+mod message;
 mod node;
+mod numbers;
 mod opening;
 mod place;
+mod register;
 mod root_targets;
 mod tally;
 mod wire_state;
 
+pub use apart::Apart;
 pub use bus_lines::BusLines;
 pub use node::Node;

@@ -1,12 +1,16 @@
 //! A mux chip or a device on the lines, as one type.
 ghost use Rattle.std.specs.Prelude.{◌≡◌};
+ghost use Rattle.i2c_spec.specs.Targets.{Silent};
 ghost use Rattle.wire_spec.specs.Sites as node;
 ghost use Rattle.i2c_bits.specs.Wiring.{node_level};
-ghost use Rattle.bus_lines.specs.Joins.{node_opens};
+ghost use Rattle.bus_lines.specs.Aparts.{device_of, emptied};
+ghost use Rattle.bus_lines.specs.Edges.{node_waits};
+ghost use Rattle.bus_lines.specs.Joins.{is_chip, node_opens};
 
 use i2c_base::{Answer, Event, Target};
 use std::marker::Model;
-use targets::DeviceState;
+use std::mem::replace;
+use targets::{DeviceState, silence};
 use tgt_bits::Wired;
 use tgt_mux::Chip;
 
@@ -14,10 +18,11 @@ use tgt_mux::Chip;
 #[derive(Drop)]
 enum Kind {
     Chip(Chip),
-    Device(DeviceState),
+    Device(Box<DeviceState>),
+    Away,
 }
 
-/// A mux chip or a device. A contract sees the state of either (`NodeState`).
+/// A mux chip or a device, which is boxed, since a chip is small. A contract sees the state of either (`NodeState`).
 #[derive(Drop)]
 pub struct Node {
     target: Kind,
@@ -27,12 +32,14 @@ impl Model for Node {
     ghost use Rattle.wire_spec.specs.Sites as node;
     ghost use Rattle.wire_spec.specs.Sites.{NodeState};
     ghost use Rattle.bus_lines.specs.declared.node.Kind.TheVariants as kind;
+    ghost use Rattle.i2c_spec.specs.Targets.{Silent};
 
     ghost Value = { NodeState };
 
     ghost view = { λ n. elim n.target [
       | kind.Chip x ↦ node.Chip x
-      | kind.Device x ↦ node.Device x
+      | kind.Device x ↦ node.Device x.value
+      | kind.Away ↦ node.Device Silent
     ] };
 }
 
@@ -47,12 +54,19 @@ impl Node {
     }
 
     /// A device.
-    pub fn of_device(device: DeviceState) -> Self
-        ensures { result ≡ node.Device device }
+    pub fn of_device(device: Box<DeviceState>) -> Self
+        ensures { result ≡ node.Device device.value }
     {
         Node {
             target: Kind::Device(device),
         }
+    }
+
+    /// A device that isn't there: it answers nothing.
+    pub fn away() -> Self
+        ensures { result ≡ node.Device Silent }
+    {
+        Node { target: Kind::Away }
     }
 
     /// Sets the line of a gpio mux, where it is one.
@@ -61,7 +75,42 @@ impl Node {
     {
         match &mut self.target {
             Kind::Chip(chip) => chip.set_level(level),
-            Kind::Device(_) => {}
+            Kind::Device(_) | Kind::Away => {}
+        }
+    }
+
+    /// It is the chip of a mux, where a byte waits for the stop.
+    pub fn waits(&self) -> bool
+        ensures { result ≡ node_waits self.now }
+    {
+        match &self.target {
+            Kind::Chip(chip) => chip.waits(),
+            Kind::Device(_) | Kind::Away => false,
+        }
+    }
+
+    /// It is the chip of a mux.
+    pub fn is_chip(&self) -> bool
+        ensures { result ≡ is_chip self.now }
+    {
+        match &self.target {
+            Kind::Chip(_) => true,
+            Kind::Device(_) | Kind::Away => false,
+        }
+    }
+
+    /// Takes out the device, where it is one.
+    pub fn take_device(&mut self) -> Option<DeviceState>
+        ensures taken { result ≡ device_of self.old }
+        ensures after { self.new ≡ emptied self.old }
+    {
+        match replace(&mut self.target, Kind::Away) {
+            Kind::Chip(chip) => {
+                self.target = Kind::Chip(chip);
+                None
+            }
+            Kind::Device(device) => Some(Box::into_inner(device)),
+            Kind::Away => Some(DeviceState::silent()),
         }
     }
 
@@ -71,7 +120,7 @@ impl Node {
     {
         match &self.target {
             Kind::Chip(chip) => chip.opens(channel),
-            Kind::Device(_) => false,
+            Kind::Device(_) | Kind::Away => false,
         }
     }
 }
@@ -85,6 +134,7 @@ impl Target for Node {
         match &mut self.target {
             Kind::Chip(chip) => chip.on(event),
             Kind::Device(device) => device.on(event),
+            Kind::Away => silence(event),
         }
     }
 }
@@ -100,13 +150,14 @@ impl Wired for Node {
         match &self.target {
             Kind::Chip(chip) => chip.sends(),
             Kind::Device(device) => device.sends(),
+            Kind::Away => 0xff,
         }
     }
 
     /// A mux chip never holds the clock.
     fn hold(&self) -> u8 {
         match &self.target {
-            Kind::Chip(_) => 0,
+            Kind::Chip(_) | Kind::Away => 0,
             Kind::Device(device) => device.hold(),
         }
     }

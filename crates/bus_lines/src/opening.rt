@@ -3,7 +3,11 @@ ghost use Rattle.std.specs.Prelude.{◌≡◌, ◌++◌, IfOk, OnOk, map};
 ghost use Rattle.i2c_spec.specs.Plain.{IsPlainBoard, IsPlainDevice};
 ghost use Rattle.i2c_board.specs.Layouts.{board_of};
 ghost use Rattle.bus_lines.specs.Joins.{mux_place, device_place};
-ghost use Rattle.bus_lines.specs.Opens.{chip_bit, device_bit};
+ghost use Rattle.std.specs.Prelude.{cond};
+ghost use Rattle.i2c_spec.specs.Targets.{Silent, opening_state};
+ghost use Rattle.wire_spec.specs.Sites.{Device};
+ghost use Rattle.bus_lines.specs.Away.{device_at, kept_device};
+ghost use Rattle.bus_lines.specs.Opens.{chip_bit};
 
 use crate::Node;
 use crate::place::Place;
@@ -28,13 +32,26 @@ fn open_chip(mux: &MuxSpec) -> BitTarget<Node>
     BitTarget::released(addr, false, Node::of_chip(Chip::open(mux)))
 }
 
-/// A device, which isn't joined yet.
-fn open_device(alloc: Global, device: &DeviceSpec) -> Result<BitTarget<Node>, NoMemory>
+/// A device, which isn't joined yet. Nothing is kept of one that isn't of the root.
+fn open_device(alloc: Global, device: &DeviceSpec, here: bool) -> Result<BitTarget<Node>, NoMemory>
     requires { IsPlainDevice device.now }
-    ensures { IfOk result (λ target. target ≡ device_bit device.now) }
+    ensures { IfOk result (λ target. target ≡ device_at here device.now) }
 {
-    let state = DeviceState::open(alloc, device)?;
-    Ok(BitTarget::released(device.addr.get(), false, Node::of_device(state)))
+    let node = open_node(alloc, device, here)?;
+    Ok(BitTarget::released(device.addr.get(), false, node))
+}
+
+/// Its state.
+fn open_node(alloc: Global, device: &DeviceSpec, here: bool) -> Result<Node, NoMemory>
+    requires { IsPlainDevice device.now }
+    ensures { IfOk result (λ node. node ≡ Device (cond here (opening_state device.now) Silent)) }
+{
+    if here {
+        let state = DeviceState::open(alloc, device)?;
+        Ok(Node::of_device(Box::new(alloc, state)?))
+    } else {
+        Ok(Node::away())
+    }
 }
 
 /// The chips of all muxes, behind these targets.
@@ -51,13 +68,15 @@ pub fn add_chips(layout: Layout<'_>, bits: &mut Vec<BitTarget<Node>>) -> Result<
 pub fn add_devices(
     alloc: Global,
     layout: Layout<'_>,
+    root: SegId,
     bits: &mut Vec<BitTarget<Node>>,
 ) -> Result<(), NoMemory>
     requires { IsPlainBoard (board_of layout) }
-    ensures { OnOk result (bits.new.items ≡ bits.old.items ++ map device_bit (board_of layout.entry).devices) }
+    ensures { OnOk result (bits.new.items ≡ bits.old.items ++ map (kept_device (board_of layout.entry) root) (board_of layout.entry).devices) }
 {
     for device in layout.devices {
-        bits.push(open_device(alloc, device)?)?;
+        let here = layout.root(device.bus) == root;
+        bits.push(open_device(alloc, device, here)?)?;
     }
     Ok(())
 }

@@ -1,8 +1,10 @@
 //! Where a target stands, and whether it is joined to the wires.
-ghost use Rattle.std.specs.Prelude.{◌≡◌, IfOk};
+ghost use Rattle.std.specs.Prelude.{◌≡◌, [], cond, IfOk};
+ghost use Rattle.i2c_spec.specs.Tree.{hops};
 ghost use Rattle.std.specs.List.{list_all};
 ghost use Rattle.i2c_board.specs.Layouts.{board_of};
 ghost use Rattle.i2c_spec.specs.Plain.{IsPlainBoard};
+ghost use Rattle.bus_lines.specs.Away.{is_wired};
 ghost use Rattle.bus_lines.specs.Joins.{place_on, joins, opens_at, states_on};
 
 use crate::Node;
@@ -17,7 +19,7 @@ use tgt_bits::BitTarget;
 pub struct Place {
     /// It is there, on a bus of that root.
     wired: bool,
-    /// The muxes over its bus, nearest first.
+    /// The muxes over its bus, nearest first, where it is there.
     above: Vec<Hop>,
 }
 
@@ -41,10 +43,16 @@ impl Place {
         requires { IsPlainBoard (board_of layout) }
         ensures { IfOk result (λ p. p ≡ place_on (board_of layout.entry) root bus there) }
     {
-        Ok(Place {
-            wired: there && layout.root(bus) == root,
-            above: layout.hops(bus).as_slice().to_vec(alloc)?,
-        })
+        let wired = there && layout.root(bus) == root;
+        let above = hops_of(alloc, layout, bus, wired)?;
+        Ok(Place { wired, above })
+    }
+
+    /// It is there, on a bus of the root.
+    pub fn is_wired(&self) -> bool
+        ensures { result ≡ self.now.wired }
+    {
+        self.wired
     }
 
     /// It is joined to the wires: every mux over its bus has the channel open that leads there.
@@ -52,6 +60,33 @@ impl Place {
         ensures { result ≡ joins (states_on targets.now) self.now }
     {
         self.wired && opens_all(targets, self.above.as_slice())
+    }
+}
+
+/// The muxes over this bus, nearest first, where the target is there: nothing is kept of another.
+fn hops_of(
+    alloc: Global,
+    layout: Layout<'_>,
+    bus: SegId,
+    wired: bool,
+) -> Result<Vec<Hop>, AllocError>
+    requires { IsPlainBoard (board_of layout) }
+    ensures { IfOk result (λ above. above.items ≡ cond wired (hops (board_of layout.entry) bus) []) }
+{
+    if wired {
+        layout.hops(bus).as_slice().to_vec(alloc)
+    } else {
+        Ok(Vec::new(alloc))
+    }
+}
+
+/// The target of this number is there, on a bus of the root.
+pub fn is_wired(places: &[Place], number: usize) -> bool
+    ensures { result ≡ is_wired places.now number }
+{
+    match places.get(number) {
+        Some(place) => place.is_wired(),
+        None => false,
     }
 }
 

@@ -6,15 +6,19 @@ ghost use Rattle.wire_spec.specs.Roots.{some_one, pulls_line, where_joined};
 ghost use Rattle.wire_spec.specs.Bus.{holds_line, one_edge, one_flip, rejoined};
 ghost use Rattle.wire_spec.specs.Sites.{node_table, mask_of};
 ghost use Rattle.i2c_bits.specs.Wiring.{levelled_bits};
-ghost use Rattle.bus_lines.specs.Edges.{seen};
+ghost use Rattle.bus_lines.specs.Aparts.{apart_of};
 ghost use Rattle.bus_lines.specs.Opens.{opened_targets};
 
-use crate::Node;
 use crate::counter::Counter;
 use crate::edges::{Edge, Pulls, tell};
+use crate::index::Index;
 use crate::joining::{rejoin, set_level};
+use crate::message::{call, leave, spread, stop};
+use crate::numbers::Numbers;
 use crate::opening::{add_chips, add_device_places, add_devices, add_mux_places};
 use crate::place::Place;
+use crate::register::Register;
+use crate::{Apart, Node};
 use i2c_base::{MuxId, NoMemory, SegId};
 use i2c_board::Accepted;
 use std::alloc::Global;
@@ -23,7 +27,7 @@ use std::snapshot::Snapshot;
 use tgt_bits::BitTarget;
 
 /// The targets of a root: a chip for each mux of the board, and then each of its devices, by number. Those of another root, and
-/// absent chips, are never joined. A contract sees them with the board and the root, and how often SCL rose and SDA changed
+/// absent chips, are never joined, and nothing is kept of another root's devices. A contract sees them with the board and the root, and how often SCL rose and SDA changed
 /// while it was high.
 #[derive(Drop)]
 pub struct RootTargets {
@@ -31,18 +35,29 @@ pub struct RootTargets {
     root: SegId,
     places: Vec<Place>,
     bits: Vec<BitTarget<Node>>,
+    /// Who is at each address.
+    at: Index,
+    /// What has come of an address byte: all that is joined has this of it, and stands as it does where none comes in.
+    address: Register,
+    /// All that aren't out of the message: no edge and no look is anything to another.
+    live: Numbers,
+    /// All that a message has reached since their last stop: another's start, and a stop, are nothing to others.
+    started: Numbers,
     pulls: Pulls,
     counter: Counter,
 }
 
 impl Model for RootTargets {
+    ghost use Rattle.std.specs.Prelude.{map};
     ghost use Rattle.bus_lines.specs.LinesViews.{TargetsView, AreTargets};
+    ghost use Rattle.bus_lines.specs.Away.{whole_on};
+    ghost use Rattle.bus_lines.specs.Units.{shared};
 
     ghost Value = { TargetsView };
 
-    ghost view = { λ t. record { rooted = record { board = t.board.value; root = t.root }; bits = t.bits.items; counts = t.counter } };
+    ghost view = { λ t. record { rooted = record { board = t.board.value; root = t.root }; bits = map (shared t.address.left t.address.value) (whole_on t.board.value t.places.items t.bits.items); counts = t.counter } };
 
-    ghost invariant = { λ t. AreTargets (record { board = t.board.value; root = t.root }) t.places.items t.pulls.clock t.pulls.data t.bits.items };
+    ghost invariant = { λ t. AreTargets (record { board = t.board.value; root = t.root }) t.places.items t.pulls.clock t.pulls.data t.address t.live t.started t.at t.bits.items };
 }
 
 impl RootTargets {
@@ -56,19 +71,41 @@ impl RootTargets {
         add_device_places(alloc, layout, root, &mut places)?;
         let mut bits = Vec::new(alloc);
         add_chips(layout, &mut bits)?;
-        add_devices(alloc, layout, &mut bits)?;
+        add_devices(alloc, layout, root, &mut bits)?;
+        let at = Index::of(alloc, bits.as_slice())?;
+        let live = Numbers::with_room(alloc, bits.len())?;
+        let started = Numbers::with_room(alloc, bits.len())?;
         let pulls = rejoin(&mut bits, places.as_slice());
         Ok(RootTargets {
             board: Snapshot::of(board),
             root,
             places,
             bits,
+            at,
+            address: Register::none(),
+            live,
+            started,
             pulls,
             counter: Counter::none(),
         })
     }
 
+    /// The targets, off the lines.
+    pub fn apart(self) -> Apart
+        ensures { result ≡ apart_of self.rooted self.bits }
+    {
+        let RootTargets {
+            board,
+            root,
+            places,
+            bits,
+            ..
+        } = self;
+        Apart::of(board, root, places, bits)
+    }
+
     /// Someone holds SCL low.
+    #[inline(always)]
     pub fn holds_clock(&self) -> bool
         ensures { result ≡ some_one holds_line self.now.bits }
     {
@@ -76,6 +113,7 @@ impl RootTargets {
     }
 
     /// Someone pulls SDA low.
+    #[inline(always)]
     pub fn pulls_data(&self) -> bool
         ensures { result ≡ some_one (pulls_line node_table) self.now.bits }
     {
@@ -96,33 +134,42 @@ impl RootTargets {
         self.counter.flips()
     }
 
-    /// Each target that is joined sees an edge.
-    fn tell(&mut self, edge: Edge)
-        ensures { self.new ≡ record self.old { bits = map (where_joined (seen edge)) self.old.bits } }
-    {
-        self.pulls = tell(&mut self.bits, edge);
-    }
-
     /// SCL rises, with SDA at this level.
+    #[inline(always)]
     pub fn rise(&mut self, level: bool)
         ensures { self.new ≡ record self.old { bits = map (where_joined (λ b. rise node_table b level)) self.old.bits; counts = one_edge self.old.counts } }
     {
         self.counter.add_edge();
-        self.tell(Edge::Rise(level));
+        if !self.address.is_coming() {
+            self.pulls = tell(&mut self.bits, self.live.as_slice(), Edge::Rise(level));
+        } else if let Some(byte) = self.address.take(level) {
+            call(
+                &mut self.bits,
+                &self.at,
+                &mut self.live,
+                &mut self.started,
+                byte,
+            );
+        }
     }
 
     /// SCL falls.
+    #[inline(always)]
     pub fn fall(&mut self)
         ensures { self.new ≡ record self.old { bits = map (where_joined fall) self.old.bits } }
     {
-        self.tell(Edge::Fall);
+        if !self.address.is_coming() {
+            self.pulls = tell(&mut self.bits, self.live.as_slice(), Edge::Fall);
+        }
     }
 
     /// SCL was looked at and was low.
     pub fn tick(&mut self)
         ensures { self.new ≡ record self.old { bits = map (where_joined tick) self.old.bits } }
     {
-        self.tell(Edge::Tick);
+        if !self.address.is_coming() {
+            self.pulls = tell(&mut self.bits, self.live.as_slice(), Edge::Tick);
+        }
     }
 
     /// A start: SDA falls while SCL is high.
@@ -130,29 +177,34 @@ impl RootTargets {
         ensures { self.new ≡ record self.old { bits = map (where_joined begin) self.old.bits; counts = one_flip self.old.counts } }
     {
         self.counter.add_flip();
-        self.tell(Edge::Begin);
+        leave(&mut self.bits, &mut self.live);
+        self.address = Register::whole();
+        self.pulls = Pulls::none();
     }
 
-    /// A stop: SDA rises while SCL is high, and who is joined is read anew.
+    /// A stop: SDA rises while SCL is high, and who is joined is read anew where that may have changed.
     pub fn finish(&mut self)
         ensures { self.new ≡ record self.old { bits = rejoined (mask_of self.old.rooted.board self.old.rooted.root) (map (where_joined (finish node_table)) self.old.bits); counts = one_flip self.old.counts } }
     {
         self.counter.add_flip();
-        self.tell(Edge::Finish);
-        self.rejoin();
-    }
-
-    /// Who is joined is read anew from the states of all targets.
-    fn rejoin(&mut self)
-        ensures { self.new ≡ record self.old { bits = rejoined (mask_of self.old.rooted.board self.old.rooted.root) self.old.bits } }
-    {
-        self.pulls = rejoin(&mut self.bits, self.places.as_slice());
+        self.address = Register::none();
+        if stop(&mut self.bits, &mut self.live, &mut self.started) {
+            self.pulls = rejoin(&mut self.bits, self.places.as_slice());
+        } else {
+            self.pulls = Pulls::none();
+        }
     }
 
     /// The line of a gpio mux is set, and who is joined is read anew.
     pub fn set_line(&mut self, mux: MuxId, level: u8)
         ensures { self.new ≡ record self.old { bits = rejoined (mask_of self.old.rooted.board self.old.rooted.root) (levelled_bits mux level self.old.bits) } }
     {
+        spread(
+            &mut self.bits,
+            &mut self.live,
+            &mut self.started,
+            &mut self.address,
+        );
         set_level(&mut self.bits, mux, level);
         self.pulls = rejoin(&mut self.bits, self.places.as_slice());
     }

@@ -44,6 +44,7 @@ impl WireState {
     }
 
     /// The controller pulls SCL.
+    #[inline(always)]
     pub fn pulls_clock(&self) -> bool
         ensures { result ≡ self.now.scl }
     {
@@ -51,6 +52,7 @@ impl WireState {
     }
 
     /// The controller pulls SDA.
+    #[inline(always)]
     pub fn pulls_data(&self) -> bool
         ensures { result ≡ self.now.sda }
     {
@@ -58,6 +60,7 @@ impl WireState {
     }
 
     /// The controller pulls each line, or lets it go.
+    #[inline(always)]
     pub fn pull(&mut self, scl: bool, sda: bool)
         ensures { self.new ≡ wire_pulled self.old scl sda }
     {
@@ -70,6 +73,7 @@ impl WireState {
     }
 
     /// The controller has looked at the lines, which had these levels.
+    #[inline(always)]
     pub fn look(&mut self, scl_high: bool, sda_high: bool)
         ensures { self.new ≡ wire_looked self.old scl_high sda_high }
     {

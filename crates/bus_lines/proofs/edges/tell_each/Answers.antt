@@ -1,33 +1,71 @@
-use Rattle.std.proofs.Common.{◌≡◌, ◌-◌, ◌<◌, ◌||◌, suc, length, length-set, ap, ◌∙◌, arith}
+use Rattle.std.proofs.Common.{length-set, get_or, sym, refl, ap, ◌∙◌, arith}
 use Rattle.wire_spec.specs.Roots.{pulls_line, where_joined}
 use Rattle.wire_spec.specs.Bus.{holds_line}
 use Rattle.wire_spec.specs.Sites.{node_table}
 use Rattle.bus_lines.specs.Edges.{seen}
-use Rattle.bus_lines.proofs.BackLemmas.{first_all, first_back, some_back, some_none}
+use Rattle.bus_lines.specs.Units.{some_by, of_those}
+use Rattle.bus_lines.proofs.NumberedLemmas.{told, told_some, told_each, told_some_each, told_next, some_next, among_at, drop_all}
 use Rattle.bus_lines.proofs.edges.tell_each.Goals as goal
 
-pub loop-left-init : goal.loop-left-init
-loop-left-init c =
+pub prove-unreachable-requires : goal.prove-unreachable-requires
+prove-unreachable-requires c =
+    let ns = c.args.numbers.now in
+    let i = c.loop-number.number-index in
+    let low = c.requires.below (get_or ns i 0) (among_at ns i c.loop-number-test.true) in
+    absurd (omega (arith, low, c.from-number.ensures, c.if-prove.true, c.loop-number.invariant.count))
+
+pub loop-number-init : goal.loop-number-init
+loop-number-init c =
+    let f = where_joined (seen c.args.edge) in
     record {
-      few = omega arith;
-      targets = first_all (where_joined (seen c.args.edge)) c.args.targets.now;
-      clock = some_none holds_line c.args.targets.now;
-      data_low = some_none (pulls_line node_table) c.args.targets.now;
+      count = refl;
+      targets = refl;
+      clock = ap (λ b. told_some f holds_line b c.args.numbers.now c.args.targets.now) c.none-pulls.ensures.clock;
+      data_low = ap (λ b. told_some f (pulls_line node_table) b c.args.numbers.now c.args.targets.now) c.none-pulls.ensures.data;
     }
 
-pub loop-left-preserved : goal.loop-left-preserved
-loop-left-preserved c =
-    let left = c.loop-left.left in
-    let now = c.loop-left.targets in
-    let i = c.loop-left.invariant in
-    let next : left ≡ suc (left - 1) = omega arith in
-    let lt : left - 1 < length now = omega arith in
-    let at = c.index-targets-left.result in
+pub loop-number-preserved : goal.loop-number-preserved
+loop-number-preserved c =
+    let f = where_joined (seen c.args.edge) in
+    let ns = c.args.numbers.now in
+    let i = c.loop-number.number-index in
+    let n = c.from-number.result in
+    let now = c.loop-number.targets in
+    let lt = c.loop-number-test.true in
+    let was = c.loop-number.invariant in
+    let at = c.index-targets-number.result in
+    let new = c.see.new.target in
+    let low = c.if-prove.false in
     record {
-      few = omega (arith, i.few, length-set now (left - 1) c.see.new.target);
-      targets = first_back (where_joined (seen c.args.edge)) left (left - 1) now at c.see.new.target next lt c.see.ensures ∙ i.targets;
-      clock = c.pulls_with-pulls.ensures.clock ∙ ap (λ b. holds_line c.see.new.target || b) i.clock
-          ∙ some_back holds_line left (left - 1) now c.see.new.target next lt;
-      data_low = c.pulls_with-pulls.ensures.data ∙ ap (λ b. pulls_line node_table c.see.new.target || b) i.data_low
-          ∙ some_back (pulls_line node_table) left (left - 1) now c.see.new.target next lt;
+      count = length-set now n new ∙ was.count;
+      targets = told_next f ns i n lt c.from-number.ensures now at new low c.see.ensures ∙ was.targets;
+      clock = some_next f ns i n lt c.from-number.ensures now at new low c.see.ensures holds_line c.loop-number.pulls.clock
+          c.pulls_with-pulls.result.clock c.pulls_with-pulls.ensures.clock ∙ was.clock;
+      data_low = some_next f ns i n lt c.from-number.ensures now at new low c.see.ensures (pulls_line node_table) c.loop-number.pulls.data
+          c.pulls_with-pulls.result.data c.pulls_with-pulls.ensures.data ∙ was.data_low;
     }
+
+pub returns-clause-targets : goal.returns-clause-targets
+returns-clause-targets c =
+    let f = where_joined (seen c.args.edge) in
+    let ns = c.args.numbers.now in
+    let over = drop_all ns c.loop-number.number-index c.loop-number-test.false in
+    sym (ap (λ ms. told f ms c.loop-number.targets) over) ∙ c.loop-number.invariant.targets ∙ told_each f ns c.args.targets.now c.requires.apart
+
+pub returns-clause-clock : goal.returns-clause-clock
+returns-clause-clock c =
+    let f = where_joined (seen c.args.edge) in
+    let ns = c.args.numbers.now in
+    let over = drop_all ns c.loop-number.number-index c.loop-number-test.false in
+    sym (ap (λ ms. told_some f holds_line c.loop-number.pulls.clock ms c.loop-number.targets) over) ∙ c.loop-number.invariant.clock
+    ∙ told_some_each f holds_line ns c.args.targets.now c.requires.apart
+    ∙ ap (some_by (of_those ns holds_line) 0) (sym (returns-clause-targets c))
+
+pub returns-clause-data : goal.returns-clause-data
+returns-clause-data c =
+    let f = where_joined (seen c.args.edge) in
+    let ns = c.args.numbers.now in
+    let over = drop_all ns c.loop-number.number-index c.loop-number-test.false in
+    sym (ap (λ ms. told_some f (pulls_line node_table) c.loop-number.pulls.data ms c.loop-number.targets) over) ∙ c.loop-number.invariant.data_low
+    ∙ told_some_each f (pulls_line node_table) ns c.args.targets.now c.requires.apart
+    ∙ ap (some_by (of_those ns (pulls_line node_table)) 0) (sym (returns-clause-targets c))

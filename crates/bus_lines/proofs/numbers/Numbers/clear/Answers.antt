@@ -1,0 +1,9 @@
+use Rattle.bus_lines.proofs.NumbersLemmas.{no_numbers}
+use Rattle.std.proofs.Common.{vec_capacity}
+use Rattle.bus_lines.proofs.numbers.Numbers.clear.Goals as goal
+
+pub invariant_of-self : goal.invariant_of-self
+invariant_of-self c = (
+  no_numbers (vec_capacity c.clear.new.self) c.clear.new.self.items c.clear.ensures.items,
+  rw c.clear.ensures.capacity c.self.invariant.1,
+)
