@@ -20,7 +20,8 @@ use Rattle.i2c_spec.proofs.StateLemmas.{states_fair}
 use Rattle.i2c_physics.specs.Heard.{numbers_of, nodes_of}
 use Rattle.i2c_physics.specs.Places.{PlaceView, mux_place, device_place, event_if}
 use Rattle.i2c_physics.specs.Reach.{is_among, AreRising, to_those, joins_at, has_at, addressed, others, union_of}
-use Rattle.i2c_physics.specs.SimWorlds.{is_own, seen_on, IsSimWorld}
+use Rattle.bus_lines.specs.Owned.{is_own}
+use Rattle.i2c_physics.specs.SimWorlds.{seen_on, IsSimWorld}
 use Rattle.i2c_physics.specs.Answering.{wired_and_of, start_answer}
 use Rattle.i2c_physics.specs.declared.wired_and.WiredAnd.{WiredAnd}
 use Rattle.i2c_physics.specs.declared.reach.Reach.{Reach}

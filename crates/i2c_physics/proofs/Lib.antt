@@ -14,3 +14,4 @@ pub mod WiredAndLemmas
 pub mod WorldLemmas
 pub mod TakeLemmas
 pub mod SendLemmas
+pub mod WireLemmas

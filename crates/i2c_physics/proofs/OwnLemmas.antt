@@ -13,7 +13,8 @@ use Rattle.i2c_spec.specs.Targets.{TargetState, Silent, IsQuiet, state_table, op
 use Rattle.i2c_spec.specs.World.{answers, answer_with, feed, given}
 use Rattle.i2c_physics.specs.Places.{PlaceView, device_place, joins}
 use Rattle.i2c_physics.specs.Reach.{is_among, joins_at, wired_at}
-use Rattle.i2c_physics.specs.SimWorlds.{is_of, is_own, opened_on, seen_on}
+use Rattle.bus_lines.specs.Owned.{is_of, is_own}
+use Rattle.i2c_physics.specs.SimWorlds.{opened_on, seen_on}
 
 -- device k of these is of the root
 abbrev own_in : BoardView → ℕ → List DeviceView → ℕ → Bool

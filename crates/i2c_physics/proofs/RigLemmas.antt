@@ -14,8 +14,8 @@ use Rattle.i2c_spec.specs.Tree.{buses, of_device, root_of}
 use Rattle.i2c_spec.specs.Targets.{TargetState, Silent}
 use Rattle.i2c_spec.specs.World.{World, AreWorldsOf, device_in, devices_of}
 use Rattle.i2c_spec.proofs.TreeLemmas.{tree_root_is}
-use Rattle.i2c_physics.specs.SimRigs.{device_of, owns, state_at, states_from, IsThere}
-use Rattle.i2c_physics.specs.SimWorlds.{is_own}
+use Rattle.bus_lines.specs.Owned.{is_own, owns}
+use Rattle.i2c_physics.specs.SimRigs.{device_of, state_at, states_from, IsThere}
 use Rattle.i2c_physics.proofs.WiredAndLemmas.{same_number}
 
 -- these devices are those of the board from number k on

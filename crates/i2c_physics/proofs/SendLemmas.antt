@@ -2,6 +2,8 @@
 use denote.Param.Send.{IsSend, IsSync, sendable}
 use Rattle.std.proofs.Crossing.{crosses}
 use Rattle.i2c_board.proofs.SendLemmas.{hop-send}
+use Rattle.i2c_bits.proofs.SendLemmas.{port-send as bit_port-send}
+use Rattle.bus_lines.proofs.SendLemmas.{lines-send}
 use Rattle.targets.proofs.SendLemmas.{device-send}
 use Rattle.i2c_physics.specs.contracts.numbers.Numbers as Numbers
 use Rattle.i2c_physics.specs.contracts.place.Place as Place
@@ -13,6 +15,7 @@ use Rattle.i2c_physics.specs.contracts.sim_port.SimPort as SimPort
 use Rattle.i2c_physics.specs.contracts.fail_port.FailPort as FailPort
 use Rattle.i2c_physics.specs.contracts.words.Words as Words
 use Rattle.i2c_physics.specs.contracts.hold_port.HoldPort as HoldPort
+use Rattle.i2c_physics.specs.contracts.wire_port.WirePort as WirePort
 
 place-send : IsSend (Place.the_field).row
 place-send = search (crosses, sendable, hop-send) depth 20
@@ -46,3 +49,6 @@ words-sync = search (crosses, sendable) depth 20
 
 pub hold_port-send : IsSend (HoldPort.the_field).row
 hold_port-send = search (crosses, sendable, port-send, words-send, words-sync) depth 20
+
+pub wire_port-send : IsSend (WirePort.the_field).row
+wire_port-send = search (crosses, sendable, bit_port-send, lines-send) depth 20

@@ -3,7 +3,8 @@ use Rattle.std.proofs.Common.{◌≡◌, ℕ, zero, suc, ◌+◌, ◌<◌, ◌�
 use Rattle.std.specs.Prelude.{IsSome, if◌then◌else◌, slice_get, option_to_list, unwrap_or}
 use Rattle.i2c_spec.specs.Targets.{TargetState, Silent}
 use Rattle.i2c_spec.specs.World.{World}
-use Rattle.i2c_physics.specs.SimRigs.{own_device, owns, state_at, states_from, taken_out, without, IsThere}
+use Rattle.bus_lines.specs.Owned.{own_device, owns, without}
+use Rattle.i2c_physics.specs.SimRigs.{state_at, states_from, taken_out, IsThere}
 use Rattle.i2c_physics.specs.SimWorlds.{seen_on}
 use Rattle.i2c_physics.proofs.OwnLemmas.{seen-get, seen-set}
 use Rattle.i2c_base.proofs.ListLemmas.{set_elsewhere}

@@ -7,4 +7,5 @@ pub mod SimWorlds
 pub mod SimPorts
 pub mod FailPorts
 pub mod SimRigs
+pub mod BitRigs
 pub use Rattle.i2c_spec.specs.World

@@ -1,20 +1,13 @@
 -- What the rig keeps of the ports that are given back.
-use Rattle.std.specs.Prelude.{◌≡◌, ℕ, zero, suc, ◌+◌, ◌≤◌, Bool, true, List, [], ◌∷◌, ◌++◌, length, map, Option, Some, None, IsSome, slice_get, slice_set, option_to_list, replicate, if◌then◌else◌}
+use Rattle.std.specs.Prelude.{◌≡◌, ℕ, zero, suc, ◌+◌, ◌≤◌, true, List, [], ◌∷◌, ◌++◌, length, map, Option, Some, None, IsSome, slice_get, option_to_list, replicate}
 use Rattle.i2c_base.specs.declared.port.PortCall.{PortCall}
 use Rattle.i2c_base.specs.Board.{BoardView}
 use Rattle.i2c_spec.specs.Plain.{IsPlainBoard}
 use Rattle.i2c_spec.specs.Tree.{root_of}
-use Rattle.i2c_spec.specs.Targets.{TargetState, Silent}
+use Rattle.i2c_spec.specs.Targets.{TargetState}
 use Rattle.i2c_spec.specs.World.{World}
-use Rattle.i2c_physics.specs.SimWorlds.{is_own}
+use Rattle.bus_lines.specs.Owned.{own_device, owns, without}
 use Rattle.i2c_physics.specs.declared.unplug.Unplugged.{Unplugged}
-
--- device k is of the world's root; the device, where it is
-abbrev pub owns : World → ℕ → Bool
-owns w k = is_own w.board w.root k
-
-abbrev pub own_device : World → ℕ → Option TargetState
-own_device w k = if owns w k then slice_get w.devices k else None
 
 -- device k as the world of its root has it, where there is such a world and it has the device
 abbrev pub device_of : Option World → ℕ → Option TargetState
@@ -28,10 +21,6 @@ state_at ws home k = device_of (slice_get ws home) k
 abbrev pub states_from : ℕ → List ℕ → List World → List TargetState
 states_from k [] ws = []
 states_from k (home ∷ homes) ws = option_to_list (state_at ws home k) ++ states_from (k + 1) homes ws
-
--- a world once device k was taken out of it: one of another root stays
-abbrev pub without : World → ℕ → World
-without w k = record w { devices = if owns w k then slice_set w.devices k Silent else w.devices }
 
 -- these worlds once device k was taken out of that of this root, where there is such a world
 abbrev pub taken_out : List World → ℕ → ℕ → List World

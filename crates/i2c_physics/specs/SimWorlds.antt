@@ -1,22 +1,14 @@
 -- The world of a root as the program has it: the targets by their numbers, and the place of each. Only the devices of
 -- the root itself are held there: no message comes to another's, which is as it was opened.
-use Rattle.std.specs.Prelude.{◌≡◌, ℕ, ◌==◌, Bool, true, false, List, [], ◌∷◌, map, length, slice_get, if◌then◌else◌}
-use Rattle.std.specs.Option.{option_map_or}
+use Rattle.std.specs.Prelude.{◌≡◌, ℕ, true, List, [], ◌∷◌, map, length, if◌then◌else◌}
 use Rattle.i2c_base.specs.Board.{BoardView, DeviceView}
 use Rattle.i2c_spec.specs.Plain.{IsPlainBoard}
-use Rattle.i2c_spec.specs.Tree.{root_of}
 use Rattle.i2c_spec.specs.Chips.{ChipView, chip_table}
 use Rattle.i2c_spec.specs.Targets.{TargetState, Silent, state_table, opening_state}
+use Rattle.bus_lines.specs.Owned.{is_of, is_own}
 use Rattle.i2c_physics.specs.Places.{PlaceView, mux_place, device_place}
 use Rattle.i2c_physics.specs.Reach.{is_among, IsReach}
 use Rattle.i2c_physics.specs.declared.reach.Reach.{Reach}
-
--- a device, and device number k, is of this root where its bus hangs from it
-abbrev pub is_of : BoardView → ℕ → DeviceView → Bool
-is_of b root d = root_of b d.bus == root
-
-abbrev pub is_own : BoardView → ℕ → ℕ → Bool
-is_own b root k = option_map_or (is_of b root) (slice_get b.devices k) false
 
 -- what the world of a root holds of a device at the opening: nothing of one of another root
 abbrev pub opened_on : BoardView → ℕ → DeviceView → TargetState

@@ -6,7 +6,7 @@ ghost use Rattle.i2c_board.specs.Layouts.{board_of};
 ghost use Rattle.i2c_spec.specs.Plain.{IsPlainBoard, IsPlainDevice};
 ghost use Rattle.i2c_spec.specs.World as world;
 ghost use Rattle.i2c_physics.specs.Answering.{chips_say, devices_say};
-ghost use Rattle.i2c_physics.specs.SimRigs.{own_device, owns, without};
+ghost use Rattle.bus_lines.specs.Owned.{own_device, owns, without};
 ghost use Rattle.i2c_physics.specs.SimWorlds.{opened_on};
 
 use crate::device_slot::DeviceSlot;

@@ -3,7 +3,8 @@ ghost use Rattle.std.specs.Prelude.{◌≡◌, ◌<◌, ◌≤◌, ◌+◌, ◌+
 ghost use Rattle.i2c_base.specs.Board.{BoardView};
 ghost use Rattle.i2c_spec.specs.World.{World, AreWorldsOf, devices_of};
 ghost use Rattle.i2c_physics.specs.SimPorts.{PortView};
-ghost use Rattle.i2c_physics.specs.SimRigs.{own_device, owns, state_at, states_from, taken_out, without, IsThere};
+ghost use Rattle.bus_lines.specs.Owned.{own_device, owns, without};
+ghost use Rattle.i2c_physics.specs.SimRigs.{state_at, states_from, taken_out, IsThere};
 ghost use Rattle.i2c_board.specs.Layouts.{board_of};
 ghost use Rattle.i2c_spec.specs.Plain.{IsPlainBoard};
 ghost use Rattle.i2c_spec.specs.Tree.{root_of};

@@ -3,7 +3,8 @@ use Rattle.std.specs.Prelude.{IsSome, slice_get}
 use Rattle.std.proofs.Math.Seq.{map-set_same}
 use Rattle.std.proofs.lemmas.List.{length-map}
 use Rattle.std.proofs.lemmas.Option.{slice_get_past}
-use Rattle.i2c_physics.specs.SimRigs.{device_of, own_device, state_at, taken_out, without}
+use Rattle.bus_lines.specs.Owned.{own_device, without}
+use Rattle.i2c_physics.specs.SimRigs.{device_of, state_at, taken_out}
 use Rattle.i2c_physics.proofs.TakeLemmas.{none-taken, one-taken, at-home, is-home}
 use Rattle.i2c_physics.proofs.unplug.take_from.Goals as goal
 

@@ -5,8 +5,7 @@ use Rattle.i2c_spec.specs.World.{World}
 use Rattle.i2c_spec.specs.Targets.{Silent, state_table}
 use Rattle.i2c_physics.proofs.LineLemmas.{quiet-in-place}
 use Rattle.i2c_physics.specs.Reach.{wired_at}
-use Rattle.i2c_physics.specs.SimRigs.{own_device, owns, without}
-use Rattle.i2c_physics.specs.SimWorlds.{is_own}
+use Rattle.bus_lines.specs.Owned.{is_own, own_device, owns, without}
 use Rattle.i2c_physics.proofs.FeedLemmas.{world_of}
 use Rattle.i2c_physics.proofs.OwnLemmas.{wired-own, own-low}
 use Rattle.i2c_physics.proofs.TakeLemmas.{own-is, without-is}
