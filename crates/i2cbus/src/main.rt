@@ -1,78 +1,13 @@
 //! `i2cbus`: a user-space I2C and SMBus subsystem over simulated boards.
 //!
-//! It hands the real files, the standard output and a rig to `top`, and ends with the status's number.
+//! It hands the real files, the standard output and a rig to `top`, and ends with the status's number. The rig is `BitRig`:
+//! its ports drive the two wires of each root, bit by bit.
 #![tactic(auto)]
 
-ghost use Rattle.std.specs.Prelude.{◌≡◌, ℕ, List, Some, map, string_bytes, IfOk, IsTrue, OnErr};
-ghost use Rattle.i2c_gen.specs.declared.plan.Plan.{Plan};
-ghost use Rattle.i2c_top.specs.forms.{Replay, Check, Generate, request_in, HasEnded};
-ghost use Rattle.i2c_top.specs.forms.Checks.{HasChecked};
-ghost use Rattle.i2c_top.specs.forms.Generations.{HasGenerated};
-ghost use Rattle.i2c_top.specs.forms.Replays.{Names, HasReplayed};
-ghost use Rattle.i2c_top.specs.declared.status.Status.TheVariants as status;
-ghost use Rattle.i2c_top.specs.Traces.{outside, rig_view};
-ghost use Rattle.i2cbus.specs.Starts.{HasCalled};
-
-mod words;
-
-use i2c_outside::{FileShelf, OpenGate, Rig, Shelf, Sink, StdoutSink};
-use i2c_physics::SimRig;
-use i2c_top::{Status, top};
-use std::alloc::{AllocError, Global};
-use std::env::Env;
+use i2c_physics::BitRig;
 use std::process::ExitCode;
-use std::rt::Files;
-use std::sync::Wait;
-use std::thread::Threads;
-use words::words_of;
-
-// Does what the words say, over whatever shelf, output and rig: the status is that of `top`, and so is
-// what a success wrote.
-fn run<H: Threads + Wait + Sync, S: Shelf, K: Sink, R: Rig>(
-    rt: &H,
-    alloc: Global,
-    words: &[String],
-    shelf: &mut S,
-    sink: &mut K,
-    rig: &mut R,
-) -> Status
-    requires { S.words shelf.old ≡ map string_bytes words.now }
-    ensures ended { HasEnded (request_in (map string_bytes words.now))
-        (outside S.Shelf K.Sink R.Rig R.P.tells shelf.old sink.old rig.old) (outside S.Shelf K.Sink R.Rig R.P.tells shelf.new sink.new rig.new) result }
-    ensures called { HasCalled (rig_view R.Rig R.P.tells rig.old) (rig_view R.Rig R.P.tells rig.new) result }
-    ensures success { IsTrue S.tells → IsTrue K.tells → IsTrue R.tells → IsTrue R.P.tells
-        → (names : Names) → request_in (map string_bytes words.now) ≡ Some (Replay names) → result ≡ status.Ok
-        → HasReplayed (S.file shelf.old) names (K.bytes sink.old) (K.bytes sink.new) (R.logs rig.new) (R.states rig.new) (R.port_faults rig.new) }
-    ensures checked { IsTrue S.tells → IsTrue K.tells
-        → (board : List ℕ) → request_in (map string_bytes words.now) ≡ Some (Check board) → result ≡ status.Ok
-        → HasChecked (S.file shelf.old) board (K.bytes sink.old) (K.bytes sink.new) }
-    ensures generated { IsTrue K.tells → IsTrue R.tells → IsTrue R.P.tells
-        → (plan : Plan) → request_in (map string_bytes words.now) ≡ Some (Generate plan) → result ≡ status.Ok
-        → HasGenerated plan (K.bytes sink.old) (K.bytes sink.new) (R.logs rig.new) (R.states rig.new) (R.port_faults rig.new) }
-{
-    top(rt, alloc, words, shelf, sink, rig, &OpenGate)
-}
-
-// Reads the words and does what they say, over the real files and output: the status is that of `run`. `Err` is want of memory
-// for the words.
-fn start<E: Env + Files + Print + AllocGlobal + Threads + Wait + Sync, R: Rig>(
-    rt: &E,
-    rig: &mut R,
-) -> Result<Status, AllocError>
-    ensures called { IfOk result (HasCalled (rig_view R.Rig R.P.tells rig.old) (rig_view R.Rig R.P.tells rig.new)) }
-    ensures idle { OnErr result (rig.new ≡ rig.old) }
-{
-    let alloc = rt.alloc();
-    let words = words_of(rt, alloc)?;
-    let mut shelf = FileShelf::new(rt, words.as_slice());
-    let mut sink = StdoutSink::new(rt);
-    Ok(run(rt, alloc, words.as_slice(), &mut shelf, &mut sink, rig))
-}
 
 fn main(rt: HostRuntime) -> ExitCode {
-    let status = match start(&rt, &mut SimRig::new()) {
-        Ok(status) => status,
-        Err(AllocError) => Status::Memory,
-    };
+    let status = i2c_command::call(&rt, &mut BitRig::new());
     ExitCode::from(status.code())
 }

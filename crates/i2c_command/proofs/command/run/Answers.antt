@@ -2,7 +2,7 @@
 use Rattle.std.proofs.Common.{ℕ, List, sym, subst}
 use Rattle.i2c_top.specs.forms.{request_in, HasEnded}
 use Rattle.i2c_top.specs.Traces.{outside}
-use Rattle.i2cbus.proofs.run.Goals as goal
+use Rattle.i2c_command.proofs.command.run.Goals as goal
 
 pub returns : goal.returns
 returns g c =

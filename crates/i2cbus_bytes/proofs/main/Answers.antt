@@ -1,0 +1,7 @@
+use denote.Param.Send.{sendable}
+use Rattle.i2c_physics.proofs.SendLemmas.{port-send}
+use Rattle.i2cbus_bytes.proofs.main.Goals as goal
+
+-- a port may go to another thread, with all that it holds
+pub call-status-requires-send-R-P : goal.call-status-requires-send-R-P
+call-status-requires-send-R-P g c κs = search (sendable, port-send)
