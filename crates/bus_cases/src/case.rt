@@ -81,6 +81,11 @@ impl Case {
         }
     }
 
+    /// No call on a port fails, and no plug.
+    pub fn has_sound_ports(&self) -> bool {
+        self.fails.is_empty() && !self.is_stuck
+    }
+
     fn set_room(&mut self, value: &str) -> Option<()> {
         self.room = value.parse().ok()?;
         Some(())

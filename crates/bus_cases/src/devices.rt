@@ -33,8 +33,8 @@ fn same_bytes(one: &mut DeviceState, other: &mut DeviceState) -> bool {
     true
 }
 
-/// Both answer alike to a start that reads, to a get for each byte, and to a stop.
-pub fn same_device(alloc: Global, one: &DeviceState, other: &DeviceState) -> bool {
+// Both answer alike to a start that reads, to a get for each byte, and to a stop.
+fn same_device(alloc: Global, one: &DeviceState, other: &DeviceState) -> bool {
     match (one.copied(alloc), other.copied(alloc)) {
         (Ok(mut one), Ok(mut other)) => {
             same_at(&mut one, &mut other, Event::Start { reading: true })
@@ -43,4 +43,14 @@ pub fn same_device(alloc: Global, one: &DeviceState, other: &DeviceState) -> boo
         }
         _ => false,
     }
+}
+
+/// These devices are in the same states.
+pub fn same_devices(alloc: Global, devices: &[DeviceState], others: &[DeviceState]) -> bool {
+    for (one, other) in devices.iter().zip(others.iter()) {
+        if !same_device(alloc, one, other) {
+            return false;
+        }
+    }
+    devices.len() == others.len()
 }

@@ -4,7 +4,8 @@
 use crate::asker::Asker;
 use crate::boards;
 use crate::case::{Call, Case, Files};
-use crate::devices::same_device;
+use crate::devices::same_devices;
+use crate::on_wires::WiredCall;
 use crate::page::Page;
 use bus_journal::{entry_text, read_entry};
 use flat_world::Flat;
@@ -15,11 +16,13 @@ use std::alloc::Global;
 use std::collections::BTreeSet;
 use std::sync::Wait;
 use std::thread::Threads;
-use targets::DeviceState;
 
 /// The numbers below this one, from 2 on, have each schedule of 1 to 12 words of two callers: as the binary digits behind
 /// their first one.
 const SCHEDULES: u16 = 8192;
+
+/// Those of 1 to 9 words are below this one: by these the callers run over two wires too.
+const WIRED_SCHEDULES: u16 = 1024;
 
 /// How many binary digits such a number has at most.
 const DIGITS: u8 = 13;
@@ -44,7 +47,7 @@ struct Tally {
     sections: BTreeSet<String>,
     journals: BTreeSet<String>,
     replies: u64,
-    /// How many of the runs aren't those of the flat world.
+    /// How many of the runs aren't those of the flat world, or differ over two wires.
     differ: u64,
 }
 
@@ -143,16 +146,6 @@ fn are_over(alloc: Global, askers: &[Asker<'_>]) -> bool {
     true
 }
 
-/// These devices are in the same states.
-fn same_devices(alloc: Global, devices: &[DeviceState], others: &[DeviceState]) -> bool {
-    for (one, other) in devices.iter().zip(others.iter()) {
-        if !same_device(alloc, one, other) {
-            return false;
-        }
-    }
-    devices.len() == others.len()
-}
-
 impl Race {
     /// A race over these files, on the board of a call. None where memory is wanting, as in each of these.
     fn open(alloc: Global, files: &Files, call: &Call) -> Option<Self> {
@@ -168,6 +161,13 @@ impl Race {
     /// Makes the call.
     fn run<H: Threads + Wait + Sync>(&mut self, rt: &H, alloc: Global) -> Option<()> {
         self.call.make(rt, alloc, &self.case, &self.files)
+    }
+
+    /// Makes the call over two wires too. Whether it leaves the same.
+    fn is_same_on_wires<H: Threads + Wait + Sync>(&self, rt: &H, alloc: Global) -> Option<bool> {
+        let words = self.call.words.as_slice();
+        let wired = WiredCall::make(rt, alloc, &self.case, &self.files, words)?;
+        Some(wired.is_as(alloc, &self.call))
     }
 
     /// Makes the call by the schedule of a number.
@@ -248,9 +248,9 @@ impl Tally {
         }
     }
 
-    /// Counts a run.
-    fn add(&mut self, alloc: Global, race: &Race) -> Option<()> {
-        self.count(race.journal(), race.agrees(alloc));
+    /// Counts a run, which is the same over two wires or isn't.
+    fn add(&mut self, alloc: Global, race: &Race, is_same: bool) -> Option<()> {
+        self.count(race.journal(), is_same && race.agrees(alloc));
         let (sections, journal) = race.report();
         self.sections
             .insert(String::from_str(alloc, sections).ok()?)
@@ -295,7 +295,7 @@ impl Tally {
     }
 }
 
-/// Runs the callers by each short schedule.
+/// Runs the callers by each short schedule, by the shortest over two wires too.
 fn each_schedule<H: Threads + Wait + Sync>(
     rt: &H,
     alloc: Global,
@@ -304,7 +304,8 @@ fn each_schedule<H: Threads + Wait + Sync>(
 ) -> Option<()> {
     for number in 2..SCHEDULES {
         race.run_schedule(rt, alloc, number)?;
-        tally.add(alloc, race)?;
+        let is_same = number >= WIRED_SCHEDULES || race.is_same_on_wires(rt, alloc)?;
+        tally.add(alloc, race, is_same)?;
     }
     Some(())
 }
@@ -322,7 +323,7 @@ fn each_failing_call<H: Threads + Wait + Sync>(
         if !race.journal().contains(" cut") {
             break;
         }
-        tally.add(alloc, race)?;
+        tally.add(alloc, race, true)?;
     }
     Some(())
 }
@@ -379,7 +380,7 @@ fn run_again<H: Threads + Wait + Sync>(
 ) -> Option<()> {
     for _ in 0..times {
         race.run(rt, alloc)?;
-        tally.add(alloc, race)?;
+        tally.add(alloc, race, true)?;
     }
     Some(())
 }

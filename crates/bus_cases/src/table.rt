@@ -6,6 +6,7 @@ use crate::entries::put_entry;
 use crate::holds::put_holds;
 use crate::interleavings::{put_again, put_interleavings};
 use crate::mute::put_mute;
+use crate::on_wires::WiredCall;
 use crate::page::Page;
 use crate::show::{put_answers, put_call, put_calls};
 use crate::turns::put_turns;
@@ -25,6 +26,8 @@ pub struct Table {
     case: Case,
     call: Call,
     is_called: bool,
+    /// How often SCL rose in the last call, where it was made over two wires.
+    edges: u64,
 }
 
 // Adds a line to a file.
@@ -41,6 +44,7 @@ impl Table {
             file: None,
             case: Case::new(alloc),
             is_called: false,
+            edges: 0,
         })
     }
 
@@ -129,6 +133,31 @@ impl Table {
         self.is_called = self.has_called(rt, alloc, words).is_some();
         page.require(self.is_called);
         put_call(page, &self.call);
+        if self.case.has_sound_ports() {
+            let put = self.put_wired(rt, page, alloc);
+            page.require(put.is_some());
+        }
+    }
+
+    // Makes the same call over two wires, and says so where it leaves anything else.
+    fn put_wired<H: Threads + Wait + Sync>(
+        &mut self,
+        rt: &H,
+        page: &mut Page,
+        alloc: Global,
+    ) -> Option<()> {
+        let words = self.call.words.as_slice();
+        let wired = WiredCall::make(rt, alloc, &self.case, &self.files, words)?;
+        self.edges = wired.edges();
+        if !wired.is_as(alloc, &self.call) {
+            page.put_line("over two wires it is another");
+        }
+        Some(())
+    }
+
+    fn put_edges(&self, page: &mut Page) {
+        page.put_number("SCL rose ", self.edges);
+        page.put_line(" times");
     }
 
     fn has_called<H: Threads + Wait + Sync>(
@@ -232,6 +261,7 @@ impl Table {
             "fronts" => self.put_fronts(rt, page, alloc),
             "calls" => put_calls(page, &self.call),
             "device" => put_answers(page, alloc, &self.call, rest),
+            "edges" => self.put_edges(page),
             _ => page.require(false),
         }
     }
