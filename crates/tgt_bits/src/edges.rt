@@ -1,6 +1,6 @@
 //! The edges of the lines, as a target sees them.
 ghost use Rattle.std.specs.Prelude.{◌≡◌, true, false};
-ghost use Rattle.wire_spec.specs.Wires.{begin, finish, rise, named, called, whole, fall, fallen, entered, tick, waited};
+ghost use Rattle.wire_spec.specs.Wires.{begin, finish, rise, named, called, whole, fall, entered, tick, waited};
 
 use crate::{BitTarget, Wired};
 use i2c_base::{Answer, Event, MOST_LOOKS};
@@ -37,6 +37,7 @@ impl<T: Wired> BitTarget<T> {
 
     /// SCL rises with SDA at this level: a bit comes in (UM10204 section 3.1.5), or the controller answers a byte that was
     /// sent, low for more (section 3.1.6).
+    #[inline(always)]
     pub fn on_rise(&mut self, level: bool)
         ensures { self.new ≡ rise T.table self.old level }
     {
@@ -125,10 +126,34 @@ impl<T: Wired> BitTarget<T> {
     }
 
     /// SCL falls: an acknowledge clock begins or is over (UM10204 section 3.1.6), or a bit that was sent is.
+    #[inline(always)]
     pub fn on_fall(&mut self)
         ensures { self.new ≡ fall self.old }
     {
-        self.mode = fallen(self.mode);
+        match self.mode {
+            Mode::Answered {
+                begun: false,
+                acked,
+                next,
+                looks,
+            } => {
+                self.mode = Mode::Answered {
+                    begun: true,
+                    acked,
+                    next,
+                    looks,
+                };
+            }
+            Mode::Answered {
+                begun: true,
+                next,
+                ..
+            } => self.mode = entered(next),
+            Mode::Give { left } if left > 0 => self.mode = Mode::Give { left: left - 1 },
+            Mode::Gave { more: true } => self.mode = Mode::Give { left: BITS },
+            Mode::Gave { more: false } => self.mode = Mode::Out,
+            Mode::Out | Mode::In { .. } | Mode::Give { .. } => {}
+        }
     }
 
     /// The controller has looked at SCL, which was low (UM10204 section 3.1.9).
@@ -137,34 +162,6 @@ impl<T: Wired> BitTarget<T> {
     {
         self.hold = self.hold.saturating_sub(1);
         self.mode = waited(self.mode);
-    }
-}
-
-// How a target that stands so stands behind the fall.
-fn fallen(mode: Mode) -> Mode
-    ensures { result ≡ fallen mode }
-{
-    match mode {
-        Mode::Answered {
-            begun: false,
-            acked,
-            next,
-            looks,
-        } => Mode::Answered {
-            begun: true,
-            acked,
-            next,
-            looks,
-        },
-        Mode::Answered {
-            begun: true,
-            next,
-            ..
-        } => entered(next),
-        Mode::Give { left } if left > 0 => Mode::Give { left: left - 1 },
-        Mode::Gave { more: true } => Mode::Give { left: BITS },
-        Mode::Gave { more: false } => Mode::Out,
-        Mode::Out | Mode::In { .. } | Mode::Give { .. } => mode,
     }
 }
 

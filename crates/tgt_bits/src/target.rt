@@ -49,6 +49,7 @@ impl<T: Wired> BitTarget<T> {
 
     /// It pulls SDA low: to acknowledge (UM10204 section 3.1.6), and for each low bit of the byte that it sends, the most
     /// significant one first (section 3.1.5).
+    #[inline(always)]
     pub fn pulls_data(&self) -> bool
         ensures { result ≡ pulls T.table self.now }
     {
@@ -60,6 +61,7 @@ impl<T: Wired> BitTarget<T> {
     }
 
     /// It holds SCL low, from the fall behind its address on (UM10204 section 3.1.9).
+    #[inline(always)]
     pub fn holds_clock(&self) -> bool
         ensures { result ≡ holds self.now }
     {
