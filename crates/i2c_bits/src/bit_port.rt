@@ -72,6 +72,20 @@ impl<L: Lines> BitPort<L> {
         })
     }
 
+    /// What its wires have come to since the last stop.
+    pub fn phase(&self) -> Phase
+        ensures { result ≡ self.now.phase }
+    {
+        self.phase
+    }
+
+    /// The calls that were made on it.
+    pub fn calls(&self) -> &[PortCall]
+        ensures { result.now ≡ self.now.log }
+    {
+        self.log.as_slice()
+    }
+
     /// Its lines and its log.
     pub fn into_parts(self) -> PortParts<L>
         ensures world { world_at (L.board result.lines) result.busy (L.bus result.lines) ≡ self.world }
