@@ -13,11 +13,13 @@ pub mod IndexLemmas
 -- What an edge, an address byte, a start and a stop are to one target, and to all.
 pub mod UnitLemmas
 pub mod TargetsLemmas
+pub mod RiseLemmas
 pub mod AddressLemmas
 pub mod StopLemmas
 -- What each call leaves; the devices of other roots.
 pub mod InvariantLemmas
 pub mod AwayLemmas
+pub mod ToldLemmas
 -- What a pull, a look and a line come to.
 pub mod LinesLemmas
 -- The opening.

@@ -44,7 +44,7 @@ tally-send = search (crosses, sendable) depth 20
 counter-send : IsSend (Counter.the_field).row
 counter-send = search (crosses, sendable, tally-send) depth 20
 
-wire-send : IsSend (WireState.the_field).row
+pub wire-send : IsSend (WireState.the_field).row
 wire-send = search (crosses, sendable) depth 20
 
 targets-send : IsSend (RootTargets.the_field).row

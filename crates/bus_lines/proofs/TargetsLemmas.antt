@@ -94,7 +94,7 @@ module _ (e : Edge) (within : IsWithin e) (left : ℕ) (live started : List ℕ)
         joined = told_joined (is_among live k) b;
       }
 
-  all_told : by_number told_to 0 bs ≡ map (where_joined (seen e)) bs
+  pub all_told : by_number told_to 0 bs ≡ map (where_joined (seen e)) bs
   all_told =
       sym (map_itself (λ (b : Bit NodeState). b) (by_number told_to 0 bs) (λ i b is. refl))
       ∙ map_numbered told_to (λ (b : Bit NodeState). b) (where_joined (seen e)) bs

@@ -1,5 +1,5 @@
--- Which targets an edge touches: those that aren't out of the message, and no other. While an address byte comes in, all that is
--- joined takes it in alike, so that one register stands for all.
+-- Which targets an edge touches: those that were called since the last start, and no other, who is out of the message. While an
+-- address byte comes in, all that is joined takes it in alike, so that one register stands for all.
 use Rattle.std.specs.Prelude.{◌≡◌, ℕ, zero, suc, ◌+◌, ◌<◌, ◌==◌, Bool, true, false, ◌&&◌, ◌||◌, List, [], ◌∷◌, cond, length, get_or, slice_get, Some}
 use Rattle.i2c_spec.specs.Targets.{IsQuiet}
 use Rattle.wire_spec.specs.declared.mode.Mode.TheVariants.{In}

@@ -8,8 +8,8 @@
 //! who is joined, by the places of the targets; `specs/LinesViews.antt` and `specs/Opens.antt` what is seen of the lines, and
 //! how they are opened; `specs/Tallies.antt` the two counts.
 //!
-//! An edge touches only those that aren't out of the message, whose numbers are kept, and a look touches nobody. While an
-//! address byte comes in, one register takes it in for all that is joined; at its last bit those at the address are called, by
+//! An edge touches only those that were called since the last start, whose numbers are kept, and a look at a high clock touches
+//! nobody. While an address byte comes in, one register takes it in for all that is joined; at its last bit those at the address are called, by
 //! an index, and those that a message has reached since their last stop see another's start (`specs/Units.antt`). A stop
 //! touches these alone, and who is joined is read anew only where a byte waited for it in the chip of a mux, or where someone
 //! that a message had reached was no longer joined. Nothing is kept of another root's devices (`specs/Away.antt`).
@@ -34,3 +34,4 @@ mod wire_state;
 pub use apart::Apart;
 pub use bus_lines::BusLines;
 pub use node::Node;
+pub use wire_state::WireState;

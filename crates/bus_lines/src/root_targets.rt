@@ -1,5 +1,5 @@
 //! The targets of a root, on its two lines.
-ghost use Rattle.std.specs.Prelude.{◌≡◌, IfOk, map, min};
+ghost use Rattle.std.specs.Prelude.{◌≡◌, IfOk, false, map, min};
 ghost use Rattle.ports.specs.Causes.{MOST};
 ghost use Rattle.wire_spec.specs.Wires.{rise, fall, tick, begin, finish};
 ghost use Rattle.wire_spec.specs.Roots.{some_one, pulls_line, where_joined};
@@ -134,14 +134,16 @@ impl RootTargets {
         self.counter.flips()
     }
 
-    /// SCL rises, with SDA at this level.
+    /// SCL rises, with SDA at this level, since nobody holds it. Who pulls SDA stays: that changes only while SCL is low (UM10204
+    /// section 3.1.3).
     #[inline(always)]
     pub fn rise(&mut self, level: bool)
+        requires { some_one holds_line self.old.bits ≡ false }
         ensures { self.new ≡ record self.old { bits = map (where_joined (λ b. rise node_table b level)) self.old.bits; counts = one_edge self.old.counts } }
     {
         self.counter.add_edge();
         if !self.address.is_coming() {
-            self.pulls = tell(&mut self.bits, self.live.as_slice(), Edge::Rise(level));
+            tell(&mut self.bits, self.live.as_slice(), Edge::Rise(level));
         } else if let Some(byte) = self.address.take(level) {
             call(
                 &mut self.bits,

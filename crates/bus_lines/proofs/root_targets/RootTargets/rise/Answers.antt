@@ -1,16 +1,17 @@
 use Rattle.std.proofs.Common.{◌≡◌, ℕ, ◌<◌, ◌/◌, Some, None, map, sym, ap, ◌∙◌, arith}
 use Rattle.wire_spec.specs.Wires.{rise, shifted}
-use Rattle.wire_spec.specs.Roots.{where_joined, pulls_line}
+use Rattle.wire_spec.specs.Roots.{where_joined, some_one}
 use Rattle.wire_spec.specs.Bus.{one_edge, holds_line}
 use Rattle.wire_spec.specs.Sites.{NO_ADDRESS, node_table}
 use Rattle.i2c_bits.specs.Wiring.{Rooted}
 use Rattle.bus_lines.specs.declared.edges.Edge.TheVariants.{Rise}
-use Rattle.bus_lines.specs.Edges.{seen}
-use Rattle.bus_lines.specs.Units.{RegisterView, by_number, some_by, to_those, of_those}
+use Rattle.bus_lines.specs.Units.{RegisterView}
 use Rattle.bus_lines.specs.LinesViews.{TargetsView}
-use Rattle.bus_lines.proofs.InvariantLemmas.{seen_as, told_are, told_view, coming_are, rises_coming, called_are, called_view, none_comes, some_comes, last_comes, more_comes}
+use Rattle.bus_lines.proofs.InvariantLemmas.{seen_as, told_are, coming_are, rises_coming, called_are, called_view, none_comes, some_comes, last_comes, more_comes}
 use Rattle.bus_lines.specs.Away.{whole_on}
 use Rattle.bus_lines.proofs.AwayLemmas.{units_away, whole_edge}
+use Rattle.bus_lines.proofs.ToldLemmas.{is_told, edge_whole}
+use Rattle.bus_lines.proofs.RiseLemmas.{held_as, risen_holds, risen_pulls}
 use Rattle.bus_lines.proofs.root_targets.RootTargets.rise.Goals as goal
 
 some_none : (x : ℕ) → Some x ≡ None → ⊥
@@ -22,29 +23,30 @@ same_some x y e = cc
 pub invariant_of-self : goal.invariant_of-self
 invariant_of-self c =
     let i = c.self.inside in
-    let t = c.tell-self-inside in
+    let new = c.tell.new.targets.items in
     let e = Rise c.args.level in
-    let list = c.as_slice.ensures.value in
-    told_are (record { board = i.board.value; root = i.root }) i.places.items i.pulls.clock i.pulls.data i.address i.live i.started i.at i.bits.items
-    c.self.invariant e tt (none_comes c.is_coming.result i.address.left c.is_coming.ensures c.if-not-is_coming.true) t.new.targets.items
-    (t.ensures.targets ∙ ap (λ ns. by_number (to_those ns (where_joined (seen e))) 0 i.bits.items) list) t.result.clock t.result.data
-    (t.ensures.clock ∙ ap (λ ns. some_by (of_those ns holds_line) 0 t.new.targets.items) list)
-    (t.ensures.data ∙ ap (λ ns. some_by (of_those ns (pulls_line node_table)) 0 t.new.targets.items) list)
+    let k : Rooted = record { board = i.board.value; root = i.root } in
+    let none = none_comes c.is_coming.result i.address.left c.is_coming.ensures c.if-not-is_coming.true in
+    let told = is_told k i.places.items i.pulls.clock i.pulls.data i.address i.live i.started i.at i.bits.items c.self.invariant e tt none
+    _ c.as_slice.ensures.value new c.tell.ensures.targets in
+    let free = held_as i.board.value k i.places.items i.pulls.clock i.pulls.data i.address i.live i.started i.at i.bits.items c.self.invariant
+    ∙ ap (λ (v : TargetsView). some_one holds_line v.bits) c.self.view_is ∙ c.requires in
+    told_are k i.places.items i.pulls.clock i.pulls.data i.address i.live i.started i.at i.bits.items c.self.invariant e tt none new told
+    i.pulls.clock i.pulls.data
+    (risen_holds c.args.level i.address.left i.address.value i.live.items i.started.items i.at i.places.items i.bits.items new none
+    c.self.invariant.units told i.pulls.clock c.self.invariant.clock free)
+    (risen_pulls c.args.level i.address.left i.address.value i.live.items i.started.items i.at i.places.items i.bits.items new none
+    c.self.invariant.units told i.pulls.data c.self.invariant.data_low)
 
 pub returns-then-not-is_coming : goal.returns-then-not-is_coming
 returns-then-not-is_coming c =
     let i = c.self.inside in
-    let t = c.tell-self-inside in
-    let e = Rise c.args.level in
     let k : Rooted = record { board = i.board.value; root = i.root } in
-    let old = units_away i.places.items i.address.left i.live.items i.started.items i.at i.bits.items c.self.invariant.units in
-    let kept = invariant_of-self c in
-    let gone = units_away i.places.items i.address.left i.live.items i.started.items i.at t.new.targets.items kept.units in
-    let told = whole_edge i.board.value i.places.items (seen e) i.address.left i.address.value i.address.left i.address.value i.bits.items
-    t.new.targets.items old gone (told_view k i.places.items i.pulls.clock i.pulls.data i.address i.live i.started i.at i.bits.items
-    c.self.invariant e tt (none_comes c.is_coming.result i.address.left c.is_coming.ensures c.if-not-is_coming.true) t.new.targets.items
-    (t.ensures.targets ∙ ap (λ ns. by_number (to_those ns (where_joined (seen e))) 0 i.bits.items) c.as_slice.ensures.value)) in
-    seen_as k told c.add_edge.ensures
+    seen_as k
+    (edge_whole k i.places.items i.pulls.clock i.pulls.data i.address i.live i.started i.at i.bits.items c.self.invariant (Rise c.args.level) tt
+    (none_comes c.is_coming.result i.address.left c.is_coming.ensures c.if-not-is_coming.true) _ c.as_slice.ensures.value
+    c.tell.new.targets.items c.tell.ensures.targets i.pulls.clock i.pulls.data (invariant_of-self c))
+    c.add_edge.ensures
     ∙ ap (λ (v : TargetsView). record v { bits = map (where_joined (λ b. rise node_table b c.args.level)) v.bits; counts = one_edge v.counts })
     c.self.view_is
 

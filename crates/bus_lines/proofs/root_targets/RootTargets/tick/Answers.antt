@@ -4,41 +4,30 @@ use Rattle.wire_spec.specs.Roots.{where_joined}
 use Rattle.wire_spec.specs.Sites.{NodeState}
 use Rattle.i2c_bits.specs.Wiring.{Rooted}
 use Rattle.bus_lines.specs.declared.edges.Edge.TheVariants.{Tick}
-use Rattle.bus_lines.specs.Edges.{seen}
-use Rattle.bus_lines.specs.Units.{by_number, some_by, to_those, of_those}
-use Rattle.bus_lines.specs.LinesViews.{TargetsView, targets_of}
-use Rattle.wire_spec.specs.Roots.{pulls_line}
-use Rattle.wire_spec.specs.Bus.{holds_line}
-use Rattle.wire_spec.specs.Sites.{node_table}
-use Rattle.bus_lines.proofs.InvariantLemmas.{told_are, told_view, ticks_coming, none_comes, some_comes}
 use Rattle.bus_lines.specs.Away.{whole_on}
-use Rattle.bus_lines.proofs.AwayLemmas.{units_away, whole_edge}
+use Rattle.bus_lines.specs.LinesViews.{TargetsView, targets_of}
+use Rattle.bus_lines.proofs.InvariantLemmas.{ticks_coming, none_comes, some_comes}
+use Rattle.bus_lines.proofs.ToldLemmas.{edge_are, edge_whole}
 use Rattle.bus_lines.proofs.root_targets.RootTargets.tick.Goals as goal
 
 pub invariant_of-self : goal.invariant_of-self
 invariant_of-self c =
     let i = c.self.inside in
     let t = c.tell-self-inside in
-    let list = c.as_slice.ensures.value in
-    told_are (record { board = i.board.value; root = i.root }) i.places.items i.pulls.clock i.pulls.data i.address i.live i.started i.at i.bits.items
-    c.self.invariant Tick tt (none_comes c.is_coming.result i.address.left c.is_coming.ensures c.if-not-is_coming.true) t.new.targets.items
-    (t.ensures.targets ∙ ap (λ ns. by_number (to_those ns (where_joined (seen Tick))) 0 i.bits.items) list) t.result.clock t.result.data
-    (t.ensures.clock ∙ ap (λ ns. some_by (of_those ns holds_line) 0 t.new.targets.items) list)
-    (t.ensures.data ∙ ap (λ ns. some_by (of_those ns (pulls_line node_table)) 0 t.new.targets.items) list)
+    let k : Rooted = record { board = i.board.value; root = i.root } in
+    edge_are k i.places.items i.pulls.clock i.pulls.data i.address i.live i.started i.at i.bits.items c.self.invariant Tick tt
+    (none_comes c.is_coming.result i.address.left c.is_coming.ensures c.if-not-is_coming.true) _ c.as_slice.ensures.value
+    t.new.targets.items t.ensures.targets t.result.clock t.result.data t.ensures.clock t.ensures.data
 
 pub returns-then-not-is_coming : goal.returns-then-not-is_coming
 returns-then-not-is_coming c =
     let i = c.self.inside in
     let t = c.tell-self-inside in
     let k : Rooted = record { board = i.board.value; root = i.root } in
-    let old = units_away i.places.items i.address.left i.live.items i.started.items i.at i.bits.items c.self.invariant.units in
-    let kept = invariant_of-self c in
-    let gone = units_away i.places.items i.address.left i.live.items i.started.items i.at t.new.targets.items kept.units in
-    let told = whole_edge i.board.value i.places.items (seen Tick) i.address.left i.address.value i.address.left i.address.value i.bits.items
-    t.new.targets.items old gone (told_view k i.places.items i.pulls.clock i.pulls.data i.address i.live i.started i.at i.bits.items
-    c.self.invariant Tick tt (none_comes c.is_coming.result i.address.left c.is_coming.ensures c.if-not-is_coming.true) t.new.targets.items
-    (t.ensures.targets ∙ ap (λ ns. by_number (to_those ns (where_joined (seen Tick))) 0 i.bits.items) c.as_slice.ensures.value)) in
-    ap (λ (xs : List (Bit NodeState)). targets_of k xs i.counter) told
+    ap (λ (xs : List (Bit NodeState)). targets_of k xs i.counter)
+    (edge_whole k i.places.items i.pulls.clock i.pulls.data i.address i.live i.started i.at i.bits.items c.self.invariant Tick tt
+    (none_comes c.is_coming.result i.address.left c.is_coming.ensures c.if-not-is_coming.true) _ c.as_slice.ensures.value
+    t.new.targets.items t.ensures.targets t.result.clock t.result.data (invariant_of-self c))
     ∙ ap (λ (v : TargetsView). record v { bits = map (where_joined tick) v.bits }) c.self.view_is
 
 pub returns-else-not-is_coming : goal.returns-else-not-is_coming
