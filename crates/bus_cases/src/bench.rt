@@ -1,7 +1,7 @@
 //! Worked examples of the parts of a board, each told apart by the front of its line.
 use crate::page::Page;
 use crate::words::parted;
-use crate::{boards, chips, lines, transfers, trees, wires};
+use crate::{boards, chips, held, lines, transfers, trees, wires};
 use i2c_board::Accepted;
 use std::alloc::Global;
 use std::rt::Files;
@@ -38,6 +38,7 @@ pub fn answer_line<R: Files + AllocGlobal>(rt: &R, page: &mut Page, line: &str) 
     page.put(":");
     match kind {
         "chip" => chips::answer_all(page, subject, words),
+        "held" => held::answer_all(page, rt.alloc(), subject, words),
         "line" => lines::answer_all(page, rt.alloc(), subject, words),
         _ => answer_by_name(rt, page, subject, kind, words),
     }

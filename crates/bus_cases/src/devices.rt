@@ -7,7 +7,8 @@ use targets::DeviceState;
 /// How many bytes are read of each device: as many as a register device has.
 const LENGTH: u16 = 256;
 
-fn same_answer(one: Answer, other: Answer) -> bool {
+/// Both are one answer.
+pub fn same_answer(one: Answer, other: Answer) -> bool {
     match (one, other) {
         (Answer::Byte(one), Answer::Byte(other)) => one == other,
         (Answer::Ack, Answer::Ack)

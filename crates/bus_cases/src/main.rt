@@ -38,7 +38,8 @@
 //!
 //! - `chip KIND:` events for the chip of a mux (`chips::answer_all`)
 //! - `tree BOARD:` questions on the tree of a board of `data/` (`trees::answer_all`)
-//! - `wires BOARD:` events on the wires of its first root (`wires::answer_all`)
+//! - `wires BOARD:` calls on the wires of its first root (`wires::answer_all`)
+//! - `held LOOKS..:` calls on a port over two wires of no board, with register devices that hold the clock (`held::answer_all`)
 //! - `flat BOARD:` transfers in the flat world, with a semicolon between them (`transfers::answer_all`)
 //! - `line LIMIT:` lines of a script over a board with this block limit, with a semicolon between them (`lines::answer_all`)
 //!
@@ -55,7 +56,9 @@ mod boards;
 mod case;
 mod chips;
 mod devices;
+mod driver;
 mod entries;
+mod held;
 mod holds;
 mod interleavings;
 mod lines;

@@ -1,32 +1,83 @@
 //! Worked examples of the wires of a root, call by call.
+use crate::devices::same_answer;
+use crate::driver::make;
 use crate::page::Page;
 use crate::words::{addr, byte, put_said};
-use i2c_base::{Answer, MuxId, PortCall, SegId};
+use bus_lines::BusLines;
+use i2c_base::{Answer, MuxId, NoMemory, PortCall, SegId};
+use i2c_bits::BitPort;
 use i2c_board::Accepted;
 use i2c_physics::SimWorld;
 use std::alloc::Global;
 
-/// Answers words about the wires of the first root of a board, as they are opened: `wADDR` and `rADDR` are starts, to write and to read, two hexadecimal digits a byte that is put, `+`
-/// and `-` a read that is acknowledged or isn't, `.` a stop, `!` a call that fails, which acts as one, and `mN=K` the
-/// line of mux N at level K.
-pub fn answer_all(page: &mut Page, alloc: Global, board: &Accepted, words: &str) {
-    match SimWorld::open(alloc, board, SegId(0)) {
-        Ok(mut world) => answer_each(page, &mut world, words),
-        Err(_) => page.require(false),
-    }
+/// The wires of a root, as a world of bytes, and beside it bit by bit, as far as a port may make the calls.
+#[derive(Drop)]
+struct Wires {
+    world: SimWorld,
+    port: BitPort<BusLines>,
+    /// How many calls were answered alike by both.
+    alike: u64,
+    /// The port has made each call so far.
+    is_beside: bool,
 }
 
-fn answer_each(page: &mut Page, world: &mut SimWorld, words: &str) {
-    for word in words.split_whitespace() {
-        page.put(" ");
-        match call_of(word) {
-            Some(call) => put_said(page, answer(world, call)),
-            None => page.put("no call"),
+impl Wires {
+    fn open(alloc: Global, board: &Accepted) -> Result<Self, NoMemory> {
+        let root = SegId(0);
+        Ok(Wires {
+            world: SimWorld::open(alloc, board, root)?,
+            port: BitPort::open(alloc, BusLines::open(alloc, board, root)?)?,
+            alike: 0,
+            is_beside: true,
+        })
+    }
+
+    // Puts what the world answers to a call, and what the port answers, where that is anything else.
+    fn put_answer(&mut self, page: &mut Page, call: &PortCall) {
+        let said = answer(&mut self.world, *call);
+        put_said(page, said);
+        if self.is_beside {
+            match make(&mut self.port, *call) {
+                Some(other) => self.compare(page, said, other),
+                None => self.is_beside = false,
+            }
+        }
+    }
+
+    fn compare(&mut self, page: &mut Page, said: Answer, other: Answer) {
+        if same_answer(said, other) {
+            self.alike = self.alike.saturating_add(1);
+        } else {
+            page.put(" over two wires ");
+            put_said(page, other);
         }
     }
 }
 
-fn call_of(word: &str) -> Option<PortCall> {
+/// Answers words about the wires of the first root of a board, as they are opened: `wADDR` and `rADDR` are starts, to write and
+/// to read, two hexadecimal digits a byte that is put, `+` and `-` a read that is acknowledged or isn't, `.` a stop, `!` a call
+/// that fails, which acts as one, and `mN=K` the line of mux N at level K. Behind them stands how many of them, from the first
+/// on, a port over two wires answers too: up to one that may not come where it stands, or sets a line.
+pub fn answer_all(page: &mut Page, alloc: Global, board: &Accepted, words: &str) {
+    match Wires::open(alloc, board) {
+        Ok(mut wires) => answer_each(page, &mut wires, words),
+        Err(_) => page.require(false),
+    }
+}
+
+fn answer_each(page: &mut Page, wires: &mut Wires, words: &str) {
+    for word in words.split_whitespace() {
+        page.put(" ");
+        match call_of(word) {
+            Some(call) => wires.put_answer(page, &call),
+            None => page.put("no call"),
+        }
+    }
+    page.put_number(" | ", wires.alike);
+}
+
+/// The call that a word stands for.
+pub fn call_of(word: &str) -> Option<PortCall> {
     match word {
         "+" => Some(PortCall::Get(true)),
         "-" => Some(PortCall::Get(false)),
