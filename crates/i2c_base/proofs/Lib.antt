@@ -1,3 +1,4 @@
+pub mod AliasLemmas
 pub mod FittingLemmas
 pub mod ListLemmas
 pub mod MuxLemmas

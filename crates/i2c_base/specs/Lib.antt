@@ -5,6 +5,7 @@ pub mod Board
 pub mod Muxes
 pub mod Bytes
 pub mod Transfer
+pub mod Alias
 pub mod Fitting
 pub mod Need
 pub mod Replies

@@ -7,6 +7,7 @@
 #![tactic(auto)]
 
 mod addr;
+mod alias;
 mod board;
 mod bytes;
 mod caller;
@@ -27,6 +28,7 @@ mod transfer;
 mod tree;
 
 pub use addr::Addr;
+pub use alias::{AliasPair, alias_of};
 pub use board::{DeviceKind, DeviceSpec, Idle, LockMode, MuxKind, MuxSpec, RootSpec, Run, Size};
 pub use bytes::{ByteList, ByteStore, Bytes};
 pub use caller::Caller;

@@ -1,5 +1,5 @@
 //! A list of some room in place, whose clear and pop cost nothing: no blank is written over what is left out.
-ghost use Rattle.std.specs.Prelude.{◌≡◌, ◌+◌, ◌<◌, ◌≤◌, ◌-◌, [], ◌∷◌, ◌++◌, length, take};
+ghost use Rattle.std.specs.Prelude.{◌≡◌, ◌+◌, ◌<◌, ◌≤◌, ◌-◌, [], ◌∷◌, ◌++◌, length, set, take};
 
 use std::marker::Model;
 
@@ -39,6 +39,15 @@ impl<T: Copy + Default, const N: usize> Row<T, N> {
         let len = self.len;
         self.items[len] = item;
         self.len = len + 1;
+    }
+
+    /// Puts an item in place of another.
+    pub fn put(&mut self, place: usize, item: T)
+        requires { place < length self.old }
+        ensures { self.new ≡ set self.old place item }
+    {
+        let items = &mut self.items[..self.len];
+        items[place] = item;
     }
 
     /// Empties it.

@@ -1,11 +1,12 @@
 //! Messages, and the transfers that they make up.
-ghost use Rattle.std.specs.Prelude.{◌≡◌, ◌+◌, ◌^◌, ◌<◌, ◌≤◌, ◌↔◌, [], ◌∷◌, ◌++◌, length, sum_by, IsTrue, IsOk, OnOk, OnErr};
+ghost use Rattle.std.specs.Prelude.{◌≡◌, ◌+◌, ◌^◌, ◌<◌, ◌≤◌, ◌↔◌, [], ◌∷◌, ◌++◌, length, map, sum_by, IsTrue, IsOk, OnOk, OnErr};
 ghost use Rattle.i2c_base.specs.Bytes.{AreBytes};
 ghost use Rattle.i2c_base.specs.Limits as limits;
+ghost use Rattle.i2c_base.specs.Alias.{alias_of, readdressed};
 ghost use Rattle.i2c_base.specs.Transfer.{HasRoom, counted_read};
 
 use crate::limits::{MOST_BYTES, MOST_LENGTH, MOST_MESSAGES};
-use crate::{Addr, MsgFlags, Row};
+use crate::{Addr, AliasPair, MsgFlags, Row, alias_of};
 use bitflags::Flags;
 use std::marker::Model;
 
@@ -94,6 +95,7 @@ impl Model for Transfer {
 
 impl Transfer {
     ghost use Rattle.std.specs.List.{list_any};
+    ghost use Rattle.i2c_base.specs.Alias.{alias_of, redirected};
     ghost use Rattle.i2c_base.specs.Transfer.{HasRoom, IsMessage, IsTransfer, with_message, written, plain_read, counted_read, is_read, size_of, written_of, COUNTED_SIZE};
 
     /// A transfer with no message yet. With `force` it goes to devices that a driver is bound to as well.
@@ -193,6 +195,14 @@ impl Transfer {
         append(&mut self.msgs, &mut self.out, msg, bytes);
     }
 
+    /// Sends it to another bus, and each message to the alias of its address. All else stays.
+    pub fn redirect(&mut self, bus: u16, pairs: &[AliasPair])
+        ensures { self.new ≡ redirected self.old bus (alias_of pairs.now) }
+    {
+        self.bus = bus;
+        readdress(&mut self.msgs, pairs);
+    }
+
     /// How many bytes its messages stand for, all together.
     pub fn size(&self) -> u16
         ensures value { result ≡ sum_by size_of self.now.msgs }
@@ -240,6 +250,21 @@ impl Transfer {
         ensures kept { IsTransfer self.now.msgs self.now.out }
     {
         self.out.as_slice()
+    }
+}
+
+// Sends each message to the alias of its address.
+fn readdress(msgs: &mut Row<Msg, MOST_MESSAGES>, pairs: &[AliasPair])
+    ensures { msgs.new ≡ map (readdressed (alias_of pairs.now)) msgs.old }
+{
+    let count = msgs.as_slice().len();
+    for place in 0..count {
+        let msg = msgs.as_slice()[place];
+        let there = Msg {
+            addr: alias_of(pairs, msg.addr),
+            ..msg
+        };
+        msgs.put(place, there);
     }
 }
 
