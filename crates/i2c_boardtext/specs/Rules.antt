@@ -1,5 +1,5 @@
 -- What is wrong with a table, by a list of rules, one for each key that it may have.
-use Rattle.std.specs.Prelude.{ℕ, ◌+◌, nat_le, ℤ, pos, int_le, Bool, true, false, not, ◌&&◌, ◌||◌, List, [], ◌∷◌, length, Option, Some, None, is_some, option_map, unwrap_or, bytes_eq, if◌then◌else◌}
+use Rattle.std.specs.Prelude.{ℕ, ◌+◌, ◌==◌, nat_le, ℤ, pos, int_le, Bool, true, false, not, ◌&&◌, ◌||◌, List, [], ◌∷◌, length, Option, Some, None, is_some, option_map, unwrap_or, bytes_eq, if◌then◌else◌}
 use Rattle.std.specs.List.{list_all, list_any}
 use Rattle.toml.specs.Data.{Data, as_integer, as_bool, as_table, Members, no_members, member, get_member}
 use Rattle.i2c_boardtext.specs.Items.{items_in, elements, number, named_in}
@@ -8,7 +8,7 @@ use Rattle.i2c_boardtext.specs.declared.fault.TableFault.{TableFault}
 use Rattle.i2c_boardtext.specs.declared.fault.TableFault.TheVariants as fault
 use Rattle.i2c_boardtext.specs.declared.rule.Rule.{Rule}
 use Rattle.i2c_boardtext.specs.declared.rule.Test.{Test}
-use Rattle.i2c_boardtext.specs.declared.rule.Test.TheVariants.{Kind, Range, Flag, Offers, Lock, Idle, Runs, Tables}
+use Rattle.i2c_boardtext.specs.declared.rule.Test.TheVariants.{Kind, Range, Flag, Offers, Lock, Idle, Runs, Tables, Pairs}
 
 -- a key: its name, whether it is required, and how its value is tested
 pub record KeyRule : Type 0 where
@@ -46,6 +46,13 @@ is_run size d = is_run_of size (elements d)
 abbrev pub is_array_of : (Data → Bool) → Data → Bool
 is_array_of test d = unwrap_or (option_map (list_all test) (items_in d)) false
 
+-- two integers from the first number to the second
+abbrev pub is_pair : ℕ → ℕ → Data → Bool
+is_pair low high d = (length (elements d) == 2) && list_all (is_in low high) (elements d)
+
+abbrev pub are_pairs : ℕ → ℕ → Data → Bool
+are_pairs low high d = nat_le 1 (length (elements d)) && list_all (is_pair low high) (elements d)
+
 -- the value is as listed
 abbrev pub fits : Test → Data → Bool
 fits Kind d = true
@@ -56,6 +63,7 @@ fits Lock d = is_some (named_in lock_named d)
 fits Idle d = is_some (named_in idle_named d)
 fits (Runs size) d = is_array_of (is_run size) d
 fits Tables d = is_array_of (λ x. is_some (as_table x)) d
+fits (Pairs low high) d = are_pairs low high d
 
 abbrev pub fits_if_there : Test → Option Data → Bool
 fits_if_there test None = true

@@ -3,7 +3,7 @@ ghost use Rattle.std.specs.Prelude.{◌≡◌, map, option_map, is_some};
 ghost use Rattle.std.specs.List.{list_all};
 ghost use Rattle.toml.specs.Data.{as_table};
 ghost use Rattle.toml.specs.View.{view};
-ghost use Rattle.i2c_boardtext.specs.Rules.{is_in, is_run_of, is_run, is_array_of, fits, fits_if_there};
+ghost use Rattle.i2c_boardtext.specs.Rules.{is_in, is_run_of, is_run, is_array_of, is_pair, are_pairs, fits, fits_if_there};
 
 use crate::find::{items, number};
 use crate::names::{idle_in, lock_in, offers_in};
@@ -87,6 +87,49 @@ fn are_tables(value: &Value) -> bool
     }
 }
 
+// All of them are integers from `low` to `high`: each by itself, and as one list.
+fn each_is_in(low: u32, high: u32, values: &[Value]) -> bool
+    ensures { result ≡ list_all (λ v. is_in low high (view v)) values.now }
+{
+    values.iter().all(|value| is_in(low, high, value))
+}
+
+fn are_in(low: u32, high: u32, values: &[Value]) -> bool
+    ensures { result ≡ list_all (is_in low high) (map view values.now) }
+{
+    each_is_in(low, high, values)
+}
+
+fn is_pair(low: u32, high: u32, value: &Value) -> bool
+    ensures { result ≡ is_pair low high (view value.now) }
+{
+    match items(value) {
+        Some(values) => values.len() == 2 && are_in(low, high, values),
+        None => false,
+    }
+}
+
+fn each_is_pair(low: u32, high: u32, values: &[Value]) -> bool
+    ensures { result ≡ list_all (λ v. is_pair low high (view v)) values.now }
+{
+    values.iter().all(|value| is_pair(low, high, value))
+}
+
+fn all_are_pairs(low: u32, high: u32, values: &[Value]) -> bool
+    ensures { result ≡ list_all (is_pair low high) (map view values.now) }
+{
+    each_is_pair(low, high, values)
+}
+
+fn are_pairs(low: u32, high: u32, value: &Value) -> bool
+    ensures { result ≡ are_pairs low high (view value.now) }
+{
+    match items(value) {
+        Some(values) => !values.is_empty() && all_are_pairs(low, high, values),
+        None => false,
+    }
+}
+
 // The value is as listed.
 fn fits(test: Test, value: &Value) -> bool
     ensures { result ≡ fits test (view value.now) }
@@ -100,6 +143,7 @@ fn fits(test: Test, value: &Value) -> bool
         Test::Idle => idle_in(value).is_some(),
         Test::Runs(size) => are_runs(size, value),
         Test::Tables => are_tables(value),
+        Test::Pairs(low, high) => are_pairs(low, high, value),
     }
 }
 

@@ -29,6 +29,8 @@ pub enum Test {
     Runs(u32),
     /// An array of tables.
     Tables,
+    /// An array of at least one pair of integers, each from the first number to the second.
+    Pairs(u32, u32),
 }
 
 /// A key of a table: its name, whether it is required, and how its value is tested.
