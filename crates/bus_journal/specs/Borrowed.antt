@@ -1,6 +1,7 @@
 -- The entry that an entry with borrowed bytes stands for, and how many bytes it may have.
-use Rattle.std.specs.Prelude.{ℕ, List}
-use Rattle.i2c_base.specs.Limits.{MOST_LENGTH}
+use Rattle.std.specs.Prelude.{ℕ, ◌+◌, ◌*◌, List, Option}
+use Rattle.std.specs.Option.{option_map}
+use Rattle.i2c_base.specs.Limits.{MOST_BYTES, MOST_LENGTH}
 use Rattle.i2c_base.specs.Replies.{reply_by, most_read}
 use Rattle.i2c_base.specs.declared.entry.Entry.{Entry}
 use Rattle.i2c_base.specs.declared.entry.Entry.TheVariants as entry
@@ -19,6 +20,10 @@ entry_by (head.Settle caller a cut) bytes = entry.Settle caller (reply_by a byte
 abbrev pub entry_seen : EntryRef → Entry
 entry_seen seen = entry_by seen.head seen.bytes.now
 
+-- what was read: a head, if there is one, and the bytes
+abbrev pub read_as : Option Head → List ℕ → Option Entry
+read_as head bytes = option_map (λ h. entry_by h bytes) head
+
 -- a message has at most 512 bytes, a reply as many as it may read, and no other entry has any
 abbrev pub most_bytes : Head → ℕ
 most_bytes (head.Take caller lock) = 0
@@ -26,3 +31,7 @@ most_bytes (head.Free caller lock) = 0
 most_bytes (head.Message caller bus purpose part parts addr reading heard end) = MOST_LENGTH
 most_bytes (head.Line caller mux level failed) = 0
 most_bytes (head.Settle caller a cut) = most_read a
+
+-- no line of an entry has more bytes, without its line feed
+abbrev pub LONGEST_LINE : ℕ
+LONGEST_LINE = 69 + 3 * MOST_BYTES

@@ -1,8 +1,8 @@
 //! A text that is read from its front, byte by byte and number by number.
-ghost use Rattle.std.specs.Prelude.{◌≡◌, ◌<◌, ◌-◌, ◌%◌, true, false, [], ◌∷◌, length, take, drop, None, IfSome, OnSome};
+ghost use Rattle.std.specs.Prelude.{◌≡◌, ◌<◌, ◌≤◌, ◌-◌, ◌%◌, true, false, [], ◌∷◌, length, take, drop, None, IfSome, OnSome};
 ghost use Rattle.bus_journal.specs.Guess.{byte_at, is_digit, is_hex, hex_value, number_from, number_of, behind_number, bytes_of, behind_bytes};
 
-use i2c_base::ByteStore;
+use i2c_base::Bytes;
 use std::marker::Model;
 
 /// A text that is read from its front. A contract sees what is left of it.
@@ -130,19 +130,20 @@ impl<'a> Cursor<'a> {
         Some(16 * high + low)
     }
 
-    /// Reads the bytes that stand next, each behind a mark. Those past the `N`th are dropped.
+    /// Reads the bytes that stand next, each behind a mark, into a list that was empty. Those past so many are dropped.
     #[tactic(auto, using(crate::proofs::Nexts::take_one_more, crate::proofs::Nexts::take_when_full, crate::proofs::Nexts::take_at_end))]
-    pub fn bytes<const N: usize>(&mut self) -> ByteStore<N>
-        ensures bytes { result ≡ take N (bytes_of self.old) }
+    pub fn bytes(&mut self, most: usize, bytes: &mut Bytes)
+        requires empty { bytes.old ≡ [] }
+        requires most { most ≤ 4096 }
+        ensures bytes { bytes.new ≡ take most (bytes_of self.old) }
+        ensures few { length bytes.new ≤ most }
         ensures rest { self.new ≡ behind_bytes self.old }
     {
-        let mut bytes = ByteStore::new();
         while let Some(byte) = self.hex() {
-            if bytes.as_slice().len() < N {
+            if bytes.as_slice().len() < most {
                 bytes.push(byte);
             }
             self.skip(3);
         }
-        bytes
     }
 }

@@ -6,6 +6,7 @@
 
 mod borrowed;
 mod cursor;
+mod guess;
 mod journal;
 mod laws;
 mod line;
@@ -18,5 +19,5 @@ pub use borrowed::{EntryRef, Head};
 pub use journal::Journal;
 pub use laws::{a_line_tells_its_entry, a_report_tells_its_journal};
 pub use line::{entry_text, errno_name};
-pub use read::{EntryFault, read_entry};
+pub use read::{EntryFault, LineReader, read_entry};
 pub use text::{hex_digit, push_bytes, push_number};

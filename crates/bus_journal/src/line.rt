@@ -418,8 +418,9 @@ fn push_reply(
     }
 }
 
-// The line of an entry, without its line feed: its front behind the text, and its end in the room, which was empty.
-fn put_entry(out: &mut Vec<u8>, room: &mut Room, entry: &EntryRef<'_>) -> Result<(), NoMemory>
+/// Puts the line of an entry, without its line feed, behind a text: the end of it into the room, which was empty.
+#[inline(always)]
+pub fn put_entry(out: &mut Vec<u8>, room: &mut Room, entry: &EntryRef<'_>) -> Result<(), NoMemory>
     requires { room.old ≡ [] }
     ensures text { OnOk result (out.new.items ++ room.new ≡ out.old.items ++ entry_line (entry_seen entry.now)) }
     ensures short { OnOk result (length room.new ≤ 500) }

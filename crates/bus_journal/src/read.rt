@@ -1,17 +1,18 @@
 //! A line of the journal, read back as its entry.
-ghost use Rattle.std.specs.Prelude.{◌≡◌, ◌⊎◌, take, drop, IfOk};
+ghost use Rattle.std.specs.Prelude.{◌≡◌, ◌⊎◌, ◌≤◌, ◌++◌, true, [], length, Some, IfOk, IfSome, vec_capacity};
 ghost use Rattle.bus_spec.specs.Lines.{entry_line};
-ghost use Rattle.bus_journal.specs.Guess.{caller_of, behind_number, bytes_of, lock_of, purpose_of, behind_purpose, heard_of, behind_heard, end_of, errno_of, reply_of, behind_reply, cut_of, behind_list, message_of, line_of, settle_of, entry_of};
+ghost use Rattle.bus_journal.specs.Borrowed.{LONGEST_LINE, entry_by, entry_seen, most_bytes, read_as};
 ghost use Rattle.bus_journal.specs.Ranges.{IsEntry};
-ghost use Rattle.i2c_base.specs.Limits.{MOST_LENGTH};
 ghost use Rattle.i2c_base.specs.declared.entry.Entry.{Entry};
 
-use crate::cursor::Cursor;
-use crate::line::{entry_text, errno_name};
-use i2c_base::{
-    Addr, ByteList, Cut, DevId, End, Entry, Errno, LockId, MuxId, Node, Purpose, Reply, SegId,
-};
+use crate::borrowed::{EntryRef, Head};
+use crate::guess::guess_entry;
+use crate::line::put_entry;
+use crate::pieces::Room;
+use crate::ranges::entry_is_in_range;
+use i2c_base::{Bytes, Entry, MOST_BYTES, NoMemory};
 use std::alloc::Global;
+use std::marker::Model;
 
 /// Why a line is not read.
 #[derive(Clone, Copy)]
@@ -21,266 +22,132 @@ pub enum EntryFault {
     Memory,
 }
 
-#[tactic(auto, using(std::proofs::lemmas::Bool::Decides::nat_tests), unfolding(crate::specs::Guess::lock_of))]
-fn read_lock(text: &mut Cursor) -> LockId
-    ensures { result ≡ lock_of text.old }
+/// Reads lines of the journal back, one after the other, in room that is taken once. A contract sees the bytes of the entry
+/// that was read last.
+#[derive(Drop)]
+pub struct LineReader {
+    bytes: Box<Bytes>,
+    // In which the line of an entry is made again: its front, where it is a long one, and its end.
+    front: Vec<u8>,
+    end: Box<Room>,
+}
+
+impl Model for LineReader {
+    ghost use Rattle.std.specs.Prelude.{◌≤◌, ℕ, List, vec_capacity};
+    ghost use Rattle.bus_journal.specs.Borrowed.{LONGEST_LINE};
+
+    ghost Value = { List ℕ };
+
+    ghost view = { λ r. r.bytes.value };
+
+    ghost invariant = { λ r. LONGEST_LINE ≤ vec_capacity r.front };
+}
+
+/// No line of an entry has more bytes, without its line feed.
+const LONGEST_LINE: usize = 69 + 3 * MOST_BYTES;
+
+// The line of an entry, without its line feed, in two parts. There is room for it.
+fn make_again(front: &mut Vec<u8>, end: &mut Room, entry: &EntryRef<'_>)
+    requires room { LONGEST_LINE ≤ vec_capacity front.old }
+    requires few { length entry.now.bytes.now ≤ most_bytes entry.now.head }
+    ensures text { front.new.items ++ end.new ≡ entry_line (entry_seen entry.now) }
+    ensures in_range { IsEntry (entry_seen entry.now) }
+    ensures room { vec_capacity front.old ≤ vec_capacity front.new }
 {
-    let root = text.byte(0) == b'b';
-    text.skip(8);
-    let bus = SegId(text.number());
-    if root {
-        LockId::Bus(bus)
-    } else {
-        LockId::Mux(bus)
+    entry_is_in_range(entry.head, entry.bytes);
+    front.clear();
+    end.clear();
+    let _ = put_entry(front, end, entry);
+}
+
+// A line has these two parts.
+#[inline(always)]
+fn has_parts(line: &[u8], front: &[u8], end: &[u8]) -> bool
+    ensures yes { result ≡ true → front.now ++ end.now ≡ line.now }
+    ensures no { front.now ++ end.now ≡ line.now → result ≡ true }
+{
+    match line.strip_prefix(front) {
+        Some(rest) => rest == end,
+        None => false,
     }
 }
 
-#[tactic(auto, using(std::proofs::lemmas::Bool::Decides::nat_tests), unfolding(crate::specs::Guess::purpose_of, crate::specs::Guess::behind_purpose))]
-fn read_purpose(text: &mut Cursor) -> Purpose
-    ensures purpose { result ≡ purpose_of text.old }
-    ensures rest { text.new ≡ behind_purpose text.old }
+// The entry of which this is the line: its head, and its bytes.
+fn read_line(line: &[u8], bytes: &mut Bytes, front: &mut Vec<u8>, end: &mut Room) -> Option<Head>
+    requires { LONGEST_LINE ≤ vec_capacity front.old }
+    ensures some { IfSome result (λ h. entry_line (entry_by h bytes.new) ≡ line.now) }
+    ensures in_range { IfSome result (λ h. IsEntry (entry_by h bytes.new)) }
+    ensures few { IfSome result (λ h. length bytes.new ≤ most_bytes h) }
+    ensures found { (e : Entry) → IsEntry e → entry_line e ≡ line.now → read_as result bytes.new ≡ Some e }
+    ensures room { vec_capacity front.old ≤ vec_capacity front.new }
 {
-    if text.byte(0) == b'c' {
-        text.skip(5);
-        return Purpose::Call;
-    }
-    text.skip(4);
-    let mux = MuxId(text.number());
-    text.skip(1);
-    Purpose::Control(mux)
-}
-
-#[tactic(auto, using(std::proofs::lemmas::Bool::Decides::nat_tests), unfolding(crate::specs::Guess::heard_of, crate::specs::Guess::behind_heard))]
-fn read_heard(text: &mut Cursor) -> Option<Node>
-    ensures heard { result ≡ heard_of text.old }
-    ensures rest { text.new ≡ behind_heard text.old }
-{
-    let kind = text.byte(0);
-    if kind == b'n' {
-        text.skip(5);
+    bytes.clear();
+    let Some(head) = guess_entry(line, bytes) else {
         return None;
-    }
-    text.skip(1);
-    let number = text.number();
-    text.skip(1);
-    if kind == b'd' {
-        Some(Node::Device(DevId(number)))
+    };
+    let entry = EntryRef {
+        head,
+        bytes: bytes.as_slice(),
+    };
+    make_again(front, end, &entry);
+    if has_parts(line, front.as_slice(), end.as_slice()) {
+        Some(entry.head)
     } else {
-        Some(Node::Chip(MuxId(number)))
+        None
     }
 }
 
-#[tactic(auto, using(std::proofs::lemmas::Bool::Decides::nat_tests), unfolding(crate::specs::Guess::end_of))]
-fn read_end(text: &mut Cursor) -> End
-    ensures { result ≡ end_of text.old }
-{
-    match text.byte(0) {
-        b'o' => End::Ok,
-        b'n' => End::Nack,
-        b's' => End::Slow,
-        b'r' => End::Refused,
-        b'p' => End::Proto,
-        _ => {
-            text.skip(4);
-            End::Cut(text.number())
-        }
+impl LineReader {
+    pub fn new(alloc: Global) -> Result<Self, NoMemory>
+        ensures { IfOk result (λ r. r ≡ []) }
+    {
+        Ok(LineReader {
+            bytes: Box::new(alloc, Bytes::new())?,
+            front: Vec::with_capacity(alloc, LONGEST_LINE)?,
+            end: Box::new(alloc, Room::new())?,
+        })
     }
-}
 
-// The names differ in their second letter, or else in the third or the fifth.
-#[tactic(auto, using(std::proofs::lemmas::Bool::Decides::nat_tests), unfolding(crate::specs::Guess::errno_of))]
-fn read_errno(text: &Cursor) -> Errno
-    ensures { result ≡ errno_of text.now }
-{
-    match text.byte(1) {
-        b'I' if text.byte(2) == b'O' => Errno::Eio,
-        b'I' => Errno::Einval,
-        b'N' if text.byte(2) == b'X' => Errno::Enxio,
-        b'N' => Errno::Enodev,
-        b'B' if text.byte(2) == b'U' => Errno::Ebusy,
-        b'B' if text.byte(4) == b'F' => Errno::Ebadf,
-        b'B' => Errno::Ebadmsg,
-        b'P' => Errno::Eproto,
-        b'O' => Errno::Eopnotsupp,
-        b'T' => Errno::Etimedout,
-        _ => Errno::Eremoteio,
+    /// The bytes of the entry that was read last.
+    pub fn bytes(&self) -> &[u8]
+        ensures { result.now ≡ self.now }
+    {
+        self.bytes.as_slice()
     }
-}
 
-#[tactic(auto, using(std::proofs::lemmas::Bool::Decides::nat_tests), unfolding(crate::specs::Guess::reply_of, crate::specs::Guess::behind_reply))]
-fn read_reply(text: &mut Cursor) -> Reply
-    ensures reply { result ≡ reply_of text.old }
-    ensures rest { text.new ≡ behind_reply text.old }
-{
-    match text.byte(0) {
-        b'd' => {
-            text.skip(4);
-            Reply::Done
-        }
-        b'r' => {
-            text.skip(4);
-            Reply::Read(text.bytes())
-        }
-        _ => {
-            let errno = read_errno(text);
-            text.skip(errno_name(errno).len());
-            Reply::Err(errno)
-        }
-    }
-}
-
-#[tactic(auto, using(std::proofs::lemmas::Bool::Decides::nat_tests), unfolding(crate::specs::Guess::cut_of))]
-fn read_cut(text: &mut Cursor) -> Cut
-    ensures { result ≡ cut_of text.old }
-{
-    if text.byte(0) != b' ' {
-        return Cut::No;
-    }
-    text.skip(5);
-    let msg = text.small();
-    if text.byte(0) != b'.' {
-        return Cut::Way;
-    }
-    text.skip(1);
-    let call = text.number();
-    Cut::At { msg, call }
-}
-
-// The bytes of a message, from their bracket on.
-#[tactic(auto, using(std::proofs::lemmas::Bool::Decides::nat_tests), unfolding(crate::specs::Guess::behind_list))]
-fn read_list(text: &mut Cursor) -> ByteList
-    ensures bytes { result ≡ take MOST_LENGTH (bytes_of text.old) }
-    ensures rest { text.new ≡ behind_list text.old }
-{
-    let bytes = text.bytes();
-    if text.byte(0) == b'[' {
-        text.skip(1);
-    }
-    bytes
-}
-
-// The message whose line goes on with its caller, or none where its address is no target's.
-#[tactic(auto, unfolding(crate::specs::Guess::message_of))]
-fn read_message(text: &mut Cursor) -> Option<Entry>
-    ensures { IsEntry (message_of text.old) → result ≡ Some (message_of text.old) }
-{
-    let caller = text.small();
-    text.skip(5);
-    let bus = SegId(text.number());
-    text.skip(1);
-    let purpose = read_purpose(text);
-    let part = text.small();
-    text.skip(1);
-    let parts = text.small();
-    text.skip(1);
-    let reading = text.byte(0) == b'r';
-    text.skip(3);
-    let addr = Addr::new(text.hex()?)?;
-    text.skip(4);
-    let bytes = read_list(text);
-    text.skip(8);
-    let heard = read_heard(text);
-    let end = read_end(text);
-    Some(Entry::Message {
-        caller,
-        bus,
-        purpose,
-        part,
-        parts,
-        addr,
-        reading,
-        bytes,
-        heard,
-        end,
-    })
-}
-
-#[tactic(auto, using(std::proofs::lemmas::Bool::Decides::nat_tests), unfolding(crate::specs::Guess::line_of))]
-fn read_level(text: &mut Cursor) -> Entry
-    ensures { result ≡ line_of text.old }
-{
-    let caller = text.small();
-    text.skip(5);
-    let mux = MuxId(text.number());
-    text.skip(7);
-    let level = text.small();
-    let failed = text.byte(1) == b'c';
-    Entry::Line {
-        caller,
-        mux,
-        level,
-        failed,
-    }
-}
-
-#[tactic(auto, using(std::proofs::lemmas::Bool::Decides::nat_tests), unfolding(crate::specs::Guess::settle_of))]
-fn read_settle(text: &mut Cursor) -> Entry
-    ensures { result ≡ settle_of text.old }
-{
-    let caller = text.small();
-    text.skip(1);
-    let reply = read_reply(text);
-    let cut = read_cut(text);
-    Entry::Settle { caller, reply, cut }
-}
-
-fn read_held(text: &mut Cursor) -> (u8, LockId)
-    ensures caller { result.0 ≡ caller_of (drop 5 text.old) }
-    ensures lock { result.1 ≡ lock_of (drop 1 (behind_number (drop 5 text.old))) }
-{
-    text.skip(5);
-    let caller = text.small();
-    text.skip(1);
-    (caller, read_lock(text))
-}
-
-// The one entry that the line could be.
-#[tactic(auto, using(std::proofs::lemmas::Bool::Decides::nat_tests), unfolding(crate::specs::Guess::entry_of))]
-fn guess(line: &[u8]) -> Option<Entry>
-    ensures { IsEntry (entry_of line.now) → result ≡ Some (entry_of line.now) }
-{
-    let mut text = Cursor::new(line);
-    match text.byte(0) {
-        b't' => {
-            let (caller, lock) = read_held(&mut text);
-            Some(Entry::Take { caller, lock })
-        }
-        b'f' => {
-            let (caller, lock) = read_held(&mut text);
-            Some(Entry::Free { caller, lock })
-        }
-        b'm' => {
-            text.skip(4);
-            read_message(&mut text)
-        }
-        b'l' => {
-            text.skip(5);
-            Some(read_level(&mut text))
-        }
-        _ => {
-            text.skip(7);
-            Some(read_settle(&mut text))
-        }
+    /// The head of the entry of which this is the line in the journal's text, without its line feed; none where no entry
+    /// has this text. It takes no memory.
+    ///
+    /// The one entry that the line could be is printed, and its text compared.
+    pub fn read(&mut self, line: &[u8]) -> Option<Head>
+        ensures some { IfSome result (λ h. entry_line (entry_by h self.new) ≡ line.now) }
+        ensures in_range { IfSome result (λ h. IsEntry (entry_by h self.new)) }
+        ensures few { IfSome result (λ h. length self.new ≤ most_bytes h) }
+        ensures found { (e : Entry) → IsEntry e → entry_line e ≡ line.now → read_as result self.new ≡ Some e }
+    {
+        read_line(line, &mut self.bytes, &mut self.front, &mut self.end)
     }
 }
 
 /// The entry of which this is the line in the journal's text, without its line feed.
 ///
-/// The one entry that the line could be is printed, and its text compared.
+/// It takes room for one line: where there are many, a `LineReader` takes it once.
 pub fn read_entry(alloc: Global, line: &[u8]) -> Result<Entry, EntryFault>
     ensures ok { IfOk result (λ e. entry_line e ≡ line.now) }
     ensures in_range { IfOk result IsEntry }
     ensures found { (e : Entry) → IsEntry e → entry_line e ≡ line.now → (result ≡ Ok e) ⊎ (result ≡ Err EntryFault.Memory) }
 {
-    let Some(entry) = guess(line) else {
-        return Err(EntryFault::NotAnEntry);
-    };
-    let Ok(text) = entry_text(alloc, &entry) else {
+    let Ok(mut reader) = LineReader::new(alloc) else {
         return Err(EntryFault::Memory);
     };
-    if text.as_slice() == line {
-        Ok(entry)
-    } else {
-        Err(EntryFault::NotAnEntry)
+    match reader.read(line) {
+        Some(head) => {
+            let entry = EntryRef {
+                head,
+                bytes: reader.bytes(),
+            };
+            Ok(entry.to_entry())
+        }
+        None => Err(EntryFault::NotAnEntry),
     }
 }
