@@ -1,5 +1,5 @@
 -- The state of a core, read off what it keeps.
-use Rattle.std.proofs.Common.{◌≡◌, ℕ, zero, suc, Bool, true, false, IsTrue, List, [], ◌∷◌, map, reverse, Option, Some, None, inl, inr, refl, sym, ◌∙◌, ap, subst, arith}
+use Rattle.std.proofs.Common.{◌≡◌, ℕ, zero, suc, Bool, true, false, IsTrue, List, [], ◌∷◌, ◌++◌, append-nil, map, reverse, Option, Some, None, inl, inr, refl, sym, ◌∙◌, ap, subst, arith}
 use Rattle.std.specs.Prelude.{slice_get, if◌then◌else◌}
 use Rattle.std.specs.Option.{is_some}
 use Rattle.std.proofs.lemmas.Bool.Decides.{eqb_tells}
@@ -10,18 +10,21 @@ use Rattle.i2c_base.specs.declared.reply.Reply.{Reply}
 use Rattle.i2c_base.specs.Board.{BoardView}
 use Rattle.ports.specs.declared.port.Port.{Ghosts as PortGhosts}
 use Rattle.i2c_spec.specs.World.{World}
+use Rattle.bus_laws.specs.Others.{CallerTold}
 use Rattle.bus_laws.specs.Ready.{IsStuck}
+use Rattle.bus_laws.proofs.past.StandsFacts.{over_ends}
 use Rattle.bus_spec.specs.Grammar.{first_act}
 use Rattle.bus_spec.specs.Past.{current}
 use Rattle.bus_message.specs.Ports.{root_port}
 use Rattle.core_laws.proofs.Laws.{finished-asks, free-ready, holder-same, next-same, take-wants}
+use Rattle.core_laws.specs.Core.{Place, spot_of}
 use Rattle.core_laws.specs.Steps.{next_of}
 use Rattle.seg_locks.specs.Locks.{holder_in}
-use Rattle.bus_core.specs.Answers.{HasAdded, WaitsFor, HasUsedUp, IsLeast}
+use Rattle.bus_core.specs.Answers.{HasAdded, WaitsFor, HasUsedUp, IsLeast, IsOverIn}
 use Rattle.bus_core.specs.Looks.{AreLooked}
 use Rattle.bus_core.specs.Kept.{asks_in, roots_of, run_of, whole_of, IsKept, IsCore, ArePlaced, HasStepped, HasCome}
 use Rattle.bus_core.specs.Opens.{IsOpenedWith, opening_of, uncalled}
-use Rattle.bus_core.specs.Places.{walk_left, place_of, script_of, scripts_of}
+use Rattle.bus_core.specs.Places.{walk_left, place_of, places_of, script_of, scripts_of}
 use Rattle.bus_core.specs.Ready.{HasPlace, IsLeastReady}
 use Rattle.bus_core.specs.Runs.{HasMade}
 use Rattle.bus_core.specs.State.{CoreState, CoreTold, has_caller, logs_of, now_in, roots_in, state_of, worlds_of}
@@ -33,7 +36,7 @@ use Rattle.bus_core.specs.declared.steps.StepAnswer.TheVariants as answer
 use Rattle.bus_core.proofs.Advances.{numbered, over-none, has-made}
 use Rattle.bus_core.proofs.Kept.{place-here}
 use Rattle.bus_core.proofs.Locks.{same_seat}
-use Rattle.bus_core.proofs.Loops.{come-refl, stuck-below}
+use Rattle.bus_core.proofs.Loops.{come-refl, stuck-below, walk-ended}
 use Rattle.i2c_base.proofs.ListLemmas.{map_from}
 use Rattle.i2c_base.proofs.ListLemmas.{map_at}
 
@@ -185,6 +188,25 @@ module _ {P C S : Type 0} (g : PortGhosts P) (c : CallerGhosts C S) (x : CorePar
         (place-here g c x core.kept place s.0 here) over in
         subst (λ (k : ℕ). asks_in c x k taken ≡ None) number
         (subst (λ (rs : List Reply). asks_in c x s.0.number rs ≡ None) (ap (λ (y : ℕ × List Reply). y.1) s.2) done.0)
+
+    -- by the journal too it is over
+    pub over-told : HasEndedAt x place → IsTrue g.tells → IsOverIn c.asked state caller
+    over-told e tell =
+        let p : Place = place_of c b e.seat in
+        let here = place-here g c x core.kept place e.seat e.here in
+        let done = finished-asks (run_of g c x) (whole_of g c x core.kept.held core.kept.owes) core.kept.kept place (place_of c b e.seat) here
+        (over-none x.locks (walk_left b e.seat) e.over) in
+        let told : CallerTold b (asks_in c x) (now_in c.asked state) e.seat.number (walk_left b e.seat)
+        (c.taken e.seat.caller ++ (place_of c b e.seat).owed) (place_of c b e.seat).got e.seat.cut =
+        (core.kept.kept.told tell).spots_told place (spot_of (place_of c b e.seat))
+        (map_at spot_of (places_of c b x.seats.items) place (place_of c b e.seat) here) in
+        let settled : (now_in c.asked state).settled e.seat.number ≡ c.taken e.seat.caller = told.settled
+        ∙ ap (λ (rs : List Reply). c.taken e.seat.caller ++ rs) done.1 ∙ append-nil (c.taken e.seat.caller) in
+        subst (λ (n : ℕ). IsOverIn c.asked state n) (numbered g c x core.kept core.placed caller place at e.seat e.here)
+        (record {
+          walk = walk-ended b (asks_in c x) (now_in c.asked state) e.seat.number (told.walk ∙ over_ends (walk_left b e.seat) e.over);
+          asks = ap (asks_in c x e.seat.number) settled ∙ done.0;
+        })
 
     -- a lock that another has
     pub waits-for : (l : LockId) (h : ℕ) → IsBlockedAt x place l h → WaitsFor c.asked g.tells state caller l h

@@ -6,7 +6,7 @@ use Rattle.i2c_base.specs.Transfer.{TransferView}
 use Rattle.bus_laws.specs.Ready.{IsStuck}
 use Rattle.bus_spec.specs.Readings.{holder as holder_of}
 use Rattle.bus_spec.specs.Stepwise.{IsNext}
-use Rattle.bus_spec.specs.Walk.{Take}
+use Rattle.bus_spec.specs.Walk.{Take, Ends}
 use Rattle.seg_locks.specs.Locks.{holder_in}
 use Rattle.bus_core.specs.Kept.{HasTurn}
 use Rattle.bus_core.specs.State.{CoreState, asks_in_state, now_in, has_caller}
@@ -34,6 +34,11 @@ pub record WaitsFor {S : Type 0} (asked : S → List Reply → Option TransferVi
 abbrev pub HasUsedUp : {S : Type 0} → (S → List Reply → Option TransferView) → CoreState S → ℕ → Type 0
 HasUsedUp asked v caller = (i : ℕ) (taken : List Reply) → slice_get v.taken i ≡ Some (caller, taken)
     → asks_in_state asked v caller taken ≡ None
+
+-- by the journal this caller's walk has ended, and it asks for nothing more
+pub record IsOverIn {S : Type 0} (asked : S → List Reply → Option TransferView) (v : CoreState S) (caller : ℕ) : Type 0 where
+  pub walk : (now_in asked v).walk caller ≡ Ends
+  pub asks : asks_in_state asked v caller ((now_in asked v).settled caller) ≡ None
 
 -- this caller can make a step, and none below it can
 pub record IsLeast {S : Type 0} (asked : S → List Reply → Option TransferView) (tells : Bool) (v : CoreState S) (caller : ℕ) : Type 0 where

@@ -3,7 +3,7 @@ ghost use Rattle.std.specs.Prelude.{◌≡◌, ℕ, true, IsTrue, [], All, None,
 ghost use Rattle.i2c_base.specs.declared.ids.LockId.{LockId};
 ghost use Rattle.bus_laws.specs.Following.{GoesOnBy};
 ghost use Rattle.core_laws.specs.Opens.{AreFree};
-ghost use Rattle.bus_core.specs.Answers.{HasAdded, WaitsFor, HasUsedUp, IsLeast};
+ghost use Rattle.bus_core.specs.Answers.{HasAdded, WaitsFor, HasUsedUp, IsOverIn, IsLeast};
 ghost use Rattle.bus_core.specs.Opens.{MayOpen, opening_of, uncalled, untaken};
 ghost use Rattle.bus_core.specs.Places.{scripts_of};
 ghost use Rattle.bus_core.specs.State.{AllThrough, CoreTold, has_caller, roots_in, worlds_of, logs_of, taken_of};
@@ -95,6 +95,7 @@ impl<'b, P: Port, C: Caller> BusCore<'b, P, C> {
         ensures stepped { result ≡ answer.Stepped → HasAdded C.asked P.tells caller self.old self.new }
         ensures blocked { (l : LockId) (h : ℕ) → result ≡ answer.Blocked l h → (self.new ≡ self.old) × WaitsFor C.asked P.tells self.old caller l h }
         ensures finished { result ≡ answer.Finished → (self.new ≡ self.old) × HasUsedUp C.asked self.old caller }
+        ensures over { IsTrue P.tells → result ≡ answer.Finished → IsOverIn C.asked self.old caller }
     {
         match self.parts.places[usize::from(caller)] {
             Some(place) => step(&mut self.parts, usize::from(place)),

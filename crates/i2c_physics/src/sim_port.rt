@@ -42,7 +42,7 @@ const _: () = prove!(size_of::<PortCall>() <= 8);
 
 impl SimPort {
     /// The port of this root, in the root's opening world.
-    pub(crate) fn open(alloc: Global, board: &Accepted, root: SegId) -> Result<Self, AllocError>
+    pub fn open(alloc: Global, board: &Accepted, root: SegId) -> Result<Self, AllocError>
         ensures { IfOk result (λ p. p ≡ opening_port board.now root) }
     {
         let log = Vec::with_capacity(alloc, MOST_CALLS)?;
@@ -55,14 +55,14 @@ impl SimPort {
     }
 
     /// How many calls were made on it.
-    pub(crate) fn calls(&self) -> usize
+    pub fn calls(&self) -> usize
         ensures { result ≡ length self.now.log }
     {
         self.log.len()
     }
 
     /// A start goes out. What it is answered.
-    pub(crate) fn call_start(&mut self, addr: Addr, reading: bool) -> Answer
+    pub fn call_start(&mut self, addr: Addr, reading: bool) -> Answer
         requires { length self.old.log < MOST_CALLS }
         ensures answer { result ≡ answer self.old.world addr reading }
         ensures kind { AnswersStart result }
@@ -75,7 +75,7 @@ impl SimPort {
     }
 
     /// A byte is put. Whether someone acknowledges it.
-    pub(crate) fn call_put(&mut self, byte: u8) -> bool
+    pub fn call_put(&mut self, byte: u8) -> bool
         requires { length self.old.log < MOST_CALLS }
         ensures taken { result ≡ takes self.old.world byte }
         ensures after { self.new ≡ called self.old (call.Put byte) (phase_put (takes self.old.world byte)) }
@@ -87,7 +87,7 @@ impl SimPort {
     }
 
     /// A byte is read, and acknowledged or not.
-    pub(crate) fn call_get(&mut self, ack: bool) -> u8
+    pub fn call_get(&mut self, ack: bool) -> u8
         requires { length self.old.log < MOST_CALLS }
         ensures given { result ≡ gives self.old.world }
         ensures after { self.new ≡ called self.old (call.Get ack) (phase_got ack) }
@@ -98,7 +98,7 @@ impl SimPort {
         byte
     }
 
-    pub(crate) fn call_stop(&mut self)
+    pub fn call_stop(&mut self)
         requires { length self.old.log < MOST_CALLS }
         ensures { self.new ≡ called self.old call.Stop Idle }
     {
@@ -107,7 +107,7 @@ impl SimPort {
         self.phase = Phase::Idle;
     }
 
-    pub(crate) fn call_line(&mut self, mux: MuxId, level: u8)
+    pub fn call_line(&mut self, mux: MuxId, level: u8)
         requires { length self.old.log < MOST_CALLS }
         ensures { self.new ≡ called self.old (call.Line mux level) Idle }
     {
@@ -117,7 +117,7 @@ impl SimPort {
     }
 
     /// A call fails: it acts as a stop.
-    pub(crate) fn call_fault(&mut self)
+    pub fn call_fault(&mut self)
         requires { length self.old.log < MOST_CALLS }
         ensures { self.new ≡ called self.old call.Fault Idle }
     {

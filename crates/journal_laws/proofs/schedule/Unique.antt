@@ -105,7 +105,7 @@ turn_is t u callers entries =
 
 module _ (b : BoardView) (tree : IsTree b) (plain : IsPlainBoard b) (lines : LinesAreLocked b) (asks : Asks) (some : AsksForMessages asks)
     (callers : ℕ) where
-  turn_steps : (past : List Entry) → IsStepwise b callers asks past → (t : Turn) → IsTurn b callers asks past t
+  pub turn_steps : (past : List Entry) → IsStepwise b callers asks past → (t : Turn) → IsTurn b callers asks past t
       → IsStepwise b callers asks (past_after past t)
   turn_steps past steps t is =
       elim is [
@@ -194,7 +194,7 @@ module _ (b : BoardView) (tree : IsTree b) (plain : IsPlainBoard b) (lines : Lin
         (subst (λ (es : List Entry). (now b asks (reverse es ++ past)).due ≡ None) o.entries none2) in
         no_settle_behind past steps w.entry w.may w.steps none w.settle w.may_settle w.settles (w.own_settle ∙ sym w.own)
 
-    one_turn : t1 ≡ t2
+    pub one_turn : t1 ≡ t2
     one_turn =
         elim is1 [
           | inl o1 ↦ elim is2 [ inl o2 ↦ single o1 o2 | inr w2 ↦ absurd (first_alone o1 w2) ]

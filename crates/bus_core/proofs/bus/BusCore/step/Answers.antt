@@ -1,14 +1,14 @@
 use Rattle.std.proofs.Common.{◌≡◌, ℕ, ◌<◌, true, length, Some, None, sym, ◌∙◌, ap, subst, arith}
 use Rattle.std.specs.Prelude.{vec_len}
 use Rattle.std.proofs.lemmas.Option.{slice_get_within}
-use Rattle.bus_core.specs.Answers.{HasAdded, WaitsFor, HasUsedUp}
+use Rattle.bus_core.specs.Answers.{HasAdded, WaitsFor, HasUsedUp, IsOverIn}
 use Rattle.bus_core.specs.Kept.{HasCome, HasStepped}
 use Rattle.bus_core.specs.State.{CoreState, CoreTold, has_caller, roots_in, state_of}
 use Rattle.bus_core.specs.Steps.{IsBlockedAt, HasEndedAt}
 use Rattle.bus_core.specs.declared.parts.CoreParts.{CoreParts}
 use Rattle.bus_core.proofs.Advances.{within as is_within, has-made}
 use Rattle.bus_core.proofs.SeatLemmas.{number_read}
-use Rattle.bus_core.proofs.Told.{added, came-by, core-after, core-told, opening-same, placed-of, roots-same, used-up, waits-for}
+use Rattle.bus_core.proofs.Told.{added, came-by, core-after, core-told, over-told, opening-same, placed-of, roots-same, used-up, waits-for}
 use Rattle.bus_core.proofs.bus.BusCore.step.Goals as goal
 
 pub index-requires : goal.index-requires
@@ -92,6 +92,11 @@ returns-in-Some g c =
                 (used-up g.P.Port g.C.Caller x core c.args.caller c.in-Some.place at
                 (subst (λ (k : ℕ). HasEndedAt x k) c.from-in-Some.ensures e.1)),
           );
+      over = λ tell is.
+          let e = c.step.ensures.finished is in
+          subst (λ (v : CoreState _). IsOverIn asked v c.args.caller) c.self.view_is
+          (over-told g.P.Port g.C.Caller x core c.args.caller c.in-Some.place at
+          (subst (λ (k : ℕ). HasEndedAt x k) c.from-in-Some.ensures e.1) tell);
     }
 
 pub returns-in-None-clause-told : goal.returns-in-None-clause-told
@@ -100,6 +105,16 @@ returns-in-None-clause-told g c tell = subst (λ (v : CoreState _). CoreTold g.C
 
 pub returns-in-None-clause-finished : goal.returns-in-None-clause-finished
 returns-in-None-clause-finished g c is =
+    let x = c.self.inside.parts in
+    let place = placed-of g.P.Port g.C.Caller x c.self.invariant c.args.caller
+    (subst (λ (v : CoreState _). has_caller v.opening.scripts c.args.caller ≡ true) (sym c.self.view_is) c.requires.has) in
+    let low = slice_get_within x.places.items c.args.caller (Some place.place) place.at in
+    let at = number_read x.places.items c.args.caller c.from.result c.index.result.now None c.from.ensures low c.index.ensures c.in-None.is
+    in
+    absurd (let f : Some None ≡ Some (Some place.place) = sym at ∙ place.at in cc)
+
+pub returns-in-None-clause-over : goal.returns-in-None-clause-over
+returns-in-None-clause-over g c tell is =
     let x = c.self.inside.parts in
     let place = placed-of g.P.Port g.C.Caller x c.self.invariant c.args.caller
     (subst (λ (v : CoreState _). has_caller v.opening.scripts c.args.caller ≡ true) (sym c.self.view_is) c.requires.has) in

@@ -1,0 +1,9 @@
+-- Gaps that are used up call by call.
+pub mod PortLemmas
+pub mod LineLemmas
+pub mod StepLemmas
+pub mod OverLemmas
+pub mod CheckLemmas
+pub mod GapLemmas
+pub mod FormLemmas
+pub mod SectionLemmas

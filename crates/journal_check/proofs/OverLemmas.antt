@@ -1,0 +1,80 @@
+-- A caller that is over by the journal has no next step. No induction.
+use Rattle.std.proofs.Common.{◌≡◌, ℕ, ◌≤◌, List, cond, Option, Some, None, reverse, IsTrue, Bool, refl, sym, ◌∙◌, ap, subst, inl, inr}
+use Rattle.i2c_base.specs.declared.reply.Reply.{Reply}
+use Rattle.i2c_base.specs.Transfer.{TransferView}
+use Rattle.i2c_base.specs.Limits.{MOST_CALLERS}
+use Rattle.bus_spec.specs.Grammar.{seen, is_over, first_act}
+use Rattle.bus_spec.specs.Past.{begun, current}
+use Rattle.bus_spec.specs.Walk.{WalkTree}
+use Rattle.bus_laws.specs.Ready.{HasFinished}
+use Rattle.bus_laws.proofs.past.Known.{never, callers-known}
+use Rattle.bus_spec.specs.Stepwise.{IsStepwise}
+use Rattle.bus_core.specs.Opening.{Opening}
+use Rattle.journal_check.specs.Steps.{asks_on, IsSteady}
+use Rattle.journal_check.specs.Checks.{HasFollowed}
+use Rattle.journal_check.specs.Opens.{IsFirstOpen}
+use Rattle.journal_check.specs.Faults.{IsFirstLeft}
+use Rattle.bus_core.specs.Answers.{IsOverIn, IsStuckIn, WaitsFor}
+use Rattle.bus_core.specs.declared.steps.StepAnswer.{StepAnswer}
+use Rattle.bus_core.specs.declared.steps.StepAnswer.TheVariants as answer
+use Rattle.bus_core.specs.Kept.{HasTurn}
+use Rattle.bus_core.specs.State.{CoreState, asks_in_state, now_in}
+use Rattle.i2c_base.specs.declared.entry.Entry.{Entry}
+use Rattle.i2c_base.specs.declared.ids.LockId.{LockId}
+use Rattle.bus_spec.specs.Walk.{Take}
+
+module _ {S : Type 0} (asked : S → List Reply → Option TransferView) (v : CoreState S) (caller : ℕ) where
+  pub over-finished : IsOverIn asked v caller → HasFinished v.opening.board (asks_in_state asked v) (reverse v.journal.entries) caller
+  over-finished over =
+      ap (λ (w : WalkTree). first_act (seen (now_in asked v).slot
+      (cond (is_over w) (begun v.opening.board (asks_in_state asked v caller ((now_in asked v).settled caller))) w))) over.walk
+      ∙ ap (λ (t : Option TransferView). first_act (seen (now_in asked v).slot (begun v.opening.board t))) over.asks
+
+  pub over-stuck : IsOverIn asked v caller → IsStuckIn asked v caller
+  over-stuck over = inr (over-finished over)
+
+  -- who makes a step, or waits for a lock, isn't over
+  pub stepped-not_over : (new : List Entry) → HasTurn v.opening.board (asks_in_state asked v) caller v.journal.entries new → IsOverIn asked v caller → ⊥
+  stepped-not_over new made over =
+      elim made.comes [
+        | inl one ↦ never v.opening.board MOST_CALLERS (asks_in_state asked v) (now_in asked v) one.entry one.may
+            (ap (λ (k : ℕ). first_act (current v.opening.board (asks_in_state asked v) (now_in asked v) k)) (one.own ∙ made.own) ∙ over-finished over)
+        | inr two ↦ never v.opening.board MOST_CALLERS (asks_in_state asked v) (now_in asked v) two.entry two.may
+            (ap (λ (k : ℕ). first_act (current v.opening.board (asks_in_state asked v) (now_in asked v) k)) (two.own ∙ made.own) ∙ over-finished over)
+      ]
+
+  pub waiting-not_over : (tells : Bool) → IsTrue tells → (l : LockId) (h : ℕ) → WaitsFor asked tells v caller l h → IsOverIn asked v caller → ⊥
+  waiting-not_over tells tell l h waits over = (let f : Some (Take l) ≡ None = sym (waits.next tell) ∙ over-finished over in cc)
+
+-- an answer that isn't Finished
+pub not-finished : {P : Type 0} (r : StepAnswer) → (r ≡ answer.Finished → ⊥) → (r ≡ answer.Stepped → P)
+    → ((l : LockId) (h : ℕ) → r ≡ answer.Blocked l h → P) → P
+not-finished answer.Stepped other stepped blocked = stepped refl
+not-finished (answer.Blocked l h) other stepped blocked = blocked l h refl
+not-finished answer.Finished other stepped blocked = absurd (other refl)
+
+-- a past of all callers is one of those that ask for anything
+pub steady-few : {S : Type 0} (asked : S → List Reply → Option TransferView) (o : Opening S) (es : List Entry) (count : ℕ)
+    → ((c : ℕ) → count ≤ c → (rs : List Reply) → asks_on asked o c rs ≡ None) → IsSteady asked o es
+    → IsStepwise o.board count (asks_on asked o) (reverse es)
+steady-few asked o es count silent steady = (callers-known o.board MOST_CALLERS count (asks_on asked o) silent (reverse es) steady.stepwise).0
+
+-- a core that has followed a journal, with what the callers ask for as it was opened
+module _ {S : Type 0} (asked : S → List Reply → Option TransferView) (o : Opening S) (es : List Entry) (v : CoreState S) (f : HasFollowed asked o es v) where
+  pub on-opening : (P : Opening S → Type 0) → P o → P v.opening
+  on-opening P p = subst P (sym f.opening) p
+
+  pub steady-there : IsSteady asked v.opening v.journal.entries
+  steady-there = subst (λ (xs : List Entry). IsSteady asked v.opening xs) (sym f.entries) (on-opening (λ (x : Opening S). IsSteady asked x es) f.steady)
+
+  pub from-there : (P : Opening S → List Entry → Type 0) → P v.opening v.journal.entries → P o es
+  from-there P p = subst (P o) f.entries (subst (λ (x : Opening S). P x v.journal.entries) f.opening p)
+
+  pub first-left : (count c : ℕ) → IsFirstOpen asked v count c → IsFirstLeft o.board count (asks_on asked o) es c
+  first-left count c first =
+      from-there (λ x xs. IsFirstLeft x.board count (asks_on asked x) xs c)
+      (record {
+        low = first.low;
+        not_ended = λ done. first.not_over (record { walk = done.0; asks = done.1 });
+        before = λ d less. ((first.before d less).walk, (first.before d less).asks);
+      })

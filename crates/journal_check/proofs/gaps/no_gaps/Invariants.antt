@@ -1,0 +1,7 @@
+use Rattle.std.proofs.Common.{◌≡◌, [], length}
+use Rattle.i2c_base.specs.Board.{BoardView}
+use Rattle.journal_check.specs.Gaps.{AreGapsOf}
+use Rattle.journal_check.proofs.gaps.no_gaps.Given as goal
+
+abbrev pub invariant-loop : goal.invariant-loop
+invariant-loop l = (length l.gaps.items ≡ l.counter) × ((b : BoardView) → AreGapsOf b [] l.gaps.items)

@@ -1,0 +1,14 @@
+use Rattle.std.proofs.Common.{◌≡◌}
+use Rattle.bus_core.specs.State.{roots_in}
+use Rattle.bus_journal.specs.Told.{entries_of}
+use Rattle.journal_check.proofs.StepLemmas.{IsFollowing}
+use Rattle.journal_check.proofs.steps.follow_told.Given as goal
+
+abbrev pub invariant-loop-rest : goal.invariant-loop-rest
+invariant-loop-rest g l = record {
+  follows : IsFollowing g.C.Caller.asked l.fn.core.opening l.lines (entries_of l.lines) l.core l.rest;
+  roots : roots_in l.core ≡ roots_in l.fn.core;
+}
+
+abbrev pub decreases-loop-rest : goal.decreases-loop-rest
+decreases-loop-rest g l = l.core.journal.room
