@@ -1,5 +1,5 @@
 //! One bit on the lines, and eight of them.
-ghost use Rattle.std.specs.Prelude.{◌≡◌, ℕ, IsTrue, false};
+ghost use Rattle.std.specs.Prelude.{◌≡◌, ℕ, IfOk, IsTrue, false};
 ghost use Rattle.wire_spec.specs.Wires.{bits};
 ghost use Rattle.wire_spec.specs.Bus.{pulled, await, bit_step, bit_steps};
 ghost use Rattle.i2c_bits.specs.Wiring.{the_table, mask_at, came, came_byte, LooksMade, LooksTell};
@@ -19,6 +19,8 @@ fn wait<L: Lines>(lines: &mut L, looks: u8) -> Result<bool, Low>
     ensures looks { LooksMade looks result (L.wire lines.old) (L.wire lines.new) }
     ensures scl { (L.wire lines.new).scl ≡ (L.wire lines.old).scl }
     ensures sda { (L.wire lines.new).sda ≡ (L.wire lines.old).sda }
+    ensures seen { IfOk result (λ level. (L.wire lines.new).sda_high ≡ level) }
+    ensures pulses { (L.wire lines.new).pulses ≡ (L.wire lines.old).pulses }
 {
     let mut left = looks;
     while left > 0 {
@@ -41,6 +43,8 @@ pub fn release<L: Lines>(lines: &mut L, data_low: bool, looks: u8) -> Result<boo
     ensures looks { LooksMade looks result (L.wire lines.old) (L.wire lines.new) }
     ensures scl { (L.wire lines.new).scl ≡ false }
     ensures sda { (L.wire lines.new).sda ≡ data_low }
+    ensures seen { IfOk result (λ level. (L.wire lines.new).sda_high ≡ level) }
+    ensures pulses { (L.wire lines.new).pulses ≡ (L.wire lines.old).pulses }
 {
     lines.pull(false, data_low);
     wait(lines, looks)

@@ -35,6 +35,7 @@ class_of status.Write = Silent
 class_of status.Memory = Silent
 class_of status.Rig = NoRig
 class_of (status.Schedule word) = Refused
+class_of (status.NoRoot bus) = Refused
 
 abbrev pub code_of : Status → ℕ
 code_of status.Ok = 0
@@ -47,6 +48,7 @@ code_of status.Write = 6
 code_of status.Memory = 7
 code_of status.Rig = 8
 code_of (status.Schedule word) = 9
+code_of (status.NoRoot bus) = 12
 
 -- whose table a fault is in, or which tables are too few or too many
 abbrev pub table_text : TableName → List ℕ
@@ -101,3 +103,4 @@ refusal_text status.Write name = []
 refusal_text status.Memory name = []
 refusal_text status.Rig name = codes "cannot plug the rig\n"
 refusal_text (status.Schedule word) name = codes "schedule word " ++ (decimal word ++ codes "\n")
+refusal_text (status.NoRoot bus) name = codes "no root bus " ++ (decimal bus ++ codes "\n")

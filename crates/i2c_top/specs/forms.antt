@@ -9,36 +9,46 @@ use Rattle.i2c_top.specs.Traces.{Outside, KeepsBut}
 use Rattle.i2c_top.specs.declared.status.Status.{Status}
 use Rattle.i2c_top.specs.declared.status.Status.TheVariants as status
 use Rattle.i2c_gen.specs.declared.plan.Plan.{Plan}
+use Rattle.i2c_top.specs.declared.forms.clear.ClearAt.{ClearAt}
 use Rattle.i2c_top.specs.forms.Checks.{is_check, check_form}
+use Rattle.i2c_top.specs.forms.Clears.{clear_in, clear_form}
 use Rattle.i2c_top.specs.forms.Generations.{plan_in, gen_form}
 use Rattle.i2c_top.specs.forms.Replays.{Names, is_replay, is_run, replay_names, run_names, replay_form}
 pub mod Checks
+pub mod Clears
 pub mod Generations
 pub mod Replays
 
 -- to replay 1 to 8 scripts over a board, by the names of the files, or to run them, which is a replay without a schedule; to
--- check the board of a file; to replay what is generated
+-- check the board of a file; to replay what is generated; to cut a read off on a board, and clear its bus
 pub data Request : Type 0 where
   Replay : (names : Names) → Request
   Check : (board : List ℕ) → Request
   Generate : (plan : Plan) → Request
+  Clear : (board : List ℕ) (at : ClearAt) → Request
 
 -- the row of each
 abbrev pub form_of : Request → Form
 form_of (Replay names) = replay_form names
 form_of (Check board) = check_form board
 form_of (Generate plan) = gen_form plan
+form_of (Clear board at) = clear_form board at
+
+-- behind a plan: a read that is cut off
+abbrev pub or_clear : Option Plan → List (List ℕ) → Option Request
+or_clear (Some plan) words = Some (Generate plan)
+or_clear None words = option_map (Clear (word_at words 1)) (clear_in words)
 
 -- what the words ask for, where they are in a form in force
 abbrev pub request_in : List (List ℕ) → Option Request
 request_in words =
     if is_replay words then Some (Replay (replay_names words))
     else if is_run words then Some (Replay (run_names words))
-    else if is_check words then Some (Check (word_at words 1)) else option_map Generate (plan_in words)
+    else if is_check words then Some (Check (word_at words 1)) else or_clear (plan_in words) words
 
 -- the line on usage
 abbrev pub usage_text : List ℕ
-usage_text = codes "usage: i2cbus run BOARD SCRIPT... | replay BOARD SCHEDULE SCRIPT... | check BOARD | gen SEED ROOTS LINES\n"
+usage_text = codes "usage: i2cbus run BOARD SCRIPT... | replay BOARD SCHEDULE SCRIPT... | check BOARD | gen SEED ROOTS LINES | clear BOARD BUS ADDR CUT\n"
 
 -- words in no form are turned down by the line on usage, or a front of it where the output failed; nothing is read or plugged
 pub record IsTurnedDown (old new : Outside) (result : Status) : Type 0 where

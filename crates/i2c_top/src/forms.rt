@@ -6,13 +6,17 @@ ghost use Rattle.i2c_top.specs.Traces.{outside, output_view};
 ghost use Rattle.i2c_top.specs.declared.status.Status.TheVariants as status;
 
 mod check;
+mod clear;
 mod generate;
 mod replay;
+mod spelled;
 
 use crate::Status;
 use crate::ending::write_due;
 pub use check::check_call;
 use check::is_check;
+use clear::clear_in;
+pub use clear::{ClearAt, clear_call};
 pub use generate::gen_call;
 use generate::plan_in;
 use i2c_outside::{Gate, Rig, Shelf, Sink};
@@ -23,7 +27,7 @@ use std::sync::Wait;
 use std::thread::Threads;
 
 const USAGE: &[u8] =
-    b"usage: i2cbus run BOARD SCRIPT... | replay BOARD SCHEDULE SCRIPT... | check BOARD | gen SEED ROOTS LINES\n";
+    b"usage: i2cbus run BOARD SCRIPT... | replay BOARD SCHEDULE SCRIPT... | check BOARD | gen SEED ROOTS LINES | clear BOARD BUS ADDR CUT\n";
 
 // Writes the line on usage.
 fn turn_down<K: Sink>(sink: &mut K) -> Status
@@ -56,6 +60,8 @@ pub fn answer<H: Threads + Wait + Sync, S: Shelf, K: Sink, R: Rig, G: Gate + Syn
         check_call(alloc, words, shelf, sink)
     } else if let Some(plan) = plan_in(words) {
         gen_call(alloc, &plan, sink, rig)
+    } else if let Some(at) = clear_in(words) {
+        clear_call(alloc, words, &at, shelf, sink)
     } else {
         turn_down(sink)
     }

@@ -116,6 +116,7 @@ fn push_refusal(out: &mut Vec<u8>, status: Status, name: &[u8]) -> Result<(), No
         Status::Read(_) => push_between(out, b"cannot read ", name, b"\n"),
         Status::Rig => push_bytes(out, b"cannot plug the rig\n"),
         Status::Schedule(word) => { push_around(out, b"schedule word ", u64::from(word), b"\n") }
+        Status::NoRoot(bus) => push_around(out, b"no root bus ", u64::from(bus), b"\n"),
     }
 }
 

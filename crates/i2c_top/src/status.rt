@@ -39,6 +39,8 @@ pub enum Status {
     Rig,
     /// The first word of the schedule, from 0, that is no caller's number.
     Schedule(u32),
+    /// The bus of this number is no root of the board.
+    NoRoot(u16),
 }
 
 impl Status {
@@ -57,6 +59,7 @@ impl Status {
             Status::Memory => 7,
             Status::Rig => 8,
             Status::Schedule(_) => 9,
+            Status::NoRoot(_) => 12,
         }
     }
 }

@@ -54,8 +54,8 @@ fn within(low: u64, high: u64, number: u64) -> Option<u64>
     }
 }
 
-// The number that a word names, where it is from low to high.
-fn number_named(word: &str, low: u64, high: u64) -> Option<u64>
+/// The number that a word names, where it is from low to high.
+pub fn number_named(word: &str, low: u64, high: u64) -> Option<u64>
     ensures value { result ≡ number_named low high word.now }
     ensures low { IfSome result (λ n. low ≤ n) }
     ensures high { IfSome result (λ n. n ≤ high) }

@@ -30,6 +30,7 @@ loop-left-preserved g c =
       few = omega (arith, i.few);
       scl = ap (λ x. x.scl) look.ensures.wire ∙ i.scl;
       sda = ap (λ x. x.sda) look.ensures.wire ∙ i.sda;
+      pulses = ap (λ x. x.pulses) look.ensures.wire ∙ i.pulses;
       counted = subst (λ (n : ℕ). Counted n (wire c.args.lines.now) (wire look.new.self)) (sym next)
           (counted_next (wire c.args.lines.now) (wire c.loop-left.lines) (wire look.new.self) made look.result.0 look.result.1
           look.ensures.wire c.if-scl.false (omega (arith, i.few, c.loop-left-test.true, c.ranges.looks.fits)) i.counted);

@@ -15,6 +15,7 @@ invariant-loop-left g l =
       few : l.left ≤ l.looks;
       scl : (wire l.lines).scl ≡ (wire l.fn.lines).scl;
       sda : (wire l.lines).sda ≡ (wire l.fn.lines).sda;
+      pulses : (wire l.lines).pulses ≡ (wire l.fn.lines).pulses;
       counted : Counted (l.looks - l.left) (wire l.fn.lines) (wire l.lines);
     }
 

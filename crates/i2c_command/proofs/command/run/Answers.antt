@@ -20,4 +20,5 @@ returns g c =
       success = c.top.ensures.success;
       checked = c.top.ensures.checked;
       generated = c.top.ensures.generated;
+      cleared = c.top.ensures.cleared;
     }

@@ -1,0 +1,333 @@
+-- The rise of the acknowledge clock of a read that is cut off: in time, or so late that all have let SDA go.
+use Rattle.std.proofs.Common.{◌≡◌, ℕ, zero, suc, ◌+◌, ◌-◌, ◌/◌, ◌<◌, ◌≤◌, Bool, true, false, cond, List, [], ◌∷◌, map, refl, ap, sym, ◌∙◌, arith, subst}
+use Rattle.std.specs.Prelude.{not, ◌||◌, ◌==◌}
+use Rattle.std.specs.List.{AllByRecursion}
+use Rattle.std.proofs.lemmas.Bool.Decides.{nat_tests}
+use Rattle.i2c_base.specs.Bytes.{IsByte}
+use Rattle.i2c_base.specs.Table.{Table}
+use Rattle.i2c_base.specs.declared.event.Event.TheVariants.{Start}
+use Rattle.i2c_spec.specs.Targets.{IsFairTable}
+use Rattle.i2c_spec.specs.World.{is_ack, has_heard}
+use Rattle.wire_spec.specs.declared.mode.Mode.TheVariants.{Out, In, Give}
+use Rattle.wire_spec.specs.Wires.{Site, Bit, site_of, shifted, rise, fall, tick, begin, hears, other, stretch, is_named, is_reading, next_of, entered, acks_start, stands}
+use Rattle.wire_spec.specs.Roots.{some_one, pulls_line, sda, where_joined, at}
+use Rattle.wire_spec.specs.Bus.{Mask, Counts, one_edge, Bus, Came, holds_line, scl_level, sda_level, each, rises, pulled, looked, await, bus_of, came_up, gave_up}
+use Rattle.wire_spec.specs.Started.{calling, started, stays, stays_if, late, late_if, late_bus, rose, answers_so}
+use Rattle.wire_spec.specs.Calls.{released}
+use Rattle.wire_spec.proofs.Roots.{map_step, map_map, some_map}
+use Rattle.wire_spec.proofs.Calm.{looks_up, goes_down, sets_data}
+use Rattle.wire_spec.proofs.AckClock.{waiting, waiting_if, acknowledges, acknowledges_if, wait_bus, wait_level, let_go, goes_on, settled, settled_if, settled_all, by_busy, or_left, or_right}
+use Rattle.wire_spec.proofs.SlowClock.{slow_clock}
+use Rattle.wire_spec.proofs.StartClocks.{stays_free}
+use Rattle.wire_spec.proofs.StartLemmas.{ack_all, not_slow}
+use Rattle.wire_spec.proofs.LateStops.{resting, resting_if, held, held_if, left_hold}
+use Rattle.bus_clear.specs.Pulls.{cut_rise}
+use Rattle.bus_clear.proofs.AddressLemmas.{Frees, frees_at_once}
+
+-- ---- in time
+abbrev started_if : {X : Type 0} → Table X → ℕ → Site X → Bool → Bool → Site X
+started_if t byte s jd h = cond jd (cond h (hears t s (is_reading byte)) (other t s)) s
+
+gone : (n : ℕ) → not (n == 0) ≡ false → n ≡ 0
+gone n h = grind (arith, nat_tests)
+
+fall_one : {X : Type 0} (t : Table X) (byte r j : ℕ) (a : ℕ) (jd e h : Bool) (x : X) → stays_if t byte j (site_of a jd e x) jd h ≡ false
+    → where_joined fall (waiting_if t byte r j (site_of a jd e x) jd h) ≡ settled_if t byte (site_of a jd e x) jd h
+fall_one t byte r j a true e true x done =
+    let s = site_of a true e x in
+    ap (λ n. stands (hears t s (is_reading byte)) (entered (next_of (acks_start t s (is_reading byte)) (is_reading byte))) n)
+    (gone (stretch t s (is_reading byte) - j) done)
+fall_one t byte r j a true e false x done = refl
+fall_one t byte r j a false e h x done = refl
+
+fall_all : {X : Type 0} (t : Table X) (byte r j : ℕ) (ss : List (Site X)) → some_one (stays t byte j) ss ≡ false
+    → map (where_joined fall) (map (waiting t byte r j) ss) ≡ map (settled t byte) ss
+fall_all t byte r j [] done = refl
+fall_all t byte r j (s ∷ ss) done =
+    ap (λ b. b ∷ map (where_joined fall) (map (waiting t byte r j) ss))
+    (fall_one t byte r j s.addr s.joined s.heard (is_named byte s) s.state (or_left _ _ done))
+    ∙ ap (λ bs. settled t byte s ∷ bs) (fall_all t byte r j ss (or_right _ _ done))
+
+pulls_one : {X : Type 0} (t : Table X) (byte r j : ℕ) (a : ℕ) (jd e h : Bool) (x : X)
+    → pulls_line t (waiting_if t byte r j (site_of a jd e x) jd h) ≡ acknowledges_if t byte (site_of a jd e x) jd h
+pulls_one t byte r j a true e true x = refl
+pulls_one t byte r j a true e false x = refl
+pulls_one t byte r j a false e h x = refl
+
+begin_one : {X : Type 0} (t : Table X) (byte r j : ℕ) (a : ℕ) (jd e h : Bool) (x : X)
+    → where_joined begin (waiting_if t byte r j (site_of a jd e x) jd h) ≡ calling 8 0 (started_if t byte (site_of a jd e x) jd h)
+begin_one t byte r j a true e true x = refl
+begin_one t byte r j a true e false x = refl
+begin_one t byte r j a false e h x = refl
+
+-- the lines at the rise: nobody holds SCL any longer
+pub record InTime {X : Type 0} (t : Table X) (byte : ℕ) (ss : List (Site X)) (w : Bus X) : Type 0 where
+  pub left : ℕ
+  pub made : ℕ
+  pub counts : Counts
+  pub is : w ≡ wait_bus t byte left made ss counts
+  pub quiet : some_one (stays t byte made) ss ≡ false
+
+module _ {X : Type 0} (t : Table X) (byte : ℕ) (ss : List (Site X)) where
+  waits_by : (r j n : ℕ) (c : Counts) → suc r + j ≡ 65 → r ≤ n → some_one (stays t byte 64) ss ≡ false
+      → (b : Bool) → some_one (stays t byte j) ss ≡ b
+      → InTime t byte ss (await t 0 (suc n) (wait_bus t byte (suc r) j ss (rose (some_one (stays t byte j) ss) c))).bus
+  waits_by r j n c sum le quick false is =
+      let d : Counts = rose (some_one (stays t byte j) ss) c in
+      record {
+        left = suc r;
+        made = j;
+        counts = d;
+        is = ap (λ (x : Came X). x.bus) (looks_up t 0 n (wait_bus t byte (suc r) j ss d) (wait_level t byte (suc r) j ss d ∙ ap not is));
+        quiet = is;
+      }
+  waits_by zero j n c sum le quick true is =
+      let e : j ≡ 64 = omega (arith, sum) in
+      let p : true ≡ false = sym is ∙ (ap (λ m. some_one (stays t byte m) ss) e ∙ quick) in cc
+  waits_by (suc r) j zero c sum le quick true is = absurd (omega (arith, le))
+  waits_by (suc r) j (suc n) c sum le quick true is =
+      subst (λ (x : Came X). InTime t byte ss x.bus) (sym (goes_on t byte 0 (suc n) r j ss c is))
+      (waits_by r (suc j) n c (omega (arith, sum)) (omega (arith, le)) quick (some_one (stays t byte (suc j)) ss) refl)
+
+  goes : (mask : Mask X) (c : Counts)
+      → pulled t mask (bus_of true false (map (waiting t byte 65 0) ss) c) false false ≡ wait_bus t byte 65 0 ss (rose (some_one (stays t byte 0) ss) c)
+  unfolding pulled
+  goes mask c = let_go t byte 65 0 ss c
+
+  rise_is : (mask : Mask X) (low : Bool) (c : Counts)
+      → cut_rise t mask true (bus_of true low (map (waiting t byte 65 0) ss) c)
+      ≡ (await t 0 255 (wait_bus t byte 65 0 ss (rose (some_one (stays t byte 0) ss) c))).bus
+  unfolding cut_rise
+  rise_is mask low c =
+      ap (λ u. (await t 0 255 (pulled t mask u false false)).bus) (sets_data t mask (map (waiting t byte 65 0) ss) c low false)
+      ∙ ap (λ u. (await t 0 255 u).bus) (goes mask c)
+
+  pub ninth_in_time : (mask : Mask X) (low : Bool) (c : Counts) → some_one (stays t byte 64) ss ≡ false
+      → InTime t byte ss (cut_rise t mask true (bus_of true low (map (waiting t byte 65 0) ss) c))
+  ninth_in_time mask low c quick =
+      subst (InTime t byte ss) (sym (rise_is mask low c))
+      (waits_by 64 0 254 c (omega arith) (omega arith) quick (some_one (stays t byte 0) ss) refl)
+
+  -- letting go what is let go
+  pub still : (mask : Mask X) (w : Bus X) → InTime t byte ss w → pulled t mask w false false ≡ w
+  still mask w i =
+      ap (λ u. pulled t mask u false false) i.is
+      ∙ (stays_free t mask (map (waiting t byte i.left i.made) ss) i.counts ∙ sym i.is)
+
+  pub in_time_up : (w : Bus X) → InTime t byte ss w → scl_level w ≡ true
+  in_time_up w i = ap scl_level i.is ∙ (wait_level t byte i.left i.made ss i.counts ∙ ap not i.quiet)
+
+  -- SDA is low where one acknowledges
+  pub in_time_level : (w : Bus X) → InTime t byte ss w
+      → sda_level t w ≡ not (some_one (answers_so t is_ack (byte / 2) (is_reading byte)) ss)
+  in_time_level w i =
+      ap (sda_level t) i.is
+      ∙ ap not (some_map (waiting t byte i.left i.made) (pulls_line t) (acknowledges t byte)
+      (λ s. pulls_one t byte i.left i.made s.addr s.joined s.heard (is_named byte s) s.state) ss ∙ ack_all t byte ss)
+
+  -- a start and a stop there
+  pub in_time_frees : (mask : Mask X) (w : Bus X) → InTime t byte ss w
+      → some_one (answers_so t is_ack (byte / 2) (is_reading byte)) ss ≡ false → Frees t mask 0 true (map (started t byte) ss) w
+  in_time_frees mask w i none =
+      let bs : List (Bit X) = map (waiting t byte i.left i.made) ss in
+      subst (Frees t mask 0 true (map (started t byte) ss)) (sym i.is)
+      (frees_at_once t mask bs (map (started t byte) ss) i.counts
+      (map_step (waiting t byte i.left i.made) (λ s. calling 8 0 (started t byte s)) _
+      (λ s. begin_one t byte i.left i.made s.addr s.joined s.heard (is_named byte s) s.state) ss
+      ∙ sym (map_map (started t byte) (calling 8 0) ss))
+      (ap scl_level (sym i.is) ∙ in_time_up w i)
+      (ap (sda_level t) (sym i.is) ∙ (in_time_level w i ∙ ap not none)))
+
+  -- and its fall
+  pub in_time_falls : IsFairTable t → (mask : Mask X) (w : Bus X) (i : InTime t byte ss w) → some_one (stays t byte 64) ss ≡ false
+      → is_reading byte ≡ true
+      → pulled t mask w true false ≡ bus_of true false (map (at (Give 8)) (map (started t byte) ss)) i.counts
+  in_time_falls fair mask w i quick reads =
+      let bs : List (Bit X) = map (waiting t byte i.left i.made) ss in
+      goes_down t mask w false (in_time_up w i)
+      ∙ (ap (λ (u : Bus X). bus_of true false (map (where_joined fall) u.targets) u.counts) i.is
+      ∙ ap (λ us. bus_of true false us i.counts)
+      (fall_all t byte i.left i.made ss i.quiet
+      ∙ (settled_all t byte ss (not_slow t fair byte ss quick)
+      ∙ ap (λ r. map (at (cond r (Give 8) (In false 8 0))) (map (started t byte) ss)) reads)))
+
+-- all are out of the message, and the lines are let go
+pub record OutOn {X : Type 0} (gs : List (Site X)) (w : Bus X) : Type 0 where
+  pub counts : Counts
+  pub is : w ≡ bus_of false false (map released gs) counts
+
+-- ---- too late: all are out of the message, and SCL comes up within 255 looks
+more_if : {X : Type 0} (high : Bool) (a b d : Came X) (w1 : Bus X) → a.up ≡ true → (b ≡ gave_up w1 → d ≡ d) → cond high a b ≡ gave_up w1 → high ≡ false
+more_if true a b d w1 up f e = sym up ∙ ap (λ (x : Came _). x.up) e
+more_if false a b d w1 up f e = refl
+
+await_more : {X : Type 0} (t : Table X) (v n m all : ℕ) (w w1 : Bus X) → all ≡ n + m → await t v n w ≡ gave_up w1 → await t v all w ≡ await t v m w1
+unfolding await
+await_more {X} t v zero m all w w1 is e =
+    let n : all ≡ m = omega (arith, is) in
+    ap (λ k. await t v k w) n ∙ ap (λ (c : Came X). await t v m c.bus) e
+await_more t v (suc n) m zero w w1 is e = absurd (omega (arith, is))
+await_more {X} t v (suc n) m (suc all) w w1 is e =
+    let a : Came X = came_up (shifted v (sda_level t w)) (looked t w) in
+    let low : scl_level w ≡ false = more_if (scl_level w) a (await t v n (looked t w)) a w1 refl (λ x. refl) e in
+    ap (λ b. cond {A = Came X} b a (await t v all (looked t w))) low
+    ∙ await_more t v n m all (looked t w) w1 (omega (arith, is))
+    (ap (λ b. cond {A = Came X} b a (await t v n (looked t w))) (sym low) ∙ e)
+
+tick_r : {X : Type 0} (h j a : ℕ) (jd e : Bool) (x : X)
+    → where_joined tick (resting_if (site_of a jd e x) h j jd) ≡ resting_if (site_of a jd e x) h (suc j) jd
+tick_r h j a true e x = ap (λ n. stands (site_of a true e x) Out n) (omega arith)
+tick_r h j a false e x = refl
+
+rise_r : {X : Type 0} (t : Table X) (l : Bool) (h j a : ℕ) (jd e : Bool) (x : X)
+    → where_joined (λ b. rise t b l) (resting_if (site_of a jd e x) h j jd) ≡ resting_if (site_of a jd e x) h j jd
+rise_r t l h j a true e x = refl
+rise_r t l h j a false e x = refl
+
+holds_r : {X : Type 0} (h j a : ℕ) (jd e : Bool) (x : X) → holds_line (resting_if (site_of a jd e x) h j jd) ≡ held_if h j jd
+holds_r h j a true e x = refl
+holds_r h j a false e x = refl
+
+module _ {A X : Type 0} (t : Table X) (g : A → Site X) (rest : A → ℕ) (ss : List A) where
+  abbrev bus_at : ℕ → Counts → Bus X
+  bus_at j c = bus_of false false (map (resting g rest j) ss) c
+
+  level_at : (j : ℕ) (c : Counts) → scl_level (bus_at j c) ≡ not (some_one (held g rest j) ss)
+  level_at j c = ap not (some_map (resting g rest j) holds_line (held g rest j) (λ s. holds_r (rest s) j (g s).addr (g s).joined (g s).heard (g s).state) ss)
+
+  rises_at : (j : ℕ) (c : Counts) → rises t (bus_at j c) ≡ bus_at j (one_edge c)
+  rises_at j c =
+      ap (λ bs. bus_of false false bs (one_edge c))
+      (map_step (resting g rest j) (resting g rest j) _ (λ s. rise_r t (sda t (map (resting g rest j) ss) true) (rest s) j (g s).addr (g s).joined
+      (g s).heard (g s).state) ss)
+
+  look_at : (j : ℕ) (c : Counts) → some_one (held g rest j) ss ≡ true
+      → looked t (bus_at j c) ≡ bus_at (suc j) (rose (some_one (held g rest (suc j)) ss) c)
+  unfolding looked
+  look_at j c busy =
+      let w : Bus X = bus_at j c in
+      let e : each tick w ≡ bus_at (suc j) c =
+      ap (λ bs. bus_of false false bs c)
+      (map_step (resting g rest j) (resting g rest (suc j)) _ (λ s. tick_r (rest s) j (g s).addr (g s).joined (g s).heard (g s).state) ss) in
+      ap (λ u. cond u w (cond (scl_level (each tick w)) (rises t (each tick w)) (each tick w))) (level_at j c ∙ ap not busy)
+      ∙ (ap (λ v. cond (scl_level v) (rises t v) v) e
+      ∙ by_busy (bus_at (suc j)) c (some_one (held g rest (suc j)) ss) _ _ _ (level_at (suc j) c) (rises_at (suc j) c) refl)
+
+  -- nobody holds SCL after so many looks
+  record Rests (w : Bus X) : Type 0 where
+    looks : ℕ
+    counts : Counts
+    is : w ≡ bus_at looks counts
+    quiet : some_one (held g rest looks) ss ≡ false
+
+  rests_by : (n j most : ℕ) (c : Counts) → n + j ≡ most → some_one (held g rest most) ss ≡ false
+      → (b : Bool) → some_one (held g rest j) ss ≡ b → Rests (await t 0 n (bus_at j (rose (some_one (held g rest j) ss) c))).bus
+  unfolding await
+  rests_by zero j most c sum quick false is = record { looks = j; counts = rose (some_one (held g rest j) ss) c; is = refl; quiet = is }
+  rests_by (suc n) j most c sum quick false is =
+      let d : Counts = rose (some_one (held g rest j) ss) c in
+      record {
+        looks = j;
+        counts = d;
+        is = ap (λ (x : Came X). x.bus) (looks_up t 0 n (bus_at j d) (level_at j d ∙ ap not is));
+        quiet = is;
+      }
+  rests_by zero j most c sum quick true is =
+      let e : j ≡ most = omega (arith, sum) in
+      let p : true ≡ false = sym is ∙ (ap (λ m. some_one (held g rest m) ss) e ∙ quick) in cc
+  rests_by (suc n) j most c sum quick true is =
+      let w : Bus X = bus_at j c in
+      let e : await t 0 (suc n) (bus_at j (rose (some_one (held g rest j) ss) c))
+      ≡ await t 0 n (bus_at (suc j) (rose (some_one (held g rest (suc j)) ss) c)) =
+      ap (λ b. await t 0 (suc n) (bus_at j (rose b c))) is
+      ∙ (ap (λ u. cond {A = Came X} u (came_up (shifted 0 (sda_level t w)) (looked t w)) (await t 0 n (looked t w))) (level_at j c ∙ ap not is)
+      ∙ ap (await t 0 n) (look_at j c is)) in
+      subst (λ (x : Came X). Rests x.bus) (sym e)
+      (rests_by n (suc j) most c (omega (arith, sum)) quick (some_one (held g rest (suc j)) ss) refl)
+
+  rest_out : (h j a : ℕ) (jd e : Bool) (x : X) → held_if h j jd ≡ false → resting_if (site_of a jd e x) h j jd ≡ released (site_of a jd e x)
+  rest_out h j a true e x done = ap (λ n. stands (site_of a true e x) Out n) (gone (h - j) done)
+  rest_out h j a false e x done = refl
+
+  rest_all : (j : ℕ) (us : List A) → some_one (held g rest j) us ≡ false → map (resting g rest j) us ≡ map (λ a. released (g a)) us
+  rest_all j [] done = refl
+  rest_all j (u ∷ us) done =
+      ap (λ b. b ∷ map (resting g rest j) us)
+      (rest_out (rest u) j (g u).addr (g u).joined (g u).heard (g u).state (or_left _ _ done))
+      ∙ ap (λ bs. released (g u) ∷ bs) (rest_all j us (or_right _ _ done))
+
+  -- then all are out of the message
+  pub rests_out : (n j most : ℕ) (c : Counts) → n + j ≡ most → some_one (held g rest most) ss ≡ false
+      → OutOn (map g ss) (await t 0 n (bus_at j (rose (some_one (held g rest j) ss) c))).bus
+  rests_out n j most c sum quick =
+      let r : Rests (await t 0 n (bus_at j (rose (some_one (held g rest j) ss) c))).bus =
+      rests_by n j most c sum quick (some_one (held g rest j) ss) refl in
+      record {
+        counts = r.counts;
+        is = r.is ∙ ap (λ bs. bus_of false false bs r.counts) (rest_all r.looks ss r.quiet ∙ sym (map_map g released ss));
+      }
+
+-- ---- after a start that was too slow
+late_is : {X : Type 0} (t : Table X) (byte a : ℕ) (jd e h : Bool) (x : X)
+    → late_if t byte (site_of a jd e x) jd h
+    ≡ resting_if (started_if t byte (site_of a jd e x) jd h) (cond h (stretch t (site_of a jd e x) (is_reading byte) - 65) 0) 0
+    (started_if t byte (site_of a jd e x) jd h).joined
+late_is t byte a true e true x =
+    let s = site_of a true e x in ap (λ n. stands (hears t s (is_reading byte)) Out n) (omega arith)
+late_is t byte a true e false x = refl
+late_is t byte a false e h x = refl
+
+late_held : {X : Type 0} (t : Table X) (byte a : ℕ) (jd e h : Bool) (x : X)
+    → stays_if t byte 65 (site_of a jd e x) jd h
+    ≡ held_if (cond h (stretch t (site_of a jd e x) (is_reading byte) - 65) 0) 0 (started_if t byte (site_of a jd e x) jd h).joined
+late_held t byte a true e true x = let s = site_of a true e x in ap (λ n. not (n == 0)) (omega arith)
+late_held t byte a true e false x = refl
+late_held t byte a false e h x = refl
+
+late_map : {X : Type 0} (t : Table X) (byte : ℕ) (ss : List (Site X)) → map (late t byte) ss ≡ map (resting (started t byte) (left_hold t byte) 0) ss
+late_map t byte [] = refl
+late_map t byte (s ∷ ss) =
+    ap (λ b. b ∷ map (late t byte) ss) (late_is t byte s.addr s.joined s.heard (is_named byte s) s.state)
+    ∙ ap (λ bs. resting (started t byte) (left_hold t byte) 0 s ∷ bs) (late_map t byte ss)
+
+held_same : {X : Type 0} (t : Table X) (byte : ℕ) (ss : List (Site X))
+    → some_one (stays t byte 65) ss ≡ some_one (held (started t byte) (left_hold t byte) 0) ss
+held_same t byte [] = refl
+held_same t byte (s ∷ ss) =
+    ap (λ b. b || some_one (stays t byte 65) ss) (late_held t byte s.addr s.joined s.heard (is_named byte s) s.state)
+    ∙ ap (λ b. held (started t byte) (left_hold t byte) 0 s || b) (held_same t byte ss)
+
+rest_short : (named heard : Bool) (h : ℕ) → h < 256 → not ((cond named (cond heard h 0 - 65) 0 - 190) == 0) ≡ false
+rest_short true true h lt = grind (arith, nat_tests)
+rest_short true false h lt = refl
+rest_short false heard h lt = refl
+
+rest_one : {X : Type 0} (t : Table X) (byte : ℕ) (s : Site X) (joined : Bool) → t.hold s.state < 256 → held_if (left_hold t byte s) 190 joined ≡ false
+rest_one t byte s true lt = rest_short (is_named byte s) (has_heard (t.answer s.state (Start (is_reading byte)))) (t.hold s.state) lt
+rest_one t byte s false lt = refl
+
+nobody : (a b : Bool) → a ≡ false → b ≡ false → (a || b) ≡ false
+nobody a b p q = ap (λ x. x || b) p ∙ q
+
+all_rest : {X : Type 0} (t : Table X) (byte : ℕ) (ss : List (Site X)) → AllByRecursion (λ (s : Site X). IsByte (t.hold s.state)) ss
+    → some_one (held (started t byte) (left_hold t byte) 190) ss ≡ false
+all_rest t byte [] all = refl
+all_rest t byte (s ∷ ss) all =
+    nobody (held (started t byte) (left_hold t byte) 190 s) _ (rest_one t byte s (started t byte s).joined all.0) (all_rest t byte ss all.1)
+
+pub ninth_too_late : {X : Type 0} (t : Table X) (mask : Mask X) (byte : ℕ) (ss : List (Site X)) (low : Bool) (c : Counts)
+    → AllByRecursion (λ (s : Site X). IsByte (t.hold s.state)) ss → some_one (stays t byte 64) ss ≡ true
+    → OutOn (map (started t byte) ss) (cut_rise t mask true (bus_of true low (map (waiting t byte 65 0) ss) c))
+ninth_too_late {X} t mask byte ss low c all slow =
+    let d : Counts = c in
+    let w : Bus X = wait_bus t byte 65 0 ss (rose (some_one (stays t byte 0) ss) c) in
+    let late_c : Counts = rose (some_one (stays t byte 65) ss) c in
+    let h : Bool = some_one (held (started t byte) (left_hold t byte) 0) ss in
+    let e : await t 0 255 w ≡ await t 0 190 (late_bus t byte ss late_c) =
+    await_more t 0 65 190 255 w (late_bus t byte ss late_c) refl (slow_clock t byte 0 64 0 ss c refl slow) in
+    let f : late_bus t byte ss late_c ≡ bus_of false false (map (resting (started t byte) (left_hold t byte) 0) ss) (rose h c) =
+    ap (λ bs. bus_of false false bs late_c) (late_map t byte ss)
+    ∙ ap (λ b. bus_of false false (map (resting (started t byte) (left_hold t byte) 0) ss) (rose b c)) (held_same t byte ss) in
+    subst (OutOn (map (started t byte) ss))
+    (sym (rise_is t byte ss mask low c ∙ ap (λ (x : Came X). x.bus) (e ∙ ap (await t 0 190) f)))
+    (rests_out t (started t byte) (left_hold t byte) ss 190 0 190 c refl (all_rest t byte ss all))

@@ -1,0 +1,27 @@
+use Rattle.std.proofs.Common.{◌∙◌, arith}
+use Rattle.bus_clear.proofs.ClearLemmas.{level_told, clear_told}
+use Rattle.bus_clear.proofs.cut.clear_cut.Goals as goal
+
+pub returns-clause-level : goal.returns-clause-level
+returns-clause-level g c tells =
+    let bus = g.L.Lines.bus in
+    let board = g.L.Lines.board in
+    level_told c.chips_stand_before_devices.ensures c.devices_hold_bytes.ensures.kept c.chips_are_fair.ensures c.states_are_fair.ensures
+    c.a_start_on_the_sites_is_one_in_the_world.ensures c.a_get_on_the_sites_is_one_in_the_world.ensures
+    c.a_stop_on_the_sites_is_one_in_the_world.ensures (board c.args.lines.now) (bus c.args.lines.now) (c.requires.free tells)
+    (c.requires.quiet tells) c.args.addr (omega (arith, c.get.ensures.range.1)) c.args.cut c.requires.cut.0 c.requires.cut.1
+    (board c.look-high.new.self) (c.look-high.ensures.board ∙ c.cut_read.ensures.board) (bus c.cut_read.new.lines) (bus c.look-high.new.self)
+    (bus c.clear_bus.new.lines) c.look-high.result.1 c.clear_bus.result (c.cut_read.ensures.bus tells) (c.look-high.ensures.level tells)
+    (c.look-high.ensures.bus tells) (c.clear_bus.ensures.bus tells)
+
+pub returns-clause-told : goal.returns-clause-told
+returns-clause-told g c tells =
+    let bus = g.L.Lines.bus in
+    let board = g.L.Lines.board in
+    clear_told c.chips_stand_before_devices.ensures c.devices_hold_bytes.ensures.kept c.chips_are_fair.ensures c.states_are_fair.ensures
+    c.a_start_on_the_sites_is_one_in_the_world.ensures c.a_get_on_the_sites_is_one_in_the_world.ensures
+    c.a_stop_on_the_sites_is_one_in_the_world.ensures (board c.args.lines.now) (bus c.args.lines.now) (c.requires.free tells)
+    (c.requires.quiet tells) c.args.addr (omega (arith, c.get.ensures.range.1)) c.args.cut c.requires.cut.0 c.requires.cut.1
+    (board c.look-high.new.self) (c.look-high.ensures.board ∙ c.cut_read.ensures.board) (bus c.cut_read.new.lines) (bus c.look-high.new.self)
+    (bus c.clear_bus.new.lines) c.look-high.result.1 c.clear_bus.result (c.cut_read.ensures.bus tells) (c.look-high.ensures.level tells)
+    (c.look-high.ensures.bus tells) (c.clear_bus.ensures.bus tells)

@@ -1,0 +1,12 @@
+use Rattle.std.proofs.Common.{◌≡◌, ◌≤◌, drop}
+use Rattle.tools.specs.Numbers.{base_of, digits_on, within}
+use Rattle.i2c_top.proofs.forms.spelled.value.Given as goal
+
+abbrev pub invariant-loop-byte : goal.invariant-loop-byte
+invariant-loop-byte l =
+    record {
+      small : l.value ≤ 128000;
+      base : l.base ≡ base_of l.hexadecimal;
+      same : within 0 128000 (digits_on l.hexadecimal l.value (drop l.byte-index l.digits)) ≡ within 0 128000
+          (digits_on l.hexadecimal 0 l.digits);
+    }
