@@ -3,12 +3,12 @@ ghost use Rattle.std.specs.Prelude.{◌<◌, length};
 ghost use Rattle.i2c_base.specs.Limits.{MOST_CALLS};
 
 use i2c_base::{Addr, Answer, MOST_CALLS, Phase, PortCall};
-use i2c_bits::{BitPort, Lines};
+use i2c_bits::{BitPort, ByteLines};
 use ports::Port;
 
 /// Makes a call, and gives its answer. None where what the wires have come to doesn't allow it, where it fails, where it sets a
 /// line, and where the log is full.
-pub fn make<L: Lines + Send>(port: &mut BitPort<L>, call: PortCall) -> Option<Answer> {
+pub fn make<L: ByteLines + Send>(port: &mut BitPort<L>, call: PortCall) -> Option<Answer> {
     if port.calls().len() >= MOST_CALLS {
         return None;
     }
@@ -22,7 +22,7 @@ pub fn make<L: Lines + Send>(port: &mut BitPort<L>, call: PortCall) -> Option<An
     }
 }
 
-fn start<L: Lines + Send>(port: &mut BitPort<L>, addr: Addr, reading: bool) -> Option<Answer>
+fn start<L: ByteLines + Send>(port: &mut BitPort<L>, addr: Addr, reading: bool) -> Option<Answer>
     requires { length port.old.log < MOST_CALLS }
 {
     match port.phase() {
@@ -32,7 +32,7 @@ fn start<L: Lines + Send>(port: &mut BitPort<L>, addr: Addr, reading: bool) -> O
     }
 }
 
-fn put<L: Lines + Send>(port: &mut BitPort<L>, byte: u8) -> Option<Answer>
+fn put<L: ByteLines + Send>(port: &mut BitPort<L>, byte: u8) -> Option<Answer>
     requires { length port.old.log < MOST_CALLS }
 {
     match port.phase() {
@@ -44,7 +44,7 @@ fn put<L: Lines + Send>(port: &mut BitPort<L>, byte: u8) -> Option<Answer>
     }
 }
 
-fn get<L: Lines + Send>(port: &mut BitPort<L>, ack: bool) -> Option<Answer>
+fn get<L: ByteLines + Send>(port: &mut BitPort<L>, ack: bool) -> Option<Answer>
     requires { length port.old.log < MOST_CALLS }
 {
     match port.phase() {
@@ -53,7 +53,7 @@ fn get<L: Lines + Send>(port: &mut BitPort<L>, ack: bool) -> Option<Answer>
     }
 }
 
-fn stop<L: Lines + Send>(port: &mut BitPort<L>) -> Option<Answer>
+fn stop<L: ByteLines + Send>(port: &mut BitPort<L>) -> Option<Answer>
     requires { length port.old.log < MOST_CALLS }
 {
     match port.phase() {
@@ -66,7 +66,7 @@ fn stop<L: Lines + Send>(port: &mut BitPort<L>) -> Option<Answer>
 }
 
 // A stop where a message is in progress.
-fn end<L: Lines + Send>(port: &mut BitPort<L>) -> Option<Answer>
+fn end<L: ByteLines + Send>(port: &mut BitPort<L>) -> Option<Answer>
     requires { length port.old.log < MOST_CALLS }
 {
     match port.phase() {

@@ -10,7 +10,7 @@ use crate::wires::call_of;
 use crate::words::put_said;
 use bus_lines::WireState;
 use i2c_base::{Answer, Event, MuxId, Target};
-use i2c_bits::{BitPort, Lines};
+use i2c_bits::{BitPort, ByteLines, Lines};
 use std::alloc::Global;
 use std::marker::Model;
 use tgt_bits::{BitTarget, Wired};
@@ -140,6 +140,8 @@ impl Lines for HeldLines {
 
     fn line(&mut self, _mux: MuxId, _level: u8) {}
 }
+
+impl ByteLines for HeldLines {}
 
 /// Answers the words of `wires::answer_all` by a port over two wires with register devices at 0x20, each of which holds the
 /// clock for as many looks as one of the numbers says.

@@ -21,7 +21,7 @@ use Rattle.bus_lines.proofs.UnitLemmas.{done_none, calm_other, shared_rises, sha
 use Rattle.bus_lines.proofs.TargetsLemmas.{IsTouched, touched_all, stays_out, stays_calm}
 
 -- ---- all are seen alike
-map_twice : {A B C : Type 0} (f : B → C) (g : A → B) (xs : List A) → map f (map g xs) ≡ map (λ x. f (g x)) xs
+pub map_twice : {A B C : Type 0} (f : B → C) (g : A → B) (xs : List A) → map f (map g xs) ≡ map (λ x. f (g x)) xs
 map_twice f g [] = refl
 map_twice f g (x ∷ xs) = ap (λ ys. f (g x) ∷ ys) (map_twice f g xs)
 
@@ -149,7 +149,7 @@ module _ (left v : ℕ) (level : Bool) (live started live_new started_new : List
       touched_all left 0 live started live_new started_new at (joins_by ps (states_on bs)) (joins_by ps (states_on (by_number call_to 0 bs))) call_to bs
       (joins_kept ps (states_on (by_number call_to 0 bs)) (states_on bs) called_doors) units called_touched
 
-  called_all : (w : ℕ) → map (shared 0 w) (by_number call_to 0 bs) ≡ map (where_joined (seen (Address byte))) bs
+  pub called_all : (w : ℕ) → map (shared 0 w) (by_number call_to 0 bs) ≡ map (where_joined (seen (Address byte))) bs
   called_all w = map_numbered call_to (shared 0 w) (where_joined (seen (Address byte))) bs call_is
 
   pub called_holds : (w : ℕ) → some_one holds_line (map (shared 0 w) (by_number call_to 0 bs)) ≡ false

@@ -26,7 +26,7 @@ use Rattle.bus_lines.specs.Away.{device_at}
 use Rattle.i2c_bits.specs.Wiring.{Rooted}
 use Rattle.std.proofs.lemmas.List.{length-map}
 use Rattle.std.specs.Prelude.{replicate, not}
-use Rattle.bus_lines.proofs.NumberedLemmas.{numbered_map, numbered_twice, numbered_same}
+use Rattle.bus_lines.proofs.NumberedLemmas.{map_numbered, numbered_map, numbered_twice, numbered_same}
 use Rattle.bus_lines.proofs.StopLemmas.{rejoin_numbered}
 
 -- who isn't there isn't joined
@@ -172,6 +172,20 @@ module _ (b : BoardView) (ps : List PlaceView) where
       ∙ some_from p 0 (map (shared l v) xs) (λ i c is. let e : i ≡ 0 + i = omega arith in
       subst (λ n. p (whole_at b ps n c) ≡ p c) e
       (pull_either p none (is_wired ps i) i c (shared_away l v xs away i c is))))
+
+  -- what each gives, where who isn't joined gives always the same
+  give_either : (q : Bit NodeState → ℕ) (e : ℕ) → ((d : Bit NodeState) → d.site.joined ≡ false → q d ≡ e) → (w : Bool) (k : ℕ) (c : Bit NodeState)
+      → (w ≡ false → c.site.joined ≡ false) → q (cond w c (rested k c)) ≡ q c
+  give_either q e none true k c away = refl
+  give_either q e none false k c away = none (rested k c) (away refl) ∙ sym (none c (away refl))
+
+  pub whole_given : (q : Bit NodeState → ℕ) (e : ℕ) → ((d : Bit NodeState) → d.site.joined ≡ false → q d ≡ e) → (l v : ℕ)
+      (xs : List (Bit NodeState)) → AreAway ps xs → map q (map (shared l v) xs) ≡ map q (map (shared l v) (whole_on b ps xs))
+  unfolding AreAway
+  whole_given q e none l v xs away =
+      sym (ap (map q) (whole_map (shared l v) (shared_leaves l v) xs away)
+      ∙ map_numbered (whole_at b ps) q q (map (shared l v) xs)
+      (λ i c is. give_either q e none (is_wired ps i) i c (shared_away l v xs away i c is)))
 
   -- what a stop comes to
   pub whole_stop : (f : Bit NodeState → Bit NodeState) (l v : ℕ) (xs ys : List (Bit NodeState)) → AreAway ps xs

@@ -36,11 +36,11 @@ pub ticks_coming : (left v : ℕ) (bs : List (Bit NodeState)) → 0 < left → m
 ticks_coming zero v bs some = absurd (omega (arith, some))
 ticks_coming (suc n) v bs some = coming_ticks n v bs
 
-holds_coming : (left v : ℕ) (bs : List (Bit NodeState)) → 0 < left → some_one holds_line (map (shared left v) bs) ≡ false
+pub holds_coming : (left v : ℕ) (bs : List (Bit NodeState)) → 0 < left → some_one holds_line (map (shared left v) bs) ≡ false
 holds_coming zero v bs some = absurd (omega (arith, some))
 holds_coming (suc n) v bs some = coming_holds n v bs
 
-pulls_coming : (left v : ℕ) (bs : List (Bit NodeState)) → 0 < left → some_one (pulls_line node_table) (map (shared left v) bs) ≡ false
+pub pulls_coming : (left v : ℕ) (bs : List (Bit NodeState)) → 0 < left → some_one (pulls_line node_table) (map (shared left v) bs) ≡ false
 pulls_coming zero v bs some = absurd (omega (arith, some))
 pulls_coming (suc n) v bs some = coming_pulls n v bs
 
@@ -219,7 +219,7 @@ module _ (k : Rooted) (ps : List PlaceView) (places : ps ≡ places_of k.board k
       }
 
 -- ---- a stop
-nodes_fair : IsFairTable node_table
+pub nodes_fair : IsFairTable node_table
 nodes_fair = node_fair (search rules) states_fair
 
 or_parts : (a b : Bool) → (not a || b) ≡ false → (a ≡ true) × (b ≡ false)

@@ -20,8 +20,8 @@ use Rattle.wire_spec.specs.Bus.{rejoin_from}
 use Rattle.wire_spec.specs.Sites.{NodeState, Chip, Device, node_table, node_after, node_answer}
 use Rattle.i2c_bits.specs.Wiring.{node_level, levelled_bits}
 use Rattle.bus_lines.specs.declared.edges.Edge.{Edge}
-use Rattle.bus_lines.specs.declared.edges.Edge.TheVariants.{Rise, Fall, Tick, Finish, Leave, Other, Address}
-use Rattle.bus_lines.specs.Edges.{seen, node_waits}
+use Rattle.bus_lines.specs.declared.edges.Edge.TheVariants.{Rise, Fall, Tick, Finish, Leave, Other, Address, Put, Get, Enter}
+use Rattle.bus_lines.specs.Edges.{seen, put_in, get_in, enter_in, node_waits}
 use Rattle.bus_lines.specs.Joins.{PlaceView, is_chip, states_on, node_opens, opens_at, joins, joins_by}
 use Rattle.bus_lines.specs.Units.{by_number}
 
@@ -40,6 +40,9 @@ NoFinish Finish = ⊥
 NoFinish Leave = Unit {0}
 NoFinish (Other byte) = Unit {0}
 NoFinish (Address byte) = Unit {0}
+NoFinish (Put byte) = Unit {0}
+NoFinish (Get ack) = Unit {0}
+NoFinish Enter = Unit {0}
 
 -- what no event but a stop changes, no edge but a stop does
 module _ {K : Type 0} (key : Site NodeState → K)
@@ -74,6 +77,28 @@ module _ {K : Type 0} (key : Site NodeState → K)
   rise_key b (Give left) level = give_key b left level
   rise_key b (Gave more) level = refl
 
+  put_key : (byte : ℕ) (b : Bit NodeState) (m : Mode) → key (put_in byte b m).site ≡ key b.site
+  put_key byte b Out = refl
+  put_key byte b (In true left v) = refl
+  put_key byte b (In false left v) = same b.site b.site.heard (event.Put byte) tt
+  put_key byte b (Answered begun acked next looks) = refl
+  put_key byte b (Give left) = refl
+  put_key byte b (Gave more) = refl
+
+  get_key : (ack : Bool) (b : Bit NodeState) (m : Mode) → key (get_in ack b m).site ≡ key b.site
+  get_key ack b Out = refl
+  get_key ack b (In address left v) = refl
+  get_key ack b (Answered begun acked next looks) = refl
+  get_key ack b (Give left) = same b.site b.site.heard (event.Get ack) tt
+  get_key ack b (Gave more) = refl
+
+  enter_key : (b : Bit NodeState) (m : Mode) → key (enter_in b m).site ≡ key b.site
+  enter_key b Out = refl
+  enter_key b (In address left v) = refl
+  enter_key b (Answered begun acked next looks) = refl
+  enter_key b (Give left) = refl
+  enter_key b (Gave more) = refl
+
   seen_key : (e : Edge) → NoFinish e → (b : Bit NodeState) → key (seen e b).site ≡ key b.site
   seen_key (Rise level) nostop b = rise_key b b.mode level
   seen_key Fall nostop b = refl
@@ -82,6 +107,9 @@ module _ {K : Type 0} (key : Site NodeState → K)
   seen_key Leave nostop b = refl
   seen_key (Other byte) nostop b = either_key (is_named byte b.site) b (named node_table b.site byte) (key b.site) refl (named_key b.site byte)
   seen_key (Address byte) nostop b = named_key b.site byte
+  seen_key (Put byte) nostop b = put_key byte b b.mode
+  seen_key (Get ack) nostop b = get_key ack b b.mode
+  seen_key Enter nostop b = enter_key b b.mode
 
   pub joined_key : (e : Edge) → NoFinish e → (b : Bit NodeState) → key (where_joined (seen e) b).site ≡ key b.site
   joined_key e nostop b = either_key b.site.joined (seen e b) b (key b.site) (seen_key e nostop b) refl

@@ -14,12 +14,17 @@ pub mod IndexLemmas
 pub mod UnitLemmas
 pub mod TargetsLemmas
 pub mod RiseLemmas
+pub mod PutLemmas
+pub mod AndLemmas
+pub mod GetLemmas
 pub mod AddressLemmas
 pub mod StopLemmas
 -- What each call leaves; the devices of other roots.
 pub mod InvariantLemmas
 pub mod AwayLemmas
 pub mod ToldLemmas
+pub mod EnterLemmas
+pub mod EndsLemmas
 -- What a pull, a look and a line come to.
 pub mod LinesLemmas
 -- The opening.

@@ -205,11 +205,13 @@ nobody_by : {A : Type 0} (p : A → Bool) (k : ℕ) (xs : List A) → some_by (o
 nobody_by p k [] = refl
 nobody_by p k (x ∷ xs) = nobody_by p (k + 1) xs
 
--- whether it is so of one of some numbers, once each was told
+-- whether it was so of one of some numbers, before each was told; and whether it is so, once each was told
+abbrev pub told_was : {A : Type 0} → (A → A) → (A → Bool) → Bool → List ℕ → List A → Bool
+told_was f q sofar [] xs = sofar
+told_was f q sofar (n ∷ ns) xs = told_was f q (some_by (λ j x. (j == n) && q x) 0 xs || sofar) ns (by_number (λ j x. cond (j == n) (f x) x) 0 xs)
+
 abbrev pub told_some : {A : Type 0} → (A → A) → (A → Bool) → Bool → List ℕ → List A → Bool
-told_some f p sofar [] xs = sofar
-told_some f p sofar (n ∷ ns) xs =
-    told_some f p (some_by (λ j x. (j == n) && p (f x)) 0 xs || sofar) ns (by_number (λ j x. cond (j == n) (f x) x) 0 xs)
+told_some f p sofar ns xs = told_was f (λ x. p (f x)) sofar ns xs
 
 some_above : {A : Type 0} (p : A → Bool) (n k : ℕ) (xs : List A) → n < k → some_by (λ j x. (j == n) && p x) k xs ≡ false
 some_above p n k [] lt = refl
@@ -279,34 +281,39 @@ and_either true false true = refl
 and_either true false false = refl
 and_either false c z = refl
 
-some_one_told : {A : Type 0} (f : A → A) (p : A → Bool) (n j : ℕ) (ns : List ℕ) (x : A) (here : Bool) → (j == n) ≡ here → is_among ns n ≡ false
-    → (is_among ns j && p (f (cond here (f x) x))) ≡ (is_among ns j && p (f x))
-some_one_told f p n j ns x true at apart =
+one_was : {A : Type 0} (f : A → A) (q : A → Bool) (n j : ℕ) (ns : List ℕ) (x : A) (here : Bool) → (j == n) ≡ here → is_among ns n ≡ false
+    → (is_among ns j && q (cond here (f x) x)) ≡ (is_among ns j && q x)
+one_was f q n j ns x true at apart =
     let e : j ≡ n = elim (eqb_tells j n) [
       | inl y ↦ y.1
       | inr y ↦ absurd (let other : true ≡ false = sym at ∙ y.0 in cc)
     ] in
     let out : is_among ns j ≡ false = ap (is_among ns) e ∙ apart in
     rw out refl
-some_one_told f p n j ns x false at apart = refl
+one_was f q n j ns x false at apart = refl
 
-told_some_old : {A : Type 0} (f : A → A) (p : A → Bool) (sofar : Bool) (ns : List ℕ) (xs : List A) → IsDistinct (λ k m. k == m) ns
-    → told_some f p sofar ns xs ≡ (some_by (λ j x. is_among ns j && p (f x)) 0 xs || sofar)
-told_some_old f p sofar [] xs d = ap (λ b. b || sofar) (sym (nobody_by (λ x. p (f x)) 0 xs))
-told_some_old {A} f p sofar (n ∷ ns) xs d =
+told_old : {A : Type 0} (f : A → A) (q : A → Bool) (sofar : Bool) (ns : List ℕ) (xs : List A) → IsDistinct (λ k m. k == m) ns
+    → told_was f q sofar ns xs ≡ (some_by (of_those ns q) 0 xs || sofar)
+told_old f q sofar [] xs d = ap (λ b. b || sofar) (sym (nobody_by q 0 xs))
+told_old {A} f q sofar (n ∷ ns) xs d =
     let one : ℕ → A → A = λ j x. cond (j == n) (f x) x in
-    let those : ℕ → A → Bool = λ j x. is_among ns j && p (f x) in
-    let first : ℕ → A → Bool = λ j x. (j == n) && p (f x) in
+    let those : ℕ → A → Bool = of_those ns q in
+    let first : ℕ → A → Bool = λ j x. (j == n) && q x in
     let apart = first_apart n ns d in
-    told_some_old f p (some_by first 0 xs || sofar) ns (by_number one 0 xs) (rest_apart n ns d)
+    told_old f q (some_by first 0 xs || sofar) ns (by_number one 0 xs) (rest_apart n ns d)
     ∙ ap (λ b. b || (some_by first 0 xs || sofar))
     (some_after those one 0 xs ∙ some_same (λ j x. those j (one j x)) those 0 xs
-    (λ j x. some_one_told f p n j ns x (j == n) refl apart))
+    (λ j x. one_was f q n j ns x (j == n) refl apart))
     ∙ or_inside (some_by those 0 xs) (some_by first 0 xs) sofar
     ∙ ap (λ b. b || sofar)
     (some_both those first 0 xs
-    ∙ some_same (λ j x. first j x || those j x) (λ j x. is_among (n ∷ ns) j && p (f x)) 0 xs
-    (λ j x. and_either (j == n) (is_among ns j) (p (f x))))
+    ∙ some_same (λ j x. first j x || those j x) (of_those (n ∷ ns) q) 0 xs
+    (λ j x. and_either (j == n) (is_among ns j) (q x)))
+
+-- whether it was so of one of them
+pub told_was_each : {A : Type 0} (f : A → A) (q : A → Bool) (ns : List ℕ) (xs : List A) → IsDistinct (λ k m. k == m) ns
+    → told_was f q false ns xs ≡ some_by (of_those ns q) 0 xs
+told_was_each f q ns xs d = told_old f q false ns xs d ∙ sym (or_none (some_by (of_those ns q) 0 xs))
 
 test_told : {A : Type 0} (f : A → A) (p : A → Bool) (x : A) (b : Bool) → (b && p (f x)) ≡ (b && p (cond b (f x) x))
 test_told f p x true = refl
@@ -316,7 +323,7 @@ test_told f p x false = refl
 pub told_some_each : {A : Type 0} (f : A → A) (p : A → Bool) (ns : List ℕ) (xs : List A) → IsDistinct (λ k m. k == m) ns
     → told_some f p false ns xs ≡ some_by (of_those ns p) 0 (by_number (to_those ns f) 0 xs)
 told_some_each {A} f p ns xs d =
-    told_some_old f p false ns xs d ∙ sym (or_none (some_by (λ j x. is_among ns j && p (f x)) 0 xs))
+    told_was_each f (λ x. p (f x)) ns xs d
     ∙ some_same (λ j x. is_among ns j && p (f x)) (λ j x. of_those ns p j (to_those ns f j x)) 0 xs
     (λ j x. test_told f p x (is_among ns j))
     ∙ sym (some_after (of_those ns p) (to_those ns f) 0 xs)
@@ -349,11 +356,14 @@ module _ {A : Type 0} (f : A → A) (ns : List ℕ) (i n : ℕ) (lt : i < length
       ∙ ap (λ m. told f (m ∷ drop (i + 1) ns) xs) at
       ∙ ap (λ ms. told f ms xs) (sym (drop_more ns i 0 lt))
 
+  pub was_next : (q : A → Bool) (sofar now : Bool) → now ≡ (q (get_or xs n d) || sofar)
+      → told_was f q now (drop (i + 1) ns) (set xs n y) ≡ told_was f q sofar (drop i ns) xs
+  was_next q sofar now e =
+      ap (λ b. told_was f q b (drop (i + 1) ns) (set xs n y)) (e ∙ ap (λ b. b || sofar) (some_number q n xs d low))
+      ∙ ap (told_was f q (some_by (λ j x. (j == n) && q x) 0 xs || sofar) (drop (i + 1) ns)) (set_number n f xs d y low is)
+      ∙ ap (λ m. told_was f q sofar (m ∷ drop (i + 1) ns) xs) at
+      ∙ ap (λ ms. told_was f q sofar ms xs) (sym (drop_more ns i 0 lt))
+
   pub some_next : (p : A → Bool) (sofar now : Bool) → now ≡ (p y || sofar)
       → told_some f p now (drop (i + 1) ns) (set xs n y) ≡ told_some f p sofar (drop i ns) xs
-  some_next p sofar now e =
-      ap (λ b. told_some f p b (drop (i + 1) ns) (set xs n y))
-      (e ∙ ap (λ b. b || sofar) (ap p is ∙ some_number (λ x. p (f x)) n xs d low))
-      ∙ ap (told_some f p (some_by (λ j x. (j == n) && p (f x)) 0 xs || sofar) (drop (i + 1) ns)) (set_number n f xs d y low is)
-      ∙ ap (λ m. told_some f p sofar (m ∷ drop (i + 1) ns) xs) at
-      ∙ ap (λ ms. told_some f p sofar ms xs) (sym (drop_more ns i 0 lt))
+  some_next p sofar now e = was_next (λ x. p (f x)) sofar now (e ∙ ap (λ b. b || sofar) (ap p is))

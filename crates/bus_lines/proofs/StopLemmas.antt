@@ -105,7 +105,7 @@ none_step p n k ns true at first rest among = ap p (same_of k n at) ∙ first
 none_step p n k ns false at first rest among = rest among
 
 -- what is so of none of some numbers
-none_has : (p : ℕ → Bool) (ns : List ℕ) → list_any p ns ≡ false → (k : ℕ) → is_among ns k ≡ true → p k ≡ false
+pub none_has : (p : ℕ → Bool) (ns : List ℕ) → list_any p ns ≡ false → (k : ℕ) → is_among ns k ≡ true → p k ≡ false
 none_has p [] none k among = absurd (let e : false ≡ true = among in cc)
 none_has p (n ∷ ns) none k among =
     let both = or_false (p n) (list_any p ns) none in

@@ -7,7 +7,7 @@ use Rattle.wire_spec.specs.Bus.{holds_line}
 use Rattle.wire_spec.specs.Calls.{released}
 use Rattle.wire_spec.specs.Sites.{NodeState, node_table}
 use Rattle.bus_lines.specs.declared.edges.Edge.{Edge}
-use Rattle.bus_lines.specs.declared.edges.Edge.TheVariants.{Rise, Fall, Tick, Finish, Leave, Other, Address}
+use Rattle.bus_lines.specs.declared.edges.Edge.TheVariants.{Rise, Fall, Tick, Finish, Leave, Other, Address, Put, Get, Enter}
 use Rattle.bus_lines.specs.Edges.{seen}
 use Rattle.bus_lines.specs.Joins.{PlaceView, states_on, joins_by}
 use Rattle.bus_lines.specs.Numbers.{is_among}
@@ -29,6 +29,9 @@ within_goes Finish within = absurd within
 within_goes Leave within = absurd within
 within_goes (Other byte) within = absurd within
 within_goes (Address byte) within = absurd within
+within_goes (Put byte) within = tt
+within_goes (Get ack) within = tt
+within_goes Enter within = tt
 
 -- what a target is once it is touched
 pub record IsTouched (left : ℕ) (live started : List ℕ) (k : ℕ) (b c : Bit NodeState) : Type 0 where

@@ -10,7 +10,7 @@ use Rattle.wire_spec.specs.Calls.{released}
 use Rattle.wire_spec.specs.Sites.{NodeState, node_table}
 use Rattle.wire_spec.proofs.LiveLemmas.{out_rises, out_falls, out_ticks, out_pulls, out_holds, quiet_stop}
 use Rattle.bus_lines.specs.declared.edges.Edge.{Edge}
-use Rattle.bus_lines.specs.declared.edges.Edge.TheVariants.{Rise, Fall, Tick, Finish, Leave, Other, Address}
+use Rattle.bus_lines.specs.declared.edges.Edge.TheVariants.{Rise, Fall, Tick, Finish, Leave, Other, Address, Put, Get, Enter}
 use Rattle.bus_lines.specs.Edges.{seen}
 use Rattle.bus_lines.specs.Units.{shared, IsCalm}
 
@@ -33,6 +33,13 @@ IsWithin Finish = ⊥
 IsWithin Leave = ⊥
 IsWithin (Other byte) = ⊥
 IsWithin (Address byte) = ⊥
+IsWithin (Put byte) = Unit {0}
+IsWithin (Get ack) = Unit {0}
+IsWithin Enter = Unit {0}
+
+both_same : (j : Bool) (b : Bit NodeState) → cond j b b ≡ b
+both_same true b = refl
+both_same false b = refl
 
 pub out_sees : (e : Edge) → IsWithin e → (b : Bit NodeState) → b ≡ released b.site → where_joined (seen e) b ≡ b
 out_sees (Rise level) within b out =
@@ -43,6 +50,9 @@ out_sees Finish within b out = absurd within
 out_sees Leave within b out = absurd within
 out_sees (Other byte) within b out = absurd within
 out_sees (Address byte) within b out = absurd within
+out_sees (Put byte) within b out = ap (where_joined (seen (Put byte))) out ∙ both_same b.site.joined (released b.site) ∙ sym out
+out_sees (Get ack) within b out = ap (where_joined (seen (Get ack))) out ∙ both_same b.site.joined (released b.site) ∙ sym out
+out_sees Enter within b out = ap (where_joined (seen Enter)) out ∙ both_same b.site.joined (released b.site) ∙ sym out
 
 pub holds_none : (b : Bit NodeState) → b ≡ released b.site → holds_line b ≡ false
 holds_none b out = ap (λ (c : Bit NodeState). holds_line c) out ∙ out_holds b.site.addr b.site.joined b.site.heard b.site.state

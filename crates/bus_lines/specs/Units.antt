@@ -1,6 +1,6 @@
 -- Which targets an edge touches: those that were called since the last start, and no other, who is out of the message. While an
 -- address byte comes in, all that is joined takes it in alike, so that one register stands for all.
-use Rattle.std.specs.Prelude.{◌≡◌, ℕ, zero, suc, ◌+◌, ◌<◌, ◌==◌, Bool, true, false, ◌&&◌, ◌||◌, List, [], ◌∷◌, cond, length, get_or, slice_get, Some}
+use Rattle.std.specs.Prelude.{◌≡◌, ℕ, zero, suc, ◌+◌, ◌<◌, ◌==◌, Bool, true, false, ◌&&◌, ◌||◌, List, [], ◌∷◌, cond, length, get_or, slice_get, Some, bit_and}
 use Rattle.i2c_spec.specs.Targets.{IsQuiet}
 use Rattle.wire_spec.specs.declared.mode.Mode.TheVariants.{In}
 use Rattle.wire_spec.specs.Wires.{Bit, stands}
@@ -28,6 +28,15 @@ to_those ns f k x = cond (is_among ns k) (f x) x
 -- so of those alone that have one of these numbers
 abbrev pub of_those : {A : Type 0} → List ℕ → (A → Bool) → ℕ → A → Bool
 of_those ns p k x = is_among ns k && p x
+
+-- the bitwise AND of what each gives by its number, from k on, and 0xFF of none
+abbrev pub and_by : {A : Type 0} → (ℕ → A → ℕ) → ℕ → List A → ℕ
+and_by q k [] = 255
+and_by q k (x ∷ xs) = bit_and (q k x) (and_by q (k + 1) xs)
+
+-- what those give that have one of these numbers
+abbrev pub given_by : {A : Type 0} → List ℕ → (A → ℕ) → ℕ → A → ℕ
+given_by ns q k x = cond (is_among ns k) (q x) 255
 
 -- what has come of an address byte: the bits that are missing, of which none are where no address comes in, and the number so far
 pub record RegisterView : Type 0 where

@@ -12,12 +12,17 @@ ghost use Rattle.i2c_bits.specs.Stands.{IsFree, world_at};
 use crate::Apart;
 use crate::root_targets::RootTargets;
 use crate::wire_state::WireState;
-use i2c_base::{MuxId, NoMemory, SegId};
-use i2c_bits::Lines;
+use i2c_base::{Answer, MuxId, NoMemory, SegId};
+use i2c_bits::{ByteLines, Lines, Low, address};
 use i2c_board::Accepted;
 use std::alloc::Global;
 use std::marker::Model;
-use wire_spec::{chips_stand_before_devices, the_sites_of_a_board_are_its_worlds};
+use wire_spec::{
+    a_byte_that_is_put_is_one_event, a_byte_that_is_read_is_one_event,
+    a_repeated_start_calls_all_that_is_joined, a_start_calls_all_that_is_joined,
+    a_stop_frees_the_lines, an_address_byte_is_one_event, chips_stand_before_devices,
+    the_sites_of_a_board_are_its_worlds,
+};
 
 /// The two lines of a root, SCL and SDA, with its targets on them: a line is low exactly where the controller or a target pulls
 /// it (UM10204 section 3.1.1). A contract sees the board and the root, the lines, and what the pulls and looks have come to.
@@ -152,5 +157,53 @@ impl Lines for BusLines {
 
     fn line(&mut self, mux: MuxId, level: u8) {
         self.targets.set_line(mux, level);
+    }
+}
+
+impl ByteLines for BusLines {
+    #[inline(always)]
+    fn begin(&mut self, busy: bool) -> Result<(), Low> {
+        a_start_calls_all_that_is_joined();
+        a_repeated_start_calls_all_that_is_joined();
+        self.targets.count_edge(busy);
+        self.targets.begin();
+        self.wire.begun(busy);
+        Ok(())
+    }
+
+    #[inline(always)]
+    fn end(&mut self) -> Result<(), Low> {
+        a_stop_frees_the_lines();
+        self.targets.count_edge(true);
+        self.targets.finish();
+        self.wire.ended();
+        Ok(())
+    }
+
+    #[inline(always)]
+    fn send_byte(&mut self, byte: u8) -> Result<bool, Low> {
+        a_byte_that_is_put_is_one_event();
+        let acked = self.targets.put(byte);
+        self.wire.nine(false, !acked);
+        Ok(acked)
+    }
+
+    #[inline(always)]
+    fn receive_byte(&mut self, ack: bool) -> Result<u8, Low> {
+        a_byte_that_is_read_is_one_event();
+        let byte = self.targets.get(ack);
+        self.wire.nine(ack, !ack);
+        Ok(byte)
+    }
+
+    fn address_byte(&mut self, byte: u8) -> Result<Answer, Low> {
+        an_address_byte_is_one_event();
+        match self.targets.address(byte) {
+            Some(acked) => {
+                self.wire.nine(false, !acked);
+                Ok(if acked { Answer::Ack } else { Answer::Nack })
+            }
+            None => address(self, byte),
+        }
     }
 }

@@ -1,6 +1,7 @@
 //! How often SCL rose, and how often there was a start or a stop, as two numbers.
 ghost use Rattle.std.specs.Prelude.{◌≡◌, min};
 ghost use Rattle.wire_spec.specs.Bus.{one_edge, one_flip};
+ghost use Rattle.wire_spec.specs.Calls.{more_edges};
 ghost use Rattle.ports.specs.Causes.{MOST};
 
 use crate::tally::Tally;
@@ -45,6 +46,15 @@ impl Counter {
     {
         self.all.add_edge();
         self.edges = self.edges.saturating_add(1);
+    }
+
+    /// SCL has risen nine times more, for a byte with its acknowledge.
+    #[inline(always)]
+    pub fn add_nine(&mut self)
+        ensures { self.new ≡ more_edges 9 self.old }
+    {
+        self.all.add_nine();
+        self.edges = self.edges.saturating_add(9);
     }
 
     /// There was one start or stop more.

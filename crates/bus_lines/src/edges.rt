@@ -3,16 +3,21 @@ ghost use Rattle.std.specs.Prelude.{◌≡◌, ◌||◌, false, length};
 ghost use Rattle.std.specs.List.{list_all, list_any};
 ghost use Rattle.wire_spec.specs.Roots.{pulls_line, where_joined};
 ghost use Rattle.wire_spec.specs.Bus.{holds_line};
+ghost use Rattle.wire_spec.specs.Wires.{entered};
 ghost use Rattle.wire_spec.specs.Calls.{released};
 ghost use Rattle.wire_spec.specs.Sites.{node_table};
-ghost use Rattle.bus_lines.specs.Edges.{seen, joined_at, waits_at};
+ghost use Rattle.bus_lines.specs.Edges.{seen, acks_in, acks_put, gives_in, gives_get, acked_in, acks_enter, slow_at, joined_at, waits_at};
 ghost use Rattle.bus_lines.specs.Numbers.{AreNumbers};
-ghost use Rattle.bus_lines.specs.Units.{by_number, some_by, to_those, of_those};
+ghost use Rattle.bus_lines.specs.Units.{by_number, some_by, and_by, to_those, of_those, given_by};
 ghost use Rattle.bus_lines.specs.declared.edges.Edge.TheVariants as the;
 
 use crate::Node;
-use tgt_bits::BitTarget;
-use wire_spec::Mode;
+use i2c_base::{Answer, Event, MOST_LOOKS, Target};
+use tgt_bits::{BitTarget, Wired};
+use wire_spec::{Mode, Next};
+
+/// A byte has so many bits (UM10204 section 3.1.5).
+const BITS: u8 = 8;
 
 /// What the lines do, as a target sees it.
 #[derive(Clone, Copy)]
@@ -31,6 +36,12 @@ pub enum Edge {
     Other(u8),
     /// An address byte has come in.
     Address(u8),
+    /// A byte with its acknowledge clock, all nine clocks at once.
+    Put(u8),
+    /// A byte that is read, with the controller's answer, all nine clocks at once.
+    Get(bool),
+    /// The acknowledge clock of an address, as a whole.
+    Enter,
 }
 
 /// Who pulls the lines.
@@ -71,7 +82,73 @@ fn see(target: &mut BitTarget<Node>, edge: Edge)
         Edge::Leave => leave(target),
         Edge::Other(byte) => see_other(target, byte),
         Edge::Address(byte) => target.on_address(byte),
+        Edge::Put(byte) => {
+            put_in(target, byte);
+        }
+        Edge::Get(ack) => {
+            get_in(target, ack);
+        }
+        Edge::Enter => {
+            enter_in(target);
+        }
     }
+}
+
+/// A byte with its acknowledge clock comes to a target. Whether it stands between two bytes of a write, and acknowledges it.
+#[inline(always)]
+fn put_in(target: &mut BitTarget<Node>, byte: u8) -> bool
+    ensures target { target.new ≡ seen (the.Put byte) target.old }
+    ensures acked { result ≡ acks_in byte target.old target.old.mode }
+{
+    match target.mode {
+        Mode::In { address: false, .. } => match target.target.on(Event::Put(byte)) {
+            Answer::Ack => true,
+            Answer::Slow | Answer::Nack | Answer::Byte(_) | Answer::Nothing => false,
+        },
+        Mode::In { .. }
+        | Mode::Out
+        | Mode::Answered { .. }
+        | Mode::Give { .. }
+        | Mode::Gave { .. } => false,
+    }
+}
+
+/// The same where it is joined. Whether it acknowledges the byte, or one of the others.
+#[inline(always)]
+fn put(target: &mut BitTarget<Node>, byte: u8, others: bool) -> bool
+    ensures target { target.new ≡ where_joined (seen (the.Put byte)) target.old }
+    ensures acked { result ≡ (acks_put byte target.old || others) }
+{
+    (target.joined && put_in(target, byte)) || others
+}
+
+/// A byte with its acknowledge clock comes to those that have these numbers, where they are joined, and to no other. Whether one of
+/// them acknowledges it.
+#[inline(always)]
+pub fn put_all(targets: &mut Vec<BitTarget<Node>>, numbers: &[u16], byte: u8) -> bool
+    requires { AreNumbers (length targets.old.items) numbers.now }
+    ensures targets { targets.new.items ≡ by_number (to_those numbers.now (where_joined (seen (the.Put byte)))) 0 targets.old.items }
+    ensures acked { result ≡ some_by (of_those numbers.now (acks_put byte)) 0 targets.old.items }
+{
+    put_each(targets, numbers, byte)
+}
+
+/// The same of a slice.
+#[inline(always)]
+fn put_each(targets: &mut [BitTarget<Node>], numbers: &[u16], byte: u8) -> bool
+    requires { AreNumbers (length targets.old) numbers.now }
+    ensures targets { targets.new ≡ by_number (to_those numbers.now (where_joined (seen (the.Put byte)))) 0 targets.old }
+    ensures acked { result ≡ some_by (of_those numbers.now (acks_put byte)) 0 targets.old }
+{
+    let mut acked = false;
+    for number in numbers {
+        let number = usize::from(*number);
+        let is_there = number < targets.len();
+        prove!(is_there);
+        let target = &mut targets[number];
+        acked = put(target, byte, acked);
+    }
+    acked
 }
 
 /// A target is out of the message that was.
@@ -133,6 +210,188 @@ fn tell_each(targets: &mut [BitTarget<Node>], numbers: &[u16], edge: Edge) -> Pu
         pulls = pulls_with(target, pulls);
     }
     pulls
+}
+
+/// A byte is read with the controller's answer. What the target gives: all ones where it doesn't send.
+#[inline(always)]
+fn get_in(target: &mut BitTarget<Node>, ack: bool) -> u8
+    ensures target { target.new ≡ seen (the.Get ack) target.old }
+    ensures byte { result ≡ gives_in target.old target.old.mode }
+{
+    match target.mode {
+        Mode::Give { .. } => {
+            let byte = target.target.sends();
+            target.target.on(Event::Get { ack });
+            target.mode = if ack {
+                Mode::Give { left: BITS }
+            } else {
+                Mode::Out
+            };
+            byte
+        }
+        Mode::In { .. } | Mode::Out | Mode::Answered { .. } | Mode::Gave { .. } => 0xff,
+    }
+}
+
+/// The same where it is joined.
+#[inline(always)]
+fn get(target: &mut BitTarget<Node>, ack: bool) -> u8
+    ensures target { target.new ≡ where_joined (seen (the.Get ack)) target.old }
+    ensures byte { result ≡ gives_get target.old }
+{
+    if target.joined {
+        get_in(target, ack)
+    } else {
+        0xff
+    }
+}
+
+/// This target pulls SDA, where it is joined, or one of the others.
+#[inline(always)]
+fn pulls_data_with(target: &BitTarget<Node>, others: bool) -> bool
+    ensures { result ≡ (pulls_line node_table target.now || others) }
+{
+    (target.joined && target.pulls_data()) || others
+}
+
+/// What is read of those that send.
+#[derive(Clone, Copy)]
+pub struct Given {
+    /// The AND of their bytes.
+    pub byte: u8,
+    /// Someone pulls SDA low then.
+    pub data: bool,
+}
+
+/// A byte is read with the controller's answer from those that have these numbers, where they are joined, and from no other.
+#[inline(always)]
+pub fn get_all(targets: &mut Vec<BitTarget<Node>>, numbers: &[u16], ack: bool) -> Given
+    requires { AreNumbers (length targets.old.items) numbers.now }
+    ensures targets { targets.new.items ≡ by_number (to_those numbers.now (where_joined (seen (the.Get ack)))) 0 targets.old.items }
+    ensures byte { result.byte ≡ and_by (given_by numbers.now gives_get) 0 targets.old.items }
+    ensures data { result.data ≡ some_by (of_those numbers.now (pulls_line node_table)) 0 targets.new.items }
+{
+    get_each(targets, numbers, ack)
+}
+
+/// The same of a slice.
+#[inline(always)]
+fn get_each(targets: &mut [BitTarget<Node>], numbers: &[u16], ack: bool) -> Given
+    requires { AreNumbers (length targets.old) numbers.now }
+    ensures targets { targets.new ≡ by_number (to_those numbers.now (where_joined (seen (the.Get ack)))) 0 targets.old }
+    ensures byte { result.byte ≡ and_by (given_by numbers.now gives_get) 0 targets.old }
+    ensures data { result.data ≡ some_by (of_those numbers.now (pulls_line node_table)) 0 targets.new }
+{
+    let mut byte: u8 = 0xff;
+    let mut data = false;
+    for number in numbers {
+        let number = usize::from(*number);
+        let is_there = number < targets.len();
+        prove!(is_there);
+        let target = &mut targets[number];
+        byte &= get(target, ack);
+        data = pulls_data_with(target, data);
+    }
+    Given { byte, data }
+}
+
+// What follows the acknowledge clock.
+#[inline(always)]
+fn mode_after(next: Next) -> Mode
+    ensures { result ≡ entered next }
+{
+    match next {
+        Next::Leave => Mode::Out,
+        Next::Take => Mode::In {
+            address: false,
+            left: BITS,
+            value: 0,
+        },
+        Next::Send => Mode::Give { left: BITS },
+    }
+}
+
+/// The acknowledge clock of an address, as a whole. Whether the target pulls SDA in it.
+#[inline(always)]
+fn enter_in(target: &mut BitTarget<Node>) -> bool
+    ensures target { target.new ≡ seen the.Enter target.old }
+    ensures acked { result ≡ acked_in target.old.mode }
+{
+    match target.mode {
+        Mode::Answered { acked, next, .. } => {
+            leave(target);
+            target.mode = mode_after(next);
+            acked
+        }
+        Mode::In { .. } | Mode::Out | Mode::Give { .. } | Mode::Gave { .. } => false,
+    }
+}
+
+/// The same where it is joined. Whether it pulls SDA, or one of the others.
+#[inline(always)]
+fn enter(target: &mut BitTarget<Node>, others: bool) -> bool
+    ensures target { target.new ≡ where_joined (seen the.Enter) target.old }
+    ensures acked { result ≡ (acks_enter target.old || others) }
+{
+    (target.joined && enter_in(target)) || others
+}
+
+/// Who pulls SDA in the acknowledge clock of an address, and behind it.
+#[derive(Clone, Copy)]
+pub struct Entered {
+    /// Someone does so in it.
+    pub acked: bool,
+    /// Someone does so then, for the first bit of a byte.
+    pub data: bool,
+}
+
+/// The acknowledge clock of an address, as a whole, for those that have these numbers, where they are joined, and for no other.
+#[inline(always)]
+pub fn enter_all(targets: &mut Vec<BitTarget<Node>>, numbers: &[u16]) -> Entered
+    requires { AreNumbers (length targets.old.items) numbers.now }
+    ensures targets { targets.new.items ≡ by_number (to_those numbers.now (where_joined (seen the.Enter))) 0 targets.old.items }
+    ensures acked { result.acked ≡ some_by (of_those numbers.now acks_enter) 0 targets.old.items }
+    ensures data { result.data ≡ some_by (of_those numbers.now (pulls_line node_table)) 0 targets.new.items }
+{
+    enter_each(targets, numbers)
+}
+
+/// The same of a slice.
+#[inline(always)]
+fn enter_each(targets: &mut [BitTarget<Node>], numbers: &[u16]) -> Entered
+    requires { AreNumbers (length targets.old) numbers.now }
+    ensures targets { targets.new ≡ by_number (to_those numbers.now (where_joined (seen the.Enter))) 0 targets.old }
+    ensures acked { result.acked ≡ some_by (of_those numbers.now acks_enter) 0 targets.old }
+    ensures data { result.data ≡ some_by (of_those numbers.now (pulls_line node_table)) 0 targets.new }
+{
+    let mut acked = false;
+    let mut data = false;
+    for number in numbers {
+        let number = usize::from(*number);
+        let is_there = number < targets.len();
+        prove!(is_there);
+        let target = &mut targets[number];
+        acked = enter(target, acked);
+        data = pulls_data_with(target, data);
+    }
+    Entered { acked, data }
+}
+
+/// The target of this number is joined, and would hold the clock at its address for too long.
+fn slow_at(targets: &[BitTarget<Node>], number: u16) -> bool
+    ensures { result ≡ slow_at targets.now number }
+{
+    match targets.get(usize::from(number)) {
+        Some(target) => target.joined && target.target.hold() > MOST_LOOKS,
+        None => false,
+    }
+}
+
+/// One of these would.
+pub fn some_slow(targets: &[BitTarget<Node>], numbers: &[u16]) -> bool
+    ensures { result ≡ list_any (slow_at targets.now) numbers.now }
+{
+    numbers.iter().any(|number| slow_at(targets, *number))
 }
 
 /// The target of this number is joined.

@@ -2,15 +2,19 @@
 ghost use Rattle.std.specs.Prelude.{◌≡◌, IfOk, false, map, min};
 ghost use Rattle.ports.specs.Causes.{MOST};
 ghost use Rattle.wire_spec.specs.Wires.{rise, fall, tick, begin, finish};
-ghost use Rattle.wire_spec.specs.Roots.{some_one, pulls_line, where_joined};
+ghost use Rattle.wire_spec.specs.Roots.{some_one, pulls_line, where_joined, and_all};
 ghost use Rattle.wire_spec.specs.Bus.{holds_line, one_edge, one_flip, rejoined};
 ghost use Rattle.wire_spec.specs.Sites.{node_table, mask_of};
 ghost use Rattle.i2c_bits.specs.Wiring.{levelled_bits};
+ghost use Rattle.wire_spec.specs.Calls.{more_edges};
+ghost use Rattle.bus_lines.specs.declared.edges.Edge.TheVariants as the;
+ghost use Rattle.bus_lines.specs.Edges.{seen, acks_put, gives_get};
 ghost use Rattle.bus_lines.specs.Aparts.{apart_of};
+ghost use Rattle.bus_lines.specs.LinesViews.{IsAddressed, edge_if};
 ghost use Rattle.bus_lines.specs.Opens.{opened_targets};
 
 use crate::counter::Counter;
-use crate::edges::{Edge, Pulls, tell};
+use crate::edges::{Edge, Pulls, enter_all, get_all, put_all, some_slow, tell};
 use crate::index::Index;
 use crate::joining::{rejoin, set_level};
 use crate::message::{call, leave, spread, stop};
@@ -153,6 +157,67 @@ impl RootTargets {
                 byte,
             );
         }
+    }
+
+    /// SCL rises, where that is so, and is nothing to the targets: before a repeated start, and before a stop.
+    #[inline(always)]
+    pub fn count_edge(&mut self, rises: bool)
+        ensures { self.new ≡ record self.old { counts = edge_if rises self.old.counts } }
+    {
+        if rises {
+            self.counter.add_edge();
+        }
+    }
+
+    /// An address byte with its acknowledge clock, all nine clocks at once, where an address comes in. Whether it is acknowledged;
+    /// nothing happens where someone at the address would hold the clock for too long.
+    #[inline(always)]
+    pub fn address(&mut self, byte: u8) -> Option<bool>
+        ensures { IsAddressed byte result self.old self.new }
+    {
+        if !self.address.is_coming() || some_slow(self.bits.as_slice(), self.at.at(byte / 2)) {
+            return None;
+        }
+        self.counter.add_nine();
+        self.address = Register::none();
+        call(
+            &mut self.bits,
+            &self.at,
+            &mut self.live,
+            &mut self.started,
+            byte,
+        );
+        let entered = enter_all(&mut self.bits, self.live.as_slice());
+        self.pulls.data = entered.data;
+        Some(entered.acked)
+    }
+
+    /// A byte with its acknowledge clock, all nine clocks at once. Whether it is acknowledged.
+    #[inline(always)]
+    pub fn put(&mut self, byte: u8) -> bool
+        ensures acked { result ≡ some_one (acks_put byte) self.old.bits }
+        ensures after { self.new ≡ record self.old { bits = map (where_joined (seen (the.Put byte))) self.old.bits; counts = more_edges 9 self.old.counts } }
+    {
+        self.counter.add_nine();
+        if self.address.is_coming() {
+            return false;
+        }
+        put_all(&mut self.bits, self.live.as_slice(), byte)
+    }
+
+    /// A byte is read with the controller's answer, all nine clocks at once. The AND of what is sent.
+    #[inline(always)]
+    pub fn get(&mut self, ack: bool) -> u8
+        ensures byte { result ≡ and_all (map gives_get self.old.bits) }
+        ensures after { self.new ≡ record self.old { bits = map (where_joined (seen (the.Get ack))) self.old.bits; counts = more_edges 9 self.old.counts } }
+    {
+        self.counter.add_nine();
+        if self.address.is_coming() {
+            return 0xff;
+        }
+        let given = get_all(&mut self.bits, self.live.as_slice(), ack);
+        self.pulls.data = given.data;
+        given.byte
     }
 
     /// SCL falls.

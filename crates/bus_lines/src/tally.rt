@@ -3,17 +3,19 @@ ghost use Rattle.std.specs.Prelude.{◌≡◌};
 
 use std::snapshot::Snapshot;
 
-/// What has happened on the lines: each rise of SCL, and each start and stop, behind all that was before. It keeps nothing of
+/// What has happened on the lines: each rise of SCL, or the nine of a byte at once, and each start and stop, behind all that was before. It keeps nothing of
 /// that, so that it takes no more memory the longer it goes on. A contract sees the two counts.
 #[derive(Drop)]
 pub enum Tally {
     Nothing,
     Edge(Snapshot<Tally>),
+    Nine(Snapshot<Tally>),
     Flip(Snapshot<Tally>),
 }
 
 impl Tally {
     ghost use Rattle.wire_spec.specs.Bus.{one_edge, one_flip};
+    ghost use Rattle.wire_spec.specs.Calls.{more_edges};
     ghost use Rattle.bus_lines.specs.Tallies.{counts_of};
 
     /// Nothing has happened.
@@ -28,6 +30,13 @@ impl Tally {
         ensures { counts_of self.new ≡ one_edge (counts_of self.old) }
     {
         *self = Tally::Edge(Snapshot::of(self));
+    }
+
+    /// SCL has risen nine times more, for a byte with its acknowledge.
+    pub fn add_nine(&mut self)
+        ensures { counts_of self.new ≡ more_edges 9 (counts_of self.old) }
+    {
+        *self = Tally::Nine(Snapshot::of(self));
     }
 
     /// There was one start or stop more.

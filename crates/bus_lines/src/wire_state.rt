@@ -1,6 +1,7 @@
 //! What the pulls and looks of a controller have come to.
 ghost use Rattle.std.specs.Prelude.{◌≡◌, true, false};
 ghost use Rattle.i2c_bits.specs.Wiring.{wire_pulled, wire_looked};
+ghost use Rattle.bus_lines.specs.LinesViews.{wire_nine, wire_begun, wire_ended};
 
 use i2c_bits::{LOOKS, STOP_LOOKS};
 use std::marker::Model;
@@ -69,6 +70,44 @@ impl WireState {
         }
         self.clock_low = scl;
         self.data_low = sda;
+        self.low = 0;
+    }
+
+    /// The controller has made a start, or a repeated one, before which it let both lines go.
+    #[inline(always)]
+    pub fn begun(&mut self, busy: bool)
+        ensures { self.new ≡ wire_begun self.old busy }
+    {
+        self.pulses = self.pulses.saturating_add(1);
+        self.clock_low = true;
+        self.data_low = true;
+        self.clock_high = busy || self.clock_high;
+        self.data_high = busy || self.data_high;
+        self.low = 0;
+    }
+
+    /// The controller has made a stop, and lets both lines go.
+    #[inline(always)]
+    pub fn ended(&mut self)
+        ensures { self.new ≡ wire_ended self.old }
+    {
+        self.clock_low = false;
+        self.data_low = false;
+        self.clock_high = true;
+        self.data_high = false;
+        self.low = 0;
+    }
+
+    /// The controller has made nine clocks, in the last of which it pulls SDA or not and sees it at this level.
+    #[inline(always)]
+    pub fn nine(&mut self, sda: bool, level: bool)
+        ensures { self.new ≡ wire_nine self.old sda level }
+    {
+        self.pulses = self.pulses.saturating_add(9);
+        self.clock_low = true;
+        self.data_low = sda;
+        self.clock_high = true;
+        self.data_high = level;
         self.low = 0;
     }
 

@@ -93,6 +93,11 @@ CalledTold busy (Ok u) old new =
     new ≡ within_address 8 0 true (both (chips_on old) (devices_on old)) (begun_counts busy old.counts)
 CalledTold busy (Err e) old new = ⊥
 
+-- all that is joined takes in an address of which nothing has come yet
+pub record IsCalled (w : Bus NodeState) : Type 0 where
+  pub sites : List (Site NodeState)
+  pub lines : w ≡ within_address 8 0 true sites w.counts
+
 -- how the lines stand behind the answer to an address byte
 abbrev pub StandsBy : Answer → ℕ → Rooted → Bus NodeState → Type 0
 StandsBy Ack byte k w = StandsIn k (entered_by byte) w

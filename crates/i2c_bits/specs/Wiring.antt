@@ -8,7 +8,7 @@ use Rattle.i2c_spec.specs.Chips.{at_level}
 use Rattle.ports.specs.Causes.{counted}
 use Rattle.wire_spec.specs.Wires.{Site, Bit, LOOKS, shifted}
 use Rattle.wire_spec.specs.Bus.{Bus, Came, rejoined, came_up, gave_up}
-use Rattle.wire_spec.specs.Calls.{STOP_LOOKS}
+use Rattle.wire_spec.specs.Calls.{STOP_LOOKS, start_pulls, repeated_start}
 use Rattle.wire_spec.specs.Sites.{NodeState, Chip, Device, node_table, mask_of}
 use Rattle.i2c_bits.specs.declared.lines.Low.{Low}
 
@@ -87,6 +87,12 @@ CameAnswer (Err e) b eight sent = eight.up ≡ false
 abbrev pub CameStart : Result (Unit {0}) Low → Bus NodeState → Bool × Bus NodeState → Type 0
 CameStart (Ok u) b p = (true, b) ≡ p
 CameStart (Err e) b p = p.0 ≡ false
+
+-- a start from free lines, and a repeated one within a message
+abbrev pub CameBegin : (busy : Bool) → Result (Unit {0}) Low → Rooted → Bus NodeState → Bus NodeState → Type 0
+CameBegin false (Ok u) k old new = new ≡ start_pulls the_table (mask_at k) old
+CameBegin false (Err e) k old new = ⊥
+CameBegin true r k old new = CameStart r new (repeated_start the_table (mask_at k) old)
 
 abbrev pub came_stop : Result (Unit {0}) Low → Bus NodeState → Bool × Bus NodeState
 came_stop (Ok u) b = (true, b)

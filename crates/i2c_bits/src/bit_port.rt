@@ -15,7 +15,7 @@ ghost use Rattle.i2c_bits.specs.PortViews as view;
 ghost use Rattle.i2c_bits.specs.PortViews.{FaultsTell, port_of};
 
 use crate::bytes::{get_byte, put_byte};
-use crate::lines::Lines;
+use crate::lines::ByteLines;
 use crate::messages::{set_line, start_message, stop_message};
 use crate::phases::{is_busy, is_late, started};
 use i2c_base::{Addr, Answer, MOST_CALLS, MuxId, NoMemory, Phase, PortCall};
@@ -25,14 +25,14 @@ use std::marker::Model;
 
 /// A port over the two lines of a root, bit by bit.
 #[derive(Drop)]
-pub struct BitPort<L: Lines> {
+pub struct BitPort<L: ByteLines> {
     lines: L,
     log: Vec<PortCall>,
     phase: Phase,
     faults: u64,
 }
 
-impl<L: Lines> Model for BitPort<L> {
+impl<L: ByteLines> Model for BitPort<L> {
     ghost use Rattle.std.specs.Prelude.{vec_capacity};
     ghost use Rattle.i2c_bits.specs.PortViews.{BitPortView, IsBitPort, port_of};
 
@@ -56,7 +56,7 @@ pub struct PortParts<L> {
 // Each call of the log takes at most 8 bytes.
 const _: () = prove!(size_of::<PortCall>() <= 8);
 
-impl<L: Lines> BitPort<L> {
+impl<L: ByteLines> BitPort<L> {
     /// A port over free lines, on which nobody is in a message, with the room of its log.
     pub fn open(alloc: Global, lines: L) -> Result<Self, NoMemory>
         requires let_go { AreLetGo (L.wire lines) }
@@ -114,7 +114,7 @@ impl<L: Lines> BitPort<L> {
     }
 }
 
-impl<L: Lines + Send> Port for BitPort<L> {
+impl<L: ByteLines + Send> Port for BitPort<L> {
     ghost tells = { L.tells };
 
     ghost world = { λ p. p.world };

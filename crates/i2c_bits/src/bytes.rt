@@ -6,7 +6,7 @@ ghost use Rattle.i2c_bits.specs.Wiring.{the_table, mask_at, came_acked, CameRead
 ghost use Rattle.i2c_bits.specs.Stands.{StandsIn, PutTold, GetTold};
 
 use crate::clocks::{bit, shift};
-use crate::lines::{Lines, Low};
+use crate::lines::{ByteLines, Lines, Low};
 use i2c_spec::devices_hold_bytes;
 use wire_spec::{
     a_get_on_the_sites_is_one_in_the_world, a_get_on_the_wires_is_one_in_the_world,
@@ -48,7 +48,7 @@ pub fn receive<L: Lines>(lines: &mut L, ack: bool) -> Result<u8, Low>
 }
 
 /// A byte to the targets that have heard, and whether some one acknowledges it.
-pub fn put_byte<L: Lines>(lines: &mut L, byte: u8) -> Result<bool, Low>
+pub fn put_byte<L: ByteLines>(lines: &mut L, byte: u8) -> Result<bool, Low>
     requires stands { IsTrue L.tells → StandsIn (L.board lines.old) (In false 8 0) (L.bus lines.old) }
     ensures board { L.board lines.new ≡ L.board lines.old }
     ensures looks { LooksTell result (L.wire lines.old) (L.wire lines.new) }
@@ -58,11 +58,11 @@ pub fn put_byte<L: Lines>(lines: &mut L, byte: u8) -> Result<bool, Low>
     a_put_on_the_sites_is_one_in_the_world();
     chips_stand_before_devices();
     devices_hold_bytes();
-    send(lines, byte)
+    lines.send_byte(byte)
 }
 
 /// A byte from the targets that have heard, and the controller's answer to it.
-pub fn get_byte<L: Lines>(lines: &mut L, ack: bool) -> Result<u8, Low>
+pub fn get_byte<L: ByteLines>(lines: &mut L, ack: bool) -> Result<u8, Low>
     requires stands { IsTrue L.tells → StandsIn (L.board lines.old) (Give 8) (L.bus lines.old) }
     ensures board { L.board lines.new ≡ L.board lines.old }
     ensures looks { LooksTell result (L.wire lines.old) (L.wire lines.new) }
@@ -72,5 +72,5 @@ pub fn get_byte<L: Lines>(lines: &mut L, ack: bool) -> Result<u8, Low>
     a_get_on_the_sites_is_one_in_the_world();
     chips_stand_before_devices();
     devices_hold_bytes();
-    receive(lines, ack)
+    lines.receive_byte(ack)
 }

@@ -22,5 +22,5 @@ mod phases;
 pub use bit_port::{BitPort, PortParts};
 pub use bytes::{get_byte, put_byte, receive, send};
 pub use clocks::{LOOKS, bit, release, shift};
-pub use lines::{Lines, Low};
-pub use messages::{STOP_LOOKS, set_line, start_message, stop_message};
+pub use lines::{ByteLines, Lines, Low};
+pub use messages::{STOP_LOOKS, address, set_line, start_message, stop_message};

@@ -4,11 +4,11 @@ ghost use Rattle.wire_spec.specs.Wires.{bits};
 ghost use Rattle.wire_spec.specs.Bus.{bit_steps};
 ghost use Rattle.wire_spec.specs.Calls.{start_pulls, let_both, repeated_start, stop_pulls, slow_stop, sent_byte};
 ghost use Rattle.ports.specs.LineCalls.{HasLine};
-ghost use Rattle.i2c_bits.specs.Wiring.{the_table, mask_at, came, CameAnswer, CameStart, came_stop, AreLetGo, LooksTell, StartLooksTell, StopLooksTell};
+ghost use Rattle.i2c_bits.specs.Wiring.{the_table, mask_at, came, CameAnswer, CameStart, CameBegin, came_stop, AreLetGo, LooksTell, StartLooksTell, StopLooksTell};
 ghost use Rattle.i2c_bits.specs.Stands.{world_at, IsFree, MayBegin, CalledTold, StartTold, MayEnd, StopTold, LineIs};
 
 use crate::clocks::{LOOKS, bit, release, shift};
-use crate::lines::{Lines, Low};
+use crate::lines::{ByteLines, Lines, Low};
 use i2c_base::{Answer, MuxId};
 use i2c_spec::devices_hold_bytes;
 use wire_spec::{
@@ -60,10 +60,11 @@ fn begin_again<L: Lines>(lines: &mut L) -> Result<(), Low>
 }
 
 /// A start, or a repeated one within a message: all that is joined takes in an address.
-fn begin_either<L: Lines>(lines: &mut L, busy: bool) -> Result<(), Low>
+pub fn begin_either<L: Lines>(lines: &mut L, busy: bool) -> Result<(), Low>
     requires stands { IsTrue L.tells → MayBegin busy (L.board lines.old) (L.bus lines.old) }
     ensures board { L.board lines.new ≡ L.board lines.old }
     ensures looks { LooksTell result (L.wire lines.old) (L.wire lines.new) }
+    ensures bus { IsTrue L.tells → CameBegin busy result (L.board lines.old) (L.bus lines.old) (L.bus lines.new) }
     ensures told { IsTrue L.tells → CalledTold busy result (L.bus lines.old) (L.bus lines.new) }
 {
     a_start_calls_all_that_is_joined();
@@ -78,7 +79,7 @@ fn begin_either<L: Lines>(lines: &mut L, busy: bool) -> Result<(), Low>
 
 /// An address byte, and its answer: a clock that is held for too long in the ninth clock is Slow (UM10204 sections 3.1.9 and
 /// 3.1.10).
-fn address<L: Lines>(lines: &mut L, byte: u8) -> Result<Answer, Low>
+pub fn address<L: Lines>(lines: &mut L, byte: u8) -> Result<Answer, Low>
     ensures board { L.board lines.new ≡ L.board lines.old }
     ensures bus { IsTrue L.tells
         → CameAnswer result (L.bus lines.new) (bit_steps the_table (mask_at (L.board lines.old)) 0 (bits 8 byte) (L.bus lines.old))
@@ -96,7 +97,7 @@ fn address<L: Lines>(lines: &mut L, byte: u8) -> Result<Answer, Low>
 }
 
 /// A start with this address byte, to all that is joined. Where SCL stays low, both lines are let go.
-pub fn start_message<L: Lines>(lines: &mut L, busy: bool, byte: u8) -> Result<Answer, Low>
+pub fn start_message<L: ByteLines>(lines: &mut L, busy: bool, byte: u8) -> Result<Answer, Low>
     requires stands { IsTrue L.tells → MayBegin busy (L.board lines.old) (L.bus lines.old) }
     ensures board { L.board lines.new ≡ L.board lines.old }
     ensures looks { StartLooksTell result (L.wire lines.old) (L.wire lines.new) }
@@ -107,8 +108,8 @@ pub fn start_message<L: Lines>(lines: &mut L, busy: bool, byte: u8) -> Result<An
     a_message_that_nobody_hears_is_out();
     chips_stand_before_devices();
     devices_hold_bytes();
-    match begin_either(lines, busy) {
-        Ok(()) => address(lines, byte),
+    match lines.begin(busy) {
+        Ok(()) => lines.address_byte(byte),
         Err(low) => Err(low),
     }
 }
@@ -133,7 +134,7 @@ fn finish<L: Lines>(lines: &mut L) -> Result<(), Low>
 }
 
 /// A stop within a message.
-fn end<L: Lines>(lines: &mut L) -> Result<(), Low>
+pub fn end<L: Lines>(lines: &mut L) -> Result<(), Low>
     ensures board { L.board lines.new ≡ L.board lines.old }
     ensures bus { IsTrue L.tells
         → came_stop result (L.bus lines.new) ≡ stop_pulls the_table (mask_at (L.board lines.old)) (L.bus lines.old) }
@@ -144,7 +145,7 @@ fn end<L: Lines>(lines: &mut L) -> Result<(), Low>
 }
 
 /// A stop, within a message or after a start that was too slow. In each case both lines are let go.
-pub fn stop_message<L: Lines>(lines: &mut L, late: bool) -> Result<(), Low>
+pub fn stop_message<L: ByteLines>(lines: &mut L, late: bool) -> Result<(), Low>
     requires stands { IsTrue L.tells → MayEnd late (L.board lines.old) (L.bus lines.old) }
     ensures board { L.board lines.new ≡ L.board lines.old }
     ensures looks { StopLooksTell result (L.wire lines.old) (L.wire lines.new) }
@@ -156,7 +157,7 @@ pub fn stop_message<L: Lines>(lines: &mut L, late: bool) -> Result<(), Low>
     a_stop_on_the_sites_is_one_in_the_world();
     chips_stand_before_devices();
     devices_hold_bytes();
-    if late { finish(lines) } else { end(lines) }
+    if late { finish(lines) } else { lines.end() }
 }
 
 /// Sets the line of a mux while no message is in progress.

@@ -1,5 +1,6 @@
 use Rattle.std.proofs.Common.{Bool, sym, subst}
 use Rattle.std.specs.Prelude.{Ok}
+use Rattle.i2c_bits.specs.Wiring.{CameBegin}
 use Rattle.i2c_bits.specs.Stands.{MayBegin, CalledTold}
 use Rattle.i2c_bits.proofs.Starts.{called_free, called_again}
 use Rattle.i2c_bits.proofs.messages.begin_either.Goals as goal
@@ -24,3 +25,16 @@ returns-else-busy-clause-told g c tells =
     subst (λ (b : Bool). MayBegin b k old → CalledTold b (Ok tt) old new) (sym c.if-busy.false)
     (λ may. called_free c.a_start_calls_all_that_is_joined.ensures k old new may (c.begin.ensures.bus tells))
     (c.requires.stands tells)
+
+pub returns-then-busy-clause-bus : goal.returns-then-busy-clause-bus
+returns-then-busy-clause-bus g c tells =
+    let bus = g.L.Lines.bus in
+    let k = g.L.Lines.board c.args.lines.now in
+    subst (λ (b : Bool). CameBegin b c.begin_again.result k (bus c.args.lines.now) (bus c.begin_again.new.lines)) (sym c.if-busy.true)
+    (c.begin_again.ensures.bus tells)
+
+pub returns-else-busy-clause-bus : goal.returns-else-busy-clause-bus
+returns-else-busy-clause-bus g c tells =
+    let bus = g.L.Lines.bus in
+    let k = g.L.Lines.board c.args.lines.now in
+    subst (λ (b : Bool). CameBegin b (Ok tt) k (bus c.args.lines.now) (bus c.begin.new.lines)) (sym c.if-busy.false) (c.begin.ensures.bus tells)

@@ -20,7 +20,7 @@ returns-else-late-clause-told g c tells =
     let bus = g.L.Lines.bus in
     let k = g.L.Lines.board c.args.lines.now in
     let old = bus c.args.lines.now in
-    let new = bus c.end.new.lines in
+    let new = bus c.end.new.self in
     let law = c.a_stop_on_the_wires_is_one_in_the_world.ensures in
     subst (λ (b : Bool). MayEnd b k old → StopTold k b c.end.result old new) (sym c.if-late.false)
     (λ may. stop_told c.chips_stand_before_devices.ensures c.devices_hold_bytes.ensures.kept

@@ -1,0 +1,153 @@
+-- A byte that is put, all nine clocks at once: what it is to each target, to all of them, and on the lines.
+use Rattle.std.proofs.Common.{◌≡◌, ℕ, zero, suc, ◌<◌, Bool, true, false, ◌&&◌, List, [], ◌∷◌, map, refl, sym, ap, ◌∙◌, arith}
+use Rattle.std.specs.Prelude.{not}
+use Rattle.wire_spec.specs.declared.mode.Mode.{Mode}
+use Rattle.wire_spec.specs.declared.mode.Mode.TheVariants.{Out, In, Answered, Give, Gave}
+use Rattle.wire_spec.specs.Wires.{Site, Bit, site_of, stands, shifted}
+use Rattle.wire_spec.specs.Roots.{where_joined, some_one, pulls_line, at, put_site, acks}
+use Rattle.wire_spec.specs.Bus.{Bus, bus_of, came_up, holds_line}
+use Rattle.wire_spec.specs.Calls.{released, more_edges, within, sent_byte}
+use Rattle.wire_spec.specs.Laws.{PutsAreEvents}
+use Rattle.wire_spec.specs.Sites.{NodeState, node_table, both}
+use Rattle.i2c_bits.specs.Wiring.{Wire, the_table, mask_at}
+use Rattle.i2c_bits.specs.Stands.{StandsIn, chips_on, devices_on}
+use Rattle.bus_lines.specs.declared.edges.Edge.TheVariants.{Put}
+use Rattle.bus_lines.specs.Edges.{seen, acks_in, acks_put}
+use Rattle.bus_lines.specs.Joins.{PlaceView, states_on, joins_by}
+use Rattle.bus_lines.specs.LinesViews.{TargetsView, LinesView, lines_of, wire_nine}
+use Rattle.bus_lines.specs.Units.{by_number, some_by, to_those, of_those, shared, AreUnits}
+use Rattle.bus_lines.proofs.NumberedLemmas.{some_of_those}
+use Rattle.bus_lines.proofs.AddressLemmas.{seen_each, some_mapped}
+use Rattle.bus_lines.proofs.TargetsLemmas.{seen_alone, all_told, told_holds, told_pulls}
+
+-- ---- one target
+holds_so : (byte : ℕ) (a : ℕ) (j h : Bool) (x : NodeState) (m : Mode) (k : ℕ)
+    → holds_line (where_joined (seen (Put byte)) (stands (site_of a j h x) m k)) ≡ holds_line (stands (site_of a j h x) m k)
+holds_so byte a false h x m k = refl
+holds_so byte a true h x Out k = refl
+holds_so byte a true h x (In true left v) k = refl
+holds_so byte a true h x (In false left v) k = refl
+holds_so byte a true h x (Answered begun acked next looks) k = refl
+holds_so byte a true h x (Give left) k = refl
+holds_so byte a true h x (Gave more) k = refl
+
+pulls_so : (byte : ℕ) (a : ℕ) (j h : Bool) (x : NodeState) (m : Mode) (k : ℕ)
+    → pulls_line node_table (where_joined (seen (Put byte)) (stands (site_of a j h x) m k)) ≡ pulls_line node_table (stands (site_of a j h x) m k)
+pulls_so byte a false h x m k = refl
+pulls_so byte a true h x Out k = refl
+pulls_so byte a true h x (In true left v) k = refl
+pulls_so byte a true h x (In false left v) k = refl
+pulls_so byte a true h x (Answered begun acked next looks) k = refl
+pulls_so byte a true h x (Give left) k = refl
+pulls_so byte a true h x (Gave more) k = refl
+
+and_none : (b : Bool) → (b && false) ≡ false
+and_none true = refl
+and_none false = refl
+
+pub acks_none : (byte : ℕ) (b : Bit NodeState) → b ≡ released b.site → acks_put byte b ≡ false
+acks_none byte b out = ap (acks_put byte) out ∙ and_none b.site.joined
+
+pub acks_nobody : (byte : ℕ) (b : Bit NodeState) → b.site.joined ≡ false → acks_put byte b ≡ false
+acks_nobody byte b apart = ap (λ j. j && acks_in byte b b.mode) apart
+
+-- ---- while an address comes in it is nothing
+shared_puts_so : (n v byte : ℕ) (a : ℕ) (j h : Bool) (x : NodeState) (m : Mode) (k : ℕ)
+    → shared (suc n) v (stands (site_of a j h x) m k) ≡ where_joined (seen (Put byte)) (shared (suc n) v (stands (site_of a j h x) m k))
+shared_puts_so n v byte a true h x m k = refl
+shared_puts_so n v byte a false h x m k = refl
+
+shared_acks_so : (n v byte : ℕ) (a : ℕ) (j h : Bool) (x : NodeState) (m : Mode) (k : ℕ)
+    → acks_put byte (shared (suc n) v (stands (site_of a j h x) m k)) ≡ false
+shared_acks_so n v byte a true h x m k = refl
+shared_acks_so n v byte a false h x m k = refl
+
+pub puts_coming : (left v byte : ℕ) (bs : List (Bit NodeState)) → 0 < left
+    → map (shared left v) bs ≡ map (where_joined (seen (Put byte))) (map (shared left v) bs)
+puts_coming zero v byte bs some = absurd (omega (arith, some))
+puts_coming (suc n) v byte bs some =
+    seen_each (shared (suc n) v) (shared (suc n) v) (where_joined (seen (Put byte))) bs
+    (λ b. shared_puts_so n v byte b.site.addr b.site.joined b.site.heard b.site.state b.mode b.hold)
+
+pub acks_coming : (left v byte : ℕ) (bs : List (Bit NodeState)) → 0 < left → some_one (acks_put byte) (map (shared left v) bs) ≡ false
+acks_coming zero v byte bs some = absurd (omega (arith, some))
+acks_coming (suc n) v byte bs some =
+    some_mapped (acks_put byte) (shared (suc n) v) bs
+    (λ b. shared_acks_so n v byte b.site.addr b.site.joined b.site.heard b.site.state b.mode b.hold)
+
+-- ---- all of them: who held and pulled before does so still
+pub some_kept : (p : Bit NodeState → Bool) (g : Bit NodeState → Bit NodeState) (bs : List (Bit NodeState)) → ((b : Bit NodeState) → p (g b) ≡ p b)
+    → some_one p (map g bs) ≡ some_one p bs
+some_kept p g [] same = refl
+some_kept p g (b ∷ bs) same = rw (same b, some_kept p g bs same) refl
+
+module _ (byte : ℕ) (left v : ℕ) (live started : List ℕ) (at : List (List ℕ)) (ps : List PlaceView) (bs : List (Bit NodeState))
+    (none : left ≡ 0) (units : AreUnits left live started at (joins_by ps (states_on bs)) bs) where
+  pub put_holds : (new : List (Bit NodeState)) → new ≡ by_number (to_those live (where_joined (seen (Put byte)))) 0 bs
+      → (held : Bool) → held ≡ some_one holds_line (map (shared left v) bs) → held ≡ some_by (of_those live holds_line) 0 new
+  put_holds new is held was =
+      was ∙ ap (some_one holds_line) (seen_alone left v bs none)
+      ∙ sym (ap (some_by (of_those live holds_line) 0) is
+      ∙ told_holds (Put byte) tt left live started at ps bs none units
+      ∙ ap (some_one holds_line) (all_told (Put byte) tt left live started at ps bs none units)
+      ∙ some_kept holds_line (where_joined (seen (Put byte))) bs
+      (λ b. holds_so byte b.site.addr b.site.joined b.site.heard b.site.state b.mode b.hold))
+
+  pub put_pulls : (new : List (Bit NodeState)) → new ≡ by_number (to_those live (where_joined (seen (Put byte)))) 0 bs
+      → (pulled : Bool) → pulled ≡ some_one (pulls_line node_table) (map (shared left v) bs)
+      → pulled ≡ some_by (of_those live (pulls_line node_table)) 0 new
+  put_pulls new is pulled was =
+      was ∙ ap (some_one (pulls_line node_table)) (seen_alone left v bs none)
+      ∙ sym (ap (some_by (of_those live (pulls_line node_table)) 0) is
+      ∙ told_pulls (Put byte) tt left live started at ps bs none units
+      ∙ ap (some_one (pulls_line node_table)) (all_told (Put byte) tt left live started at ps bs none units)
+      ∙ some_kept (pulls_line node_table) (where_joined (seen (Put byte))) bs
+      (λ b. pulls_so byte b.site.addr b.site.joined b.site.heard b.site.state b.mode b.hold))
+
+  -- those that are told are all that acknowledge
+  pub put_acks : some_by (of_those live (acks_put byte)) 0 bs ≡ some_one (acks_put byte) (map (shared left v) bs)
+  put_acks =
+      some_of_those live (acks_put byte) bs (λ k b is out. acks_none byte b ((units k b is).out out))
+      ∙ ap (some_one (acks_put byte)) (sym (seen_alone left v bs none))
+
+-- ---- between two bytes of a write it is one event of each site
+put_at : (byte : ℕ) (a : ℕ) (j h : Bool) (x : NodeState)
+    → where_joined (seen (Put byte)) (at (In false 8 0) (site_of a j h x)) ≡ at (In false 8 0) (put_site node_table byte (site_of a j h x))
+put_at byte a true true x = refl
+put_at byte a true false x = refl
+put_at byte a false h x = refl
+
+acks_at : (byte : ℕ) (a : ℕ) (j h : Bool) (x : NodeState) → acks_put byte (at (In false 8 0) (site_of a j h x)) ≡ acks node_table byte (site_of a j h x)
+acks_at byte a true true x = refl
+acks_at byte a true false x = refl
+acks_at byte a false h x = refl
+
+puts_at : (byte : ℕ) (ss : List (Site NodeState))
+    → map (where_joined (seen (Put byte))) (map (at (In false 8 0)) ss) ≡ map (at (In false 8 0)) (map (put_site node_table byte) ss)
+puts_at byte [] = refl
+puts_at byte (s ∷ ss) = rw (put_at byte s.addr s.joined s.heard s.state, puts_at byte ss) refl
+
+some_acks_at : (byte : ℕ) (ss : List (Site NodeState)) → some_one (acks_put byte) (map (at (In false 8 0)) ss) ≡ some_one (acks node_table byte) ss
+some_acks_at byte [] = refl
+some_acks_at byte (s ∷ ss) = rw (acks_at byte s.addr s.joined s.heard s.state, some_acks_at byte ss) refl
+
+-- ---- on the lines it is what its nine clocks come to
+pub send_is : PutsAreEvents node_table → (t u : TargetsView) (w v : Wire) (now : LinesView) → lines_of t w ≡ now → (byte : ℕ) → byte < 256
+    → StandsIn now.rooted (In false 8 0) now.bus → (acked : Bool) → acked ≡ some_one (acks_put byte) t.bits
+    → u ≡ record t { bits = map (where_joined (seen (Put byte))) t.bits; counts = more_edges 9 t.counts } → (level : Bool) → v ≡ wire_nine w false level
+    → came_up (shifted 0 (not acked)) (bus_of v.scl v.sda u.bits u.counts) ≡ sent_byte the_table (mask_at now.rooted) byte now.bus
+unfolding the_table
+send_is law t u w v now view byte lt stands acked answer is level wire =
+    let ss : List (Site NodeState) = both (chips_on now.bus) (devices_on now.bus) in
+    let m : Mode = In false 8 0 in
+    let there : t.bits ≡ map (at m) ss = ap (λ (l : LinesView). l.bus.targets) view ∙ ap (λ (b : Bus NodeState). b.targets) stands.lines in
+    let says : acked ≡ some_one (acks node_table byte) ss = answer ∙ ap (some_one (acks_put byte)) there ∙ some_acks_at byte ss in
+    let leaves : u.bits ≡ map (at m) (map (put_site node_table byte) ss) =
+    ap (λ (x : TargetsView). x.bits) is ∙ ap (map (where_joined (seen (Put byte)))) there ∙ puts_at byte ss in
+    let counts : u.counts ≡ more_edges 9 now.bus.counts =
+    ap (λ (x : TargetsView). x.counts) is ∙ ap (λ (l : LinesView). more_edges 9 l.bus.counts) view in
+    ap (λ (x : Wire). came_up (shifted 0 (not acked)) (bus_of x.scl x.sda u.bits u.counts)) wire
+    ∙ ap (λ bs. came_up (shifted 0 (not acked)) (bus_of true false bs u.counts)) leaves
+    ∙ ap (λ c. came_up (shifted 0 (not acked)) (within m false (map (put_site node_table byte) ss) c)) counts
+    ∙ ap (λ a. came_up (shifted 0 (not a)) (within m false (map (put_site node_table byte) ss) (more_edges 9 now.bus.counts))) says
+    ∙ sym (ap (sent_byte node_table (mask_at now.rooted) byte) stands.lines ∙ law (mask_at now.rooted) byte lt now.bus.sda ss now.bus.counts)

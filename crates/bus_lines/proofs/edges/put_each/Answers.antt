@@ -1,0 +1,49 @@
+use Rattle.std.proofs.Common.{length-set, get_or, sym, ap, ◌∙◌, arith}
+use Rattle.wire_spec.specs.Roots.{where_joined}
+use Rattle.bus_lines.specs.declared.edges.Edge.TheVariants.{Put}
+use Rattle.bus_lines.specs.Edges.{seen, acks_put}
+use Rattle.bus_lines.proofs.NumberedLemmas.{told, told_was, told_each, told_was_each, told_next, was_next, among_at, drop_all}
+use Rattle.bus_lines.proofs.edges.put_each.Goals as goal
+
+pub prove-unreachable-requires : goal.prove-unreachable-requires
+prove-unreachable-requires c =
+    let ns = c.args.numbers.now in
+    let i = c.loop-number.number-index in
+    let low = c.requires.below (get_or ns i 0) (among_at ns i c.loop-number-test.true) in
+    absurd (omega (arith, low, c.from-number.ensures, c.if-prove.true, c.loop-number.invariant.count))
+
+pub loop-number-preserved : goal.loop-number-preserved
+loop-number-preserved c =
+    let f = where_joined (seen (Put c.args.byte)) in
+    let ns = c.args.numbers.now in
+    let i = c.loop-number.number-index in
+    let n = c.from-number.result in
+    let now = c.loop-number.targets in
+    let lt = c.loop-number-test.true in
+    let was = c.loop-number.invariant in
+    let at = c.index-targets-number.result in
+    let put = c.put-acked in
+    let new = put.new.target in
+    let low = c.if-prove.false in
+    record {
+      count = length-set now n new ∙ was.count;
+      targets = told_next f ns i n lt c.from-number.ensures now at new low put.ensures.target ∙ was.targets;
+      acked = was_next f ns i n lt c.from-number.ensures now at new low put.ensures.target (acks_put c.args.byte) c.loop-number.acked
+          put.result put.ensures.acked ∙ was.acked;
+    }
+
+pub returns-clause-targets : goal.returns-clause-targets
+returns-clause-targets c =
+    let f = where_joined (seen (Put c.args.byte)) in
+    let ns = c.args.numbers.now in
+    let over = drop_all ns c.loop-number.number-index c.loop-number-test.false in
+    sym (ap (λ ms. told f ms c.loop-number.targets) over) ∙ c.loop-number.invariant.targets ∙ told_each f ns c.args.targets.now c.requires.apart
+
+pub returns-clause-acked : goal.returns-clause-acked
+returns-clause-acked c =
+    let f = where_joined (seen (Put c.args.byte)) in
+    let q = acks_put c.args.byte in
+    let ns = c.args.numbers.now in
+    let over = drop_all ns c.loop-number.number-index c.loop-number-test.false in
+    sym (ap (λ ms. told_was f q c.loop-number.acked ms c.loop-number.targets) over) ∙ c.loop-number.invariant.acked
+    ∙ told_was_each f q ns c.args.targets.now c.requires.apart
