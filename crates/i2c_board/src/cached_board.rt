@@ -46,12 +46,13 @@ impl<'b> Model for CachedBoard<'b> {
     ghost invariant = { λ c. (vec_len c.known ≡ 512) × All (AreKnown c.board.now) c.known.items };
 }
 
-// The cell of an address on a bus. Those of the 128 addresses of a bus are distinct.
+// The cell of an address on a bus: the 128 addresses of a bus have cells in a row, and those of a bus and of the next two
+// share none.
 #[inline(always)]
 fn cell_of(bus: u16, addr: Addr) -> usize
     ensures { result < 512 }
 {
-    usize::from(bus.wrapping_mul(37).wrapping_add(u16::from(addr.get())) % 512)
+    usize::from(bus.wrapping_mul(131).wrapping_add(u16::from(addr.get())) % 512)
 }
 
 // Puts a grant at a place.
