@@ -153,7 +153,7 @@ unheard_one t reading s true true is slow ack =
 unheard_one t reading s true false is slow ack = and_false s.joined false refl
 unheard_one t reading s false named is slow ack = ap (λ j. j && s.heard) is
 
-unheard_all : {X : Type 0} (t : Table X) (byte : ℕ) (ss : List (Site X))
+pub unheard_all : {X : Type 0} (t : Table X) (byte : ℕ) (ss : List (Site X))
     → some_one (answers_so t is_slow (byte / 2) (is_reading byte)) ss ≡ false
     → some_one (answers_so t is_ack (byte / 2) (is_reading byte)) ss ≡ false
     → some_one hearing (map (started t byte) ss) ≡ false

@@ -55,7 +55,7 @@ pub all_joined : (f : ℕ → Bool) (n : ℕ) (ds : List (Site TargetState))
 all_joined f n [] all = tt
 all_joined f n (d ∷ ds) all = (all.0, all_joined f (n + 1) ds all.1)
 
-free_on : (k : Rooted) (w : Bus NodeState) (c : Counts) (cs : List (Site ChipView)) (ds : List (Site TargetState))
+pub free_on : (k : Rooted) (w : Bus NodeState) (c : Counts) (cs : List (Site ChipView)) (ds : List (Site TargetState))
     → On w cs ds → w ≡ free (both cs ds) c → AreTold k cs ds → (world_at k false w).hearing ≡ [] → IsFree k w
 free_on k w c cs ds on is told nobody = record {
   lines =

@@ -96,7 +96,7 @@ pub or_right : (a b : Bool) → (a || b) ≡ false → b ≡ false
 or_right true b h = cc
 or_right false b h = h
 
-fall_all : {X : Type 0} (t : Table X) (byte r j : ℕ) (ss : List (Site X)) → some_one (stays t byte j) ss ≡ false
+pub fall_all : {X : Type 0} (t : Table X) (byte r j : ℕ) (ss : List (Site X)) → some_one (stays t byte j) ss ≡ false
     → map (where_joined fall) (map (waiting t byte r j) ss) ≡ map (settled t byte) ss
 fall_all t byte r j [] done = refl
 fall_all t byte r j (s ∷ ss) done =

@@ -83,12 +83,12 @@ pub stop_on_wires : (m : Mode) → StopFreesTheLines node_table m → StopOnWire
 stop_on_wires m frees b r low cs ds c =
     frees (mask_of b r) low (both cs ds) c ∙ ap (λ ss. (true, free ss (one_flip (one_edge c)))) (stop_parts b r cs ds)
 
-all_with : {X : Type 0} (g : X → NodeState) (P : X → Type 0) → ((x : X) → P x → IsByte (node_table.hold (g x))) → (ss : List (Site X))
+pub all_with : {X : Type 0} (g : X → NodeState) (P : X → Type 0) → ((x : X) → P x → IsByte (node_table.hold (g x))) → (ss : List (Site X))
     → AllByRecursion (λ (s : Site X). P s.state) ss → AllByRecursion (λ (s : Site NodeState). IsByte (node_table.hold s.state)) (map (site_with g) ss)
 all_with g P is [] all = tt
 all_with g P is (s ∷ ss) all = (is s.state all.0, all_with g P is ss all.1)
 
-all_chips : (cs : List (Site ChipView)) (ns : List (Site NodeState)) → AllByRecursion (λ (s : Site NodeState). IsByte (node_table.hold s.state)) ns
+pub all_chips : (cs : List (Site ChipView)) (ns : List (Site NodeState)) → AllByRecursion (λ (s : Site NodeState). IsByte (node_table.hold s.state)) ns
     → AllByRecursion (λ (s : Site NodeState). IsByte (node_table.hold s.state)) (map (site_with Chip) cs ++ ns)
 all_chips [] ns all = all
 all_chips (c ∷ cs) ns all = (omega arith, all_chips cs ns all)

@@ -124,7 +124,7 @@ late_stop t mask g rest v (suc n) j ss c sum quick true is =
 abbrev pub left_hold : {X : Type 0} → Table X → ℕ → Site X → ℕ
 left_hold t byte s = cond (is_named byte s) (stretch t s (is_reading byte) - 65) 0
 
-abbrev started_if : {X : Type 0} → Table X → ℕ → Site X → Bool → Bool → Site X
+abbrev pub started_if : {X : Type 0} → Table X → ℕ → Site X → Bool → Bool → Site X
 started_if t byte s jd h = cond jd (cond h (hears t s (is_reading byte)) (other t s)) s
 
 late_is : {X : Type 0} (t : Table X) (byte a : ℕ) (jd e h : Bool) (x : X)
@@ -168,13 +168,13 @@ low_pull {X} t mask ts c busy =
     ap (λ b. edge t mask (not b) (sda_level t (bus_of false false ts c)) w) busy
     ∙ ap (λ b. cond {A = Bus X} (not b) (rises t w) w) busy
 
-late_map : {X : Type 0} (t : Table X) (byte : ℕ) (ss : List (Site X)) → map (late t byte) ss ≡ map (resting (started t byte) (left_hold t byte) 0) ss
+pub late_map : {X : Type 0} (t : Table X) (byte : ℕ) (ss : List (Site X)) → map (late t byte) ss ≡ map (resting (started t byte) (left_hold t byte) 0) ss
 late_map t byte [] = refl
 late_map t byte (s ∷ ss) =
     ap (λ b. b ∷ map (late t byte) ss) (late_is t byte s.addr s.joined s.heard (is_named byte s) s.state)
     ∙ ap (λ bs. resting (started t byte) (left_hold t byte) 0 s ∷ bs) (late_map t byte ss)
 
-held_same : {X : Type 0} (t : Table X) (byte : ℕ) (ss : List (Site X))
+pub held_same : {X : Type 0} (t : Table X) (byte : ℕ) (ss : List (Site X))
     → some_one (stays t byte 65) ss ≡ some_one (held (started t byte) (left_hold t byte) 0) ss
 held_same t byte [] = refl
 held_same t byte (s ∷ ss) =
