@@ -9,44 +9,24 @@ use Rattle.i2c_base.specs.declared.event.Event.TheVariants.{Start}
 use Rattle.i2c_spec.specs.Targets.{IsFairTable}
 use Rattle.i2c_spec.specs.World.{is_ack, has_heard}
 use Rattle.wire_spec.specs.declared.mode.Mode.TheVariants.{Out, In, Give}
-use Rattle.wire_spec.specs.Wires.{Site, Bit, site_of, shifted, rise, fall, tick, begin, hears, other, stretch, is_named, is_reading, next_of, entered, acks_start, stands}
+use Rattle.wire_spec.specs.Wires.{Site, Bit, site_of, shifted, rise, fall, tick, begin, is_named, is_reading, stands}
 use Rattle.wire_spec.specs.Roots.{some_one, pulls_line, sda, where_joined, at}
 use Rattle.wire_spec.specs.Bus.{Mask, Counts, one_edge, Bus, Came, holds_line, scl_level, sda_level, each, rises, pulled, looked, await, bus_of, came_up, gave_up}
-use Rattle.wire_spec.specs.Started.{calling, started, stays, stays_if, late, late_if, late_bus, rose, answers_so}
+use Rattle.wire_spec.specs.Started.{calling, started, stays, late, late_bus, rose, answers_so}
 use Rattle.wire_spec.specs.Calls.{released}
 use Rattle.wire_spec.proofs.Roots.{map_step, map_map, some_map}
 use Rattle.wire_spec.proofs.Calm.{looks_up, goes_down, sets_data}
-use Rattle.wire_spec.proofs.AckClock.{waiting, waiting_if, acknowledges, acknowledges_if, wait_bus, wait_level, let_go, goes_on, settled, settled_if, settled_all, by_busy, or_left, or_right}
+use Rattle.wire_spec.proofs.AckClock.{waiting, waiting_if, acknowledges, acknowledges_if, wait_bus, wait_level, let_go, goes_on, settled_all, by_busy, or_left, or_right, fall_all}
 use Rattle.wire_spec.proofs.SlowClock.{slow_clock}
 use Rattle.wire_spec.proofs.StartClocks.{stays_free}
 use Rattle.wire_spec.proofs.StartLemmas.{ack_all, not_slow}
-use Rattle.wire_spec.proofs.LateStops.{resting, resting_if, held, held_if, left_hold}
+use Rattle.wire_spec.proofs.LateStops.{resting, resting_if, held, held_if, left_hold, started_if, late_map, held_same}
 use Rattle.bus_clear.specs.Pulls.{cut_rise}
 use Rattle.bus_clear.proofs.AddressLemmas.{Frees, frees_at_once}
 
 -- ---- in time
-abbrev started_if : {X : Type 0} → Table X → ℕ → Site X → Bool → Bool → Site X
-started_if t byte s jd h = cond jd (cond h (hears t s (is_reading byte)) (other t s)) s
-
 gone : (n : ℕ) → not (n == 0) ≡ false → n ≡ 0
 gone n h = grind (arith, nat_tests)
-
-fall_one : {X : Type 0} (t : Table X) (byte r j : ℕ) (a : ℕ) (jd e h : Bool) (x : X) → stays_if t byte j (site_of a jd e x) jd h ≡ false
-    → where_joined fall (waiting_if t byte r j (site_of a jd e x) jd h) ≡ settled_if t byte (site_of a jd e x) jd h
-fall_one t byte r j a true e true x done =
-    let s = site_of a true e x in
-    ap (λ n. stands (hears t s (is_reading byte)) (entered (next_of (acks_start t s (is_reading byte)) (is_reading byte))) n)
-    (gone (stretch t s (is_reading byte) - j) done)
-fall_one t byte r j a true e false x done = refl
-fall_one t byte r j a false e h x done = refl
-
-fall_all : {X : Type 0} (t : Table X) (byte r j : ℕ) (ss : List (Site X)) → some_one (stays t byte j) ss ≡ false
-    → map (where_joined fall) (map (waiting t byte r j) ss) ≡ map (settled t byte) ss
-fall_all t byte r j [] done = refl
-fall_all t byte r j (s ∷ ss) done =
-    ap (λ b. b ∷ map (where_joined fall) (map (waiting t byte r j) ss))
-    (fall_one t byte r j s.addr s.joined s.heard (is_named byte s) s.state (or_left _ _ done))
-    ∙ ap (λ bs. settled t byte s ∷ bs) (fall_all t byte r j ss (or_right _ _ done))
 
 pulls_one : {X : Type 0} (t : Table X) (byte r j : ℕ) (a : ℕ) (jd e h : Bool) (x : X)
     → pulls_line t (waiting_if t byte r j (site_of a jd e x) jd h) ≡ acknowledges_if t byte (site_of a jd e x) jd h
@@ -268,35 +248,6 @@ module _ {A X : Type 0} (t : Table X) (g : A → Site X) (rest : A → ℕ) (ss 
       }
 
 -- ---- after a start that was too slow
-late_is : {X : Type 0} (t : Table X) (byte a : ℕ) (jd e h : Bool) (x : X)
-    → late_if t byte (site_of a jd e x) jd h
-    ≡ resting_if (started_if t byte (site_of a jd e x) jd h) (cond h (stretch t (site_of a jd e x) (is_reading byte) - 65) 0) 0
-    (started_if t byte (site_of a jd e x) jd h).joined
-late_is t byte a true e true x =
-    let s = site_of a true e x in ap (λ n. stands (hears t s (is_reading byte)) Out n) (omega arith)
-late_is t byte a true e false x = refl
-late_is t byte a false e h x = refl
-
-late_held : {X : Type 0} (t : Table X) (byte a : ℕ) (jd e h : Bool) (x : X)
-    → stays_if t byte 65 (site_of a jd e x) jd h
-    ≡ held_if (cond h (stretch t (site_of a jd e x) (is_reading byte) - 65) 0) 0 (started_if t byte (site_of a jd e x) jd h).joined
-late_held t byte a true e true x = let s = site_of a true e x in ap (λ n. not (n == 0)) (omega arith)
-late_held t byte a true e false x = refl
-late_held t byte a false e h x = refl
-
-late_map : {X : Type 0} (t : Table X) (byte : ℕ) (ss : List (Site X)) → map (late t byte) ss ≡ map (resting (started t byte) (left_hold t byte) 0) ss
-late_map t byte [] = refl
-late_map t byte (s ∷ ss) =
-    ap (λ b. b ∷ map (late t byte) ss) (late_is t byte s.addr s.joined s.heard (is_named byte s) s.state)
-    ∙ ap (λ bs. resting (started t byte) (left_hold t byte) 0 s ∷ bs) (late_map t byte ss)
-
-held_same : {X : Type 0} (t : Table X) (byte : ℕ) (ss : List (Site X))
-    → some_one (stays t byte 65) ss ≡ some_one (held (started t byte) (left_hold t byte) 0) ss
-held_same t byte [] = refl
-held_same t byte (s ∷ ss) =
-    ap (λ b. b || some_one (stays t byte 65) ss) (late_held t byte s.addr s.joined s.heard (is_named byte s) s.state)
-    ∙ ap (λ b. held (started t byte) (left_hold t byte) 0 s || b) (held_same t byte ss)
-
 rest_short : (named heard : Bool) (h : ℕ) → h < 256 → not ((cond named (cond heard h 0 - 65) 0 - 190) == 0) ≡ false
 rest_short true true h lt = grind (arith, nat_tests)
 rest_short true false h lt = refl

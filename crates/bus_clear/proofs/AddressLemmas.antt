@@ -1,4 +1,4 @@
--- A read that is cut off in its address byte, and bus clear behind it.
+-- A read that is cut off in its address byte, and bus clear after it.
 use Rattle.std.proofs.Common.{◌≡◌, ℕ, zero, suc, ◌+◌, Bool, true, false, cond, List, [], ◌∷◌, map, refl, ap, sym, ◌∙◌, arith, subst}
 use Rattle.std.specs.Prelude.{not, ◌&&◌}
 use Rattle.i2c_base.specs.Table.{Table}
@@ -18,7 +18,7 @@ use Rattle.bus_clear.specs.Pulls.{cut_level, cut_rise, cut_clock, cut_clocks, cl
 use Rattle.bus_clear.specs.declared.cleared.Cleared.TheVariants.{Free}
 use Rattle.bus_clear.proofs.Clocks.{rise_calm, clock_calm, start_stops, clears_from, ends_free, map_same}
 
--- the lines are freed with so many pulses, and are such a stop's; SDA has this level behind the cut
+-- the lines are freed with so many pulses, and are such a stop's; SDA has this level after the cut
 pub record Frees {X : Type 0} (t : Table X) (mask : Mask X) (made : ℕ) (high : Bool) (gs : List (Site X)) (w : Bus X) : Type 0 where
   pub up : scl_level w ≡ true
   pub level : sda_level t w ≡ high
@@ -145,7 +145,7 @@ module _ {X : Type 0} (t : Table X) (mask : Mask X) (ss : List (Site X)) where
       (ap not (some_map released holds_line (λ x. false) (λ s. out_holds s.addr s.joined s.heard s.state) gs ∙ no_one gs))
       (ap (λ b. true && not b) (some_map released (pulls_line t) (λ x. false) (λ s. out_pulls s.addr s.joined s.heard s.state) gs ∙ no_one gs))
 
-  -- the sites behind a cut in the first seven bits: where the controller pulled SDA, letting it go is a stop
+  -- the sites after a cut in the first seven bits: where the controller pulled SDA, letting it go is a stop
   abbrev pub behind_bit : Bool → List (Site X)
   behind_bit true = ss
   behind_bit false = rejoin mask (map (stop_site t) ss)
@@ -174,7 +174,7 @@ module _ {X : Type 0} (t : Table X) (mask : Mask X) (ss : List (Site X)) where
   bit_frees left v c false low =
       subst (Frees t mask 0 true (behind_bit false)) (sym (low_falls left v c low)) (out_frees (behind_bit false) (one_flip (one_edge c)))
 
-  -- behind a cut in the first seven bits, and behind the eighth, where SDA is let go
+  -- after a cut in the first seven bits, and after the eighth, where SDA is let go
   pub seven_frees : (left v : ℕ) (h : Bool) (w : Bus X) → Partway ss (suc (suc left)) v w
       → Frees t mask 0 true (behind_bit h) (pulled t mask (cut_rise t mask h w) false false)
   seven_frees left v h w p =

@@ -1,6 +1,6 @@
--- Bus clear behind a cut read, from free lines of a root whose targets are quiet.
+-- Bus clear after a cut read, from free lines of a root whose targets are quiet.
 use Rattle.std.proofs.Common.{◌≡◌, ℕ, suc, ◌+◌, ◌-◌, ◌*◌, ◌/◌, ◌%◌, ◌<◌, ◌≤◌, Bool, true, false, cond, List, [], ◌∷◌, ◌++◌, map, refl, ap, sym, ◌∙◌, arith, subst}
-use Rattle.std.specs.Prelude.{◌&&◌, ◌||◌, ◌==◌, nat_lt, if◌then◌else◌}
+use Rattle.std.specs.Prelude.{◌&&◌, ◌==◌, nat_lt, if◌then◌else◌}
 use Rattle.std.specs.List.{AllByRecursion}
 use Rattle.std.proofs.lemmas.Bool.Decides.{nat_tests}
 use Rattle.i2c_base.specs.Bytes.{IsByte}
@@ -11,17 +11,19 @@ use Rattle.i2c_base.specs.declared.port.PortCall.TheVariants as call
 use Rattle.i2c_spec.specs.Chips.{ChipView, chip_table}
 use Rattle.i2c_spec.specs.Targets.{TargetState, state_table, HoldsBytes, KeepsBytes, IsFairTable}
 use Rattle.i2c_spec.specs.World.{World, after, after_all, answer, gives, is_ack, is_slow}
-use Rattle.wire_spec.specs.Wires.{Site, bit, hears, other, is_named, is_reading}
-use Rattle.wire_spec.specs.Roots.{some_one, hearing, sent_by, and_all, get_site, stop_site}
+use Rattle.wire_spec.specs.Wires.{Site, bit, is_reading}
+use Rattle.wire_spec.specs.Roots.{some_one, sent_by, and_all, get_site, stop_site}
 use Rattle.wire_spec.specs.Bus.{Counts, Bus, Mask, scl_level, sda_level, looked, each, rises}
 use Rattle.wire_spec.specs.Wires.{tick}
 use Rattle.wire_spec.specs.Started.{started, answers_so, answer_by}
 use Rattle.wire_spec.specs.Calls.{free, rejoin}
-use Rattle.wire_spec.specs.Sites.{NodeState, Chip, Device, node_table, site_with, both, AreSites, NO_ADDRESS, mask_of}
+use Rattle.wire_spec.specs.Sites.{NodeState, Device, node_table, site_with, both, AreSites, NO_ADDRESS, mask_of}
 use Rattle.wire_spec.specs.WorldLaws.{PartsOfBoth, StartOnSites, GetOnSites, StopOnSites}
+use Rattle.wire_spec.proofs.CallLaws.{all_with, all_chips}
 use Rattle.wire_spec.proofs.StartLemmas.{node_fair, slow_all}
 use Rattle.i2c_bits.specs.Wiring.{Rooted, the_table, mask_at}
 use Rattle.i2c_bits.specs.Stands.{IsFree, chips_on, devices_on, world_at}
+use Rattle.i2c_bits.proofs.Starts.{unheard_all}
 use Rattle.bus_clear.specs.Cuts.{MOST_PULSES, IsQuietWorld, level_by, level_at, low_rises, pulses_of, is_heard, given_byte, events_by, cleared_world}
 use Rattle.bus_clear.specs.Pulls.{cut_level, cut_pulls, clear_pulls, Clearing, clearing}
 use Rattle.bus_clear.specs.Clears.{ClearIs}
@@ -31,52 +33,9 @@ use Rattle.bus_clear.proofs.AddressLemmas.{behind_bit}
 use Rattle.bus_clear.proofs.CutLemmas.{FreesAt, frees_heard, frees_unheard, sites_at, byte_sent, low_most}
 use Rattle.bus_clear.proofs.WorldLemmas.{Found, Left, free_found, start_found, get_found, found_again, left_by, stop_again, stop_quiet}
 
--- ---- for how many looks the clock is held
-all_with : {X : Type 0} (g : X → NodeState) (P : X → Type 0) → ((x : X) → P x → IsByte (node_table.hold (g x))) → (ss : List (Site X))
-    → AllByRecursion (λ (s : Site X). P s.state) ss → AllByRecursion (λ (s : Site NodeState). IsByte (node_table.hold s.state)) (map (site_with g) ss)
-all_with g P is [] all = tt
-all_with g P is (s ∷ ss) all = (is s.state all.0, all_with g P is ss all.1)
-
-all_chips : (cs : List (Site ChipView)) (ns : List (Site NodeState)) → AllByRecursion (λ (s : Site NodeState). IsByte (node_table.hold s.state)) ns
-    → AllByRecursion (λ (s : Site NodeState). IsByte (node_table.hold s.state)) (map (site_with Chip) cs ++ ns)
-all_chips [] ns all = all
-all_chips (c ∷ cs) ns all = (omega arith, all_chips cs ns all)
-
--- ---- nobody has heard where nobody acknowledges, nor holds the clock to do so
-neither : (a b : Bool) → a ≡ false → b ≡ false → (a || b) ≡ false
-neither a b p q = ap (λ x. x || b) p ∙ q
-
-first_not : (a b : Bool) → (a || b) ≡ false → a ≡ false
-first_not true b is = is
-first_not false b is = refl
-
-second_not : (a b : Bool) → (a || b) ≡ false → b ≡ false
-second_not true b is = cc
-second_not false b is = is
-
 and_false : (a b : Bool) → b ≡ false → (a && b) ≡ false
 and_false true b is = is
 and_false false b is = refl
-
-unheard_one : {X : Type 0} (t : Table X) (reading : Bool) (s : Site X) (joined named : Bool) → s.joined ≡ joined
-    → (joined && (named && is_slow (t.answer s.state (Start reading)))) ≡ false
-    → (joined && (named && is_ack (t.answer s.state (Start reading)))) ≡ false
-    → hearing (cond joined (cond named (hears t s reading) (other t s)) s) ≡ false
-unheard_one t reading s true true is slow ack =
-    and_false s.joined (is_ack (t.answer s.state (Start reading)) || is_slow (t.answer s.state (Start reading)))
-    (neither (is_ack (t.answer s.state (Start reading))) (is_slow (t.answer s.state (Start reading))) ack slow)
-unheard_one t reading s true false is slow ack = and_false s.joined false refl
-unheard_one t reading s false named is slow ack = ap (λ j. j && s.heard) is
-
-unheard_all : {X : Type 0} (t : Table X) (byte : ℕ) (ss : List (Site X))
-    → some_one (answers_so t is_slow (byte / 2) (is_reading byte)) ss ≡ false
-    → some_one (answers_so t is_ack (byte / 2) (is_reading byte)) ss ≡ false
-    → some_one hearing (map (started t byte) ss) ≡ false
-unheard_all t byte [] slow ack = refl
-unheard_all t byte (s ∷ ss) slow ack =
-    neither (hearing (started t byte s)) (some_one hearing (map (started t byte) ss))
-    (unheard_one t (is_reading byte) s s.joined (is_named byte s) refl (first_not _ _ slow) (first_not _ _ ack))
-    (unheard_all t byte ss (second_not _ _ slow) (second_not _ _ ack))
 
 -- ---- the address byte of a read
 half_of : (addr : ℕ) → (2 * addr + 1) / 2 ≡ addr
@@ -229,7 +188,7 @@ module _ (parts : (cs : List (Site ChipView)) (ds : List (Site TargetState)) →
   abbrev last : Bool
   last = heard && (cut + pulses == 18)
 
-  -- behind the stop
+  -- after the stop
   abbrev Ends : List (Site NodeState) → World → Type 0
   Ends gs v = (u : Bus NodeState) (c : Counts) → u ≡ free (rejoin mask (map (stop_site node_table) gs)) c → Left k u v
 

@@ -25,7 +25,7 @@ rise_calm {X} t mask h low ts c calm =
     ∙ (ap (λ u. (await t 0 STOP_LOOKS u).bus) (goes_up t mask ts c (not h) calm.low)
     ∙ ap (λ (d : Came X). d.bus) (up_calm t 0 254 h ts c calm))
 
--- behind its rise a clock falls
+-- after its rise a clock falls
 falls_by : {X : Type 0} (t : Table X) (mask : Mask X) (h : Bool) (ts : List (Bit X)) (c : Counts) → IsCalm t ts h
     → pulled t mask (bus_of false (not h) (risen t ts h) (one_edge c)) true (not h) ≡ bus_of true (not h) (clock_all t ts h) (one_edge c)
 unfolding bit_step
@@ -53,7 +53,7 @@ unfolding cut_clock
 clock_calm t mask h low ts c calm =
     ap (λ u. pulled t mask u true (not h)) (rise_calm t mask h low ts c calm) ∙ risen_falls t mask h ts (one_edge c) calm
 
--- SCL is let go behind a fall, with SDA let go: a pulse
+-- SCL is let go after a fall, with SDA let go: a pulse
 pub pulse_calm : {X : Type 0} (t : Table X) (mask : Mask X) (w : Bus X) (ts : List (Bit X)) (c : Counts)
     → pulled t mask w true false ≡ bus_of true false ts c → IsCalm t ts true
     → pulse t mask w ≡ came_up (shifted 0 (sda t ts true)) (bus_of false false (risen t ts true) (one_edge c))

@@ -1,4 +1,4 @@
--- A read that is cut off at each of its rises, and bus clear behind it, on targets of any fair table.
+-- A read that is cut off at each of its rises, and bus clear after it, on targets of any fair table.
 use Rattle.std.proofs.Common.{◌≡◌, ℕ, zero, suc, ◌+◌, ◌-◌, ◌/◌, ◌%◌, ◌^◌, ◌<◌, ◌≤◌, Bool, true, false, cond, List, map, refl, ap, sym, ◌∙◌, arith, subst}
 use Rattle.std.specs.Prelude.{not, ◌&&◌, ◌==◌, nat_lt}
 use Rattle.std.specs.List.{AllByRecursion}
@@ -31,7 +31,7 @@ use Rattle.bus_clear.proofs.DataLemmas.{bit_left, lows, where_high, high_counts,
 use Rattle.bus_clear.proofs.AddressLemmas.{Frees, Partway, levels_from, calls_by, seven_frees, eight_frees, out_frees, behind_bit}
 use Rattle.bus_clear.proofs.AckLemmas.{InTime, OutOn, ninth_in_time, ninth_too_late, still, in_time_up, in_time_level, in_time_frees, in_time_falls}
 
--- behind the eighth rise the controller lets SDA go
+-- after the eighth rise the controller lets SDA go
 free_level : (byte r : ℕ) → 8 < r → cut_level byte r ≡ true
 free_level byte r lt = let e : nat_lt r 9 ≡ false = grind (arith, nat_tests) in ap (λ b. cond b (bit byte (8 - r)) true) e
 
@@ -185,7 +185,7 @@ low_most level (suc n) r = low_by (level r) (low_rises level n (suc r)) n (low_m
 -- ---- all rises of a read with this address byte
 module _ {X : Type 0} (t : Table X) (fair : IsFairTable t) (mask : Mask X) (byte : ℕ) (lt : byte < 256) (reads : is_reading byte ≡ true)
     (ss : List (Site X)) (c : Counts) where
-  -- the sites behind the start
+  -- the sites after the start
   abbrev pub begun : List (Site X)
   begun = map (started t byte) ss
 
@@ -201,7 +201,7 @@ module _ {X : Type 0} (t : Table X) (fair : IsFairTable t) (mask : Mask X) (byte
       subst (λ (u : Bus X). Partway ss (suc left) (value 0 (levels_from byte 1 n)) (cut_clocks t mask byte 1 n u)) (sym starts)
       (calls_by t mask ss byte n left 7 1 0 true (one_flip c) is)
 
-  -- behind the eighth clock all wait for the ninth
+  -- after the eighth clock all wait for the ninth
   record Waits (w : Bus X) : Type 0 where
     low : Bool
     counts : Counts
@@ -241,7 +241,7 @@ module _ {X : Type 0} (t : Table X) (fair : IsFairTable t) (mask : Mask X) (byte
   too_late all slow =
       subst (λ (u : Bus X). OutOn begun (cut_rise t mask true u)) (sym eighth.is) (ninth_too_late t mask byte ss eighth.low eighth.counts all slow)
 
-  -- the lines behind the ninth clock
+  -- the lines after the ninth clock
   abbrev behind : Bus X
   behind = cut_clock t mask true (cut_clocks t mask byte 1 8 (start_pulls t mask (free ss c)))
 

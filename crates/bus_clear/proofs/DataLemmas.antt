@@ -1,4 +1,4 @@
--- A read that is cut off in its data, by the mode of its targets, and bus clear behind it.
+-- A read that is cut off in its data, by the mode of its targets, and bus clear after it.
 use Rattle.std.proofs.Common.{◌≡◌, ℕ, zero, suc, ◌+◌, ◌≤◌, Bool, true, false, cond, List, map, refl, ap, sym, ◌∙◌, arith}
 use Rattle.std.specs.Prelude.{not}
 use Rattle.i2c_base.specs.Table.{Table}
@@ -47,7 +47,7 @@ module _ {X : Type 0} (t : Table X) (mask : Mask X) (ss : List (Site X)) where
   lows zero = 0
   lows (suc n) = cond (bit sent n) 0 (suc (lows n))
 
-  -- the sites where SDA goes high: behind the last bit the controller's answer has come
+  -- the sites where SDA goes high: after the last bit the controller's answer has come
   abbrev pub where_high : ℕ → List (Site X)
   where_high zero = map (get_site t false) ss
   where_high (suc n) = cond (bit sent n) ss (where_high n)

@@ -84,7 +84,7 @@ pub quiet_all : {A X : Type 0} (t : Table X) (opens : A → X) → ((a : A) → 
 quiet_all t opens is [] = tt
 quiet_all t opens is (x ∷ xs) = (is x, quiet_all t opens is xs)
 
--- ---- the read behind bus clear
+-- ---- the read after bus clear
 pub ack_world : (w v u : World) (addr limit : ℕ) → Ack ≡ answer w addr true → v ≡ after w (call.Start addr true)
     → u ≡ after (after v (call.Get false)) call.Stop → u ≡ (received limit w addr).now
 ack_world w v u addr limit is starts ends =

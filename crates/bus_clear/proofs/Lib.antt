@@ -1,4 +1,4 @@
--- The code's pulls and looks; clocks on the wires; a cut read and bus clear behind it; and the world that they leave.
+-- The code's pulls and looks; clocks on the wires; a cut read and bus clear after it; and the world that they leave.
 pub mod PullLemmas
 pub mod Clocks
 pub mod DataLemmas

@@ -75,7 +75,7 @@ clock_on t k k1 w w1 byte r cut lt same high is e =
     (e ∙ (ap (λ m. cut_clock t (mask_at m) high w) same ∙ ap (λ h. cut_clock t (mask_at k) h w) is))
     ∙ sym (clocks_pop t k byte r (cut - r) w (omega (arith, lt))))
 
--- behind the clocks the last rise, and both lines are let go
+-- after the clocks the last rise, and both lines are let go
 module _ (t : Table NodeState) (k k1 k2 : Rooted) (w w2 w3 w4 : Bus NodeState) where
   pub cut_is : (byte cut : ℕ) → k1 ≡ k → k2 ≡ k → w2 ≡ cut_clocks t (mask_at k) byte 1 (cut - 1) (start_pulls t (mask_at k) w)
       → (high : Bool) → high ≡ cut_level byte cut

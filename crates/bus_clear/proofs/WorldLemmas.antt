@@ -1,4 +1,4 @@
--- The world that a cut read and bus clear behind it leave.
+-- The world that a cut read and bus clear after it leave.
 use Rattle.std.proofs.Common.{◌≡◌, ℕ, ◌+◌, ◌/◌, Bool, true, false, cond, List, [], ◌∷◌, map, refl, ap, sym, ◌∙◌, subst}
 use Rattle.std.specs.Prelude.{◌&&◌}
 use Rattle.std.specs.List.{AllByRecursion}
@@ -19,9 +19,9 @@ use Rattle.wire_spec.specs.Sites.{NodeState, node_table, both, states_of, world_
 use Rattle.wire_spec.specs.WorldLaws.{PartsOfBoth, StartOnSites, GetOnSites, StopOnSites, stopped_chips, stopped_devices}
 use Rattle.i2c_bits.specs.Wiring.{Rooted}
 use Rattle.i2c_bits.specs.Stands.{AreTold, IsFree, chips_on, devices_on, world_at}
-use Rattle.i2c_bits.proofs.Told.{On, on_lines, world_on, told_on, all_kept, kept_where}
+use Rattle.i2c_bits.proofs.Told.{On, on_lines, world_on, all_kept, kept_where}
 use Rattle.i2c_bits.proofs.Starts.{started_bytes}
-use Rattle.i2c_bits.proofs.Stops.{all_joined}
+use Rattle.i2c_bits.proofs.Stops.{all_joined, free_on}
 use Rattle.bus_clear.specs.Cuts.{IsQuietWorld}
 
 -- ---- who is quiet stays so
@@ -101,29 +101,17 @@ pub record Found (k : Rooted) (gs : List (Site NodeState)) (v : World) : Type 0 
   pub rest_chips : RestIsQuiet chip_table chips
   pub rest_devices : RestIsQuiet state_table devices
 
--- and the lines behind it
+-- and the lines after it
 pub record Left (k : Rooted) (w : Bus NodeState) (v : World) : Type 0 where
   pub free : IsFree k w
   pub world : world_at k false w ≡ v
   pub quiet : IsQuietWorld v
 
-free_on : (k : Rooted) (w : Bus NodeState) (c : Counts) (cs : List (Site ChipView)) (ds : List (Site TargetState))
-    → On w cs ds → w ≡ free (both cs ds) c → AreTold k cs ds → (world_at k false w).hearing ≡ [] → IsFree k w
-free_on k w c cs ds on is told nobody = record {
-  lines =
-      is
-      ∙ (ap (λ xs. free (both xs ds) c) (sym on.chips)
-      ∙ (ap (λ ys. free (both (chips_on w) ys) c) (sym on.devices)
-      ∙ ap (free (both (chips_on w) (devices_on w))) (sym (ap (λ x. x.counts) is))));
-  told = told_on k w cs ds on told;
-  nobody = nobody;
-}
-
 module _ (parts : (cs : List (Site ChipView)) (ds : List (Site TargetState)) → PartsOfBoth cs ds) (keeps : KeepsBytes state_table HoldsBytes)
     (fair_chips : IsFairTable chip_table) (fair_devices : IsFairTable state_table)
     (sites : (b : BoardView) (r : ℕ) (busy : Bool) (cs : List (Site ChipView)) (ds : List (Site TargetState))
     → AreSites b r cs ds → StopOnSites b r busy cs ds) (k : Rooted) where
-  -- the sites and the world behind a stop
+  -- the sites and the world after a stop
   module _ (gs : List (Site NodeState)) (v : World) (f : Found k gs v) where
     abbrev chips : List (Site ChipView)
     chips = stopped_chips k.board k.root f.chips f.devices

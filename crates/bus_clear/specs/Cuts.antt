@@ -1,4 +1,4 @@
--- A read of one byte that is cut off at a rise of SCL, and bus clear behind it (UM10204 section 3.1.16), as the world of bytes has
+-- A read of one byte that is cut off at a rise of SCL, and bus clear after it (UM10204 section 3.1.16), as the world of bytes has
 -- them: no wire is spoken of here.
 use Rattle.std.specs.Prelude.{◌≡◌, ◌<◌, ◌≤◌, ℕ, zero, suc, ◌+◌, ◌-◌, ◌==◌, nat_lt, Bool, true, false, not, ◌&&◌, ◌||◌, List, [], ◌∷◌, ◌++◌, cond, if◌then◌else◌}
 use Rattle.std.specs.List.{AllByRecursion}
@@ -38,16 +38,16 @@ abbrev pub low_rises : (ℕ → Bool) → ℕ → ℕ → ℕ
 low_rises level zero r = 0
 low_rises level (suc n) r = cond (level r) 0 (suc (low_rises level n (suc r)))
 
--- the pulses that free SDA behind a cut
+-- the pulses that free SDA after a cut
 abbrev pub pulses_of : World → ℕ → ℕ → ℕ
 pulses_of w addr cut = low_rises (level_at w addr) MOST_PULSES cut
 
--- what the targets have come to at a rise: a start from the eighth bit on, and behind the byte the answer to it, which is none
+-- what the targets have come to at a rise: a start from the eighth bit on, and after the byte the answer to it, which is none
 abbrev pub events_by : Bool → ℕ → ℕ → List PortCall
 events_by heard addr r =
     (if nat_lt 7 r then call.Start addr true ∷ [] else []) ++ (if heard && (r == 18) then call.Get false ∷ [] else [])
 
--- behind bus clear: what they had come to where SDA went high, and a stop
+-- after bus clear: what they had come to where SDA went high, and a stop
 abbrev pub events_at : World → ℕ → ℕ → List PortCall
 events_at w addr cut = events_by (is_heard w addr) addr (cut + pulses_of w addr cut) ++ call.Stop ∷ []
 

@@ -1,5 +1,5 @@
 -- What is to be seen of a read that was cut off, by its root's world; what is pulled and looked at; what the calls come to; the read
--- behind them; and worked examples.
+-- after them; and worked examples.
 pub mod Cuts
 pub mod Pulls
 pub mod Clears

@@ -24,7 +24,7 @@ abbrev pub cut_clocks : {X : Type 0} → Table X → Mask X → (byte r n : ℕ)
 cut_clocks t mask byte r zero w = w
 cut_clocks t mask byte r (suc n) w = cut_clocks t mask byte (suc r) n (cut_clock t mask (cut_level byte r) w)
 
--- behind the rise of this number both lines are let go
+-- after the rise of this number both lines are let go
 abbrev pub cut_off : {X : Type 0} → Table X → Mask X → (byte r : ℕ) → Bus X → Bus X
 cut_off t mask byte r w = pulled t mask (cut_rise t mask (cut_level byte r) w) false false
 

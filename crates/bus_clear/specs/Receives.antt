@@ -23,7 +23,7 @@ reply_by (Some e) bytes = Err e
 abbrev pub reply_of : TalkTold World → Result ℕ Errno
 reply_of t = reply_by (errno_of t.end) t.bytes
 
--- a read of this address that is cut off at this rise, on a root as its board is opened: whether SDA is high behind the cut, the
+-- a read of this address that is cut off at this rise, on a root as its board is opened: whether SDA is high after the cut, the
 -- pulses of bus clear, and the reply to the next read
 pub record RootClears (b : BoardView) (r addr cut : ℕ) (high : Bool) (pulses : ℕ) (read : Result ℕ Errno) : Type 0 where
   pub level : high ≡ level_at (opening_world b r) addr cut

@@ -4,7 +4,7 @@ use Rattle.i2c_base.specs.declared.board.DeviceKind.{DeviceKind}
 use Rattle.i2c_base.specs.declared.board.DeviceKind.TheVariants as kind
 use Rattle.i2c_base.specs.declared.board.Idle.TheVariants.{Disconnect}
 use Rattle.i2c_base.specs.declared.board.LockMode.TheVariants.{Parent}
-use Rattle.i2c_base.specs.declared.board.MuxKind.TheVariants.{Pca9548}
+use Rattle.i2c_base.specs.declared.board.MuxKind.TheVariants.{Pca9541, Pca9548}
 use Rattle.i2c_base.specs.declared.board.MuxSpec.{MuxSpec}
 use Rattle.i2c_base.specs.declared.errno.Errno.{Errno}
 use Rattle.i2c_base.specs.Board.{BoardView, DeviceView}
@@ -25,7 +25,7 @@ holding looks bytes = record {
 abbrev pub device : List ℕ → BoardView
 device bytes = holding 0 bytes
 
--- what is told: whether SDA is high behind the cut, the pulses, and the read behind them
+-- what is told: whether SDA is high after the cut, the pulses, and the read after them
 pub record Row : Type 0 where
   pub high : Bool
   pub pulses : ℕ
@@ -54,3 +54,8 @@ device_on bus k addr bytes =
 abbrev pub switch : MuxSpec
 switch =
     record { bus = 0; kind = Pca9548; addr = Some 0x70; channels = 8; lock = Parent; absent = false; foreign = 0; idle = Disconnect }
+
+-- an arbitrator that the other controller has for so many reads
+abbrev pub arbitrator : ℕ → MuxSpec
+arbitrator foreign =
+    record { bus = 0; kind = Pca9541; addr = Some 0x72; channels = 1; lock = Parent; absent = false; foreign = foreign; idle = Disconnect }

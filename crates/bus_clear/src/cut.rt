@@ -1,4 +1,4 @@
-//! A read that is cut off, and the bus cleared behind it.
+//! A read that is cut off, and the bus cleared after it.
 ghost use Rattle.std.specs.Prelude.{◌≡◌, ◌≤◌, ◌+◌, ◌*◌, IsTrue, false};
 ghost use Rattle.bus_clear.specs.Clears.{ClearIs};
 ghost use Rattle.bus_clear.specs.Cuts.{RISES, IsQuietWorld, level_at};
@@ -43,7 +43,7 @@ fn clock<L: Lines>(lines: &mut L, high: bool)
     lines.pull(true, !high);
 }
 
-/// Begins a read of one byte, and lets both lines go directly behind the rise of SCL of this number: 1 to 8 are the address byte's, 9
+/// Begins a read of one byte, and lets both lines go directly after the rise of SCL of this number: 1 to 8 are the address byte's, 9
 /// its acknowledge, 10 to 17 the data's, and 18 the controller's answer, with SDA let go. It goes on with the same clocks where
 /// nobody acknowledged.
 pub fn cut_read<L: Lines>(lines: &mut L, addr: Addr, cut: u8)
@@ -64,14 +64,14 @@ pub fn cut_read<L: Lines>(lines: &mut L, addr: Addr, cut: u8)
     lines.pull(false, false);
 }
 
-/// What a read that was cut off has come to: whether SDA was high behind the cut, and what bus clear made of it.
+/// What a read that was cut off has come to: whether SDA was high after the cut, and what bus clear made of it.
 #[derive(Clone, Copy, Debug, PartialEq, Eq)]
 pub struct CutRead {
     pub high: bool,
     pub cleared: Cleared,
 }
 
-/// A read that is cut off at this rise, and bus clear behind it: on free lines of a root whose targets are quiet SDA always comes
+/// A read that is cut off at this rise, and bus clear after it: on free lines of a root whose targets are quiet SDA always comes
 /// free.
 pub fn clear_cut<L: Lines>(lines: &mut L, addr: Addr, cut: u8) -> CutRead
     requires cut { (1 ≤ cut) × (cut ≤ RISES) }

@@ -8,11 +8,11 @@ ghost use Rattle.i2c_spec.specs.World.{after, gives};
 ghost use Rattle.bus_clear.specs.Receives.{received, reply_of};
 
 use i2c_base::{Addr, Answer, Errno};
-use i2c_bits::{BitPort, Lines};
+use i2c_bits::{BitPort, ByteLines};
 use ports::{Failed, Port};
 
 /// The message ends early, with this error.
-fn end_with<L: Lines + Send>(port: &mut BitPort<L>, errno: Errno) -> Result<u8, Errno>
+fn end_with<L: ByteLines + Send>(port: &mut BitPort<L>, errno: Errno) -> Result<u8, Errno>
     requires phase { MayStop port.old.phase }
     requires room { IsTrue L.tells → length port.old.log < MOST_CALLS }
     ensures reply { IsTrue L.tells → result ≡ Err errno }
@@ -25,7 +25,7 @@ fn end_with<L: Lines + Send>(port: &mut BitPort<L>, errno: Errno) -> Result<u8, 
 }
 
 /// The byte, which is the last, and the stop.
-fn end_read<L: Lines + Send>(port: &mut BitPort<L>) -> Result<u8, Errno>
+fn end_read<L: ByteLines + Send>(port: &mut BitPort<L>) -> Result<u8, Errno>
     requires phase { port.old.phase ≡ Phase.Reading }
     requires room { IsTrue L.tells → length port.old.log + 2 ≤ MOST_CALLS }
     ensures reply { IsTrue L.tells → result ≡ Ok (gives port.old.world) }
@@ -41,7 +41,7 @@ fn end_read<L: Lines + Send>(port: &mut BitPort<L>) -> Result<u8, Errno>
 }
 
 /// Reads one byte (SMBus 3.2 section 6.5.3), as a transfer of its own.
-pub fn receive<L: Lines + Send>(port: &mut BitPort<L>, addr: Addr) -> Result<u8, Errno>
+pub fn receive<L: ByteLines + Send>(port: &mut BitPort<L>, addr: Addr) -> Result<u8, Errno>
     requires idle { port.old.phase ≡ Phase.Idle }
     requires room { IsTrue L.tells → length port.old.log + 3 ≤ MOST_CALLS }
     ensures reply { IsTrue L.tells → (limit : ℕ) → result ≡ reply_of (received limit port.old.world addr) }

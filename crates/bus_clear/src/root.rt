@@ -14,7 +14,7 @@ use i2c_bits::BitPort;
 use i2c_board::Accepted;
 use std::alloc::Global;
 
-/// What came of it: whether SDA was high behind the cut, the pulses that freed it, and the reply to the read.
+/// What came of it: whether SDA was high after the cut, the pulses that freed it, and the reply to the read.
 #[derive(Clone, Copy, Debug)]
 pub struct RootCleared {
     pub high: bool,
