@@ -12,7 +12,7 @@ use Rattle.wire_spec.specs.declared.mode.Mode.TheVariants.{Out, In, Give}
 use Rattle.wire_spec.specs.Wires.{Site, Bit, site_of, shifted, rise, fall, tick, begin, is_named, is_reading, stands}
 use Rattle.wire_spec.specs.Roots.{some_one, pulls_line, sda, where_joined, at}
 use Rattle.wire_spec.specs.Bus.{Mask, Counts, one_edge, Bus, Came, holds_line, scl_level, sda_level, each, rises, pulled, looked, await, bus_of, came_up, gave_up}
-use Rattle.wire_spec.specs.Started.{calling, started, stays, late, late_bus, rose, answers_so}
+use Rattle.wire_spec.specs.Started.{calling, started, stays, late_bus, rose, answers_so}
 use Rattle.wire_spec.specs.Calls.{released}
 use Rattle.wire_spec.proofs.Roots.{map_step, map_map, some_map}
 use Rattle.wire_spec.proofs.Calm.{looks_up, goes_down, sets_data}
