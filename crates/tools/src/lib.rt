@@ -18,7 +18,7 @@
 //!   `specs/DumpTables.antt` is the dialogue of `i2cdump` with its tables, and `specs/Scans.antt` that of `i2cdetect`.
 //! - Texts. `cut_line` tells the first line of a text, and `push_echo` prints a line's words (`specs/Splits.antt`).
 //!   `skip_gaps` and `first_word` take the words off any text, with whatever bytes a `Gap` says between them
-//!   (`specs/Words.antt`).
+//!   (`specs/Words.antt`), and `number_in` reads the number in a word (`specs/Numbers.antt`).
 #![tactic(auto)]
 
 pub mod command;
@@ -63,6 +63,7 @@ pub use laws::{
 pub use line::read_line;
 pub use line_examples::{a_handle_has_its_number, a_temperature_is_half_degrees, bytes_end_a_line};
 pub use lists::{Desc, DescOp, Descs, Items, Octets, Words};
+pub use number::number_in;
 pub use replies::Window;
 pub use run::ToolRun;
 pub use run::call::{Callee, HeldBlock, HeldCall, HeldOp};
