@@ -34,7 +34,7 @@ form_of (Check board) = check_form board
 form_of (Generate plan) = gen_form plan
 form_of (Clear board at) = clear_form board at
 
--- behind a plan: a read that is cut off
+-- where the words are no plan: a read that is cut off
 abbrev pub or_clear : Option Plan → List (List ℕ) → Option Request
 or_clear (Some plan) words = Some (Generate plan)
 or_clear None words = option_map (Clear (word_at words 1)) (clear_in words)

@@ -9,7 +9,6 @@ mod check;
 mod clear;
 mod generate;
 mod replay;
-mod spelled;
 
 use crate::Status;
 use crate::ending::write_due;

@@ -21,6 +21,7 @@ mod ending;
 mod files;
 pub mod forms;
 mod names;
+mod number;
 mod program;
 mod refusal;
 mod report;

@@ -62,7 +62,7 @@ read_line (Err e) = errno_text e ++ codes "\n"
 abbrev pub level_word : Bool → List ℕ
 level_word high = if high then codes "high" else codes "low"
 
--- the lines: SDA behind the cut, the pulses, and the read
+-- the lines: SDA after the cut, the pulses, and the read
 abbrev pub cleared_lines : ℕ → Bool → ℕ → Result ℕ Errno → List ℕ
 cleared_lines cut high pulses read =
     codes "cut " ++ (decimal cut ++ (codes " sda " ++ (level_word high ++ (codes "\npulses " ++ (decimal pulses ++ (codes "\n" ++ read_line read))))))
@@ -78,7 +78,7 @@ pub record HasClear (file : Files) (name : List ℕ) (at : ClearAt) (text : List
   pub has : HasRoot file name at.bus
   pub lines : text ≡ cleared_text has.accepted.board at
 
--- those were written behind what stood there
+-- those were written after what stood there
 pub record HasCleared (file : Files) (name : List ℕ) (at : ClearAt) (before now : List ℕ) : Type 0 where
   pub text : List ℕ
   pub clear : HasClear file name at text

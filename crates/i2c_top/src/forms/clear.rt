@@ -10,11 +10,10 @@ ghost use Rattle.i2c_top.specs.Traces.{RigView, shelf_view, beside};
 ghost use Rattle.i2c_top.specs.forms.Clears.{clear_in, clear_form, HasCleared, cleared_lines, level_word, read_line};
 ghost use Rattle.i2c_top.specs.declared.status.Status.TheVariants as status;
 
-use super::generate::number_named;
-use super::spelled::number_in;
 use crate::Status;
 use crate::ending::write_outcome;
 use crate::files::read_accepted;
+use crate::number::number_named;
 use crate::text::Text;
 use crate::words::{BOARD, is_name, word_at};
 use bus_clear::{RootCleared, clear_root};
@@ -23,8 +22,9 @@ use i2c_base::{Addr, Errno, NoMemory, SegId};
 use i2c_board::Accepted;
 use i2c_outside::{Shelf, Sink};
 use std::alloc::Global;
+use tools::number_in;
 
-/// Which bus, which address, and the rise behind which the read is cut off.
+/// Which bus, which address, and the rise after which the read is cut off.
 #[derive(Clone, Copy)]
 pub struct ClearAt {
     pub bus: u16,
@@ -144,7 +144,7 @@ fn clear_board<S: Shelf>(
 }
 
 /// Reads a board, cuts a read of an address off on one of its roots, clears the bus, and reads the address then: it writes the
-/// level of SDA behind the cut, how many pulses freed it, and the reply to the read. A refusal writes its line. No rig is plugged.
+/// level of SDA after the cut, how many pulses freed it, and the reply to the read. A refusal writes its line. No rig is plugged.
 /// The words are the shelf's, and ask for this.
 ///
 /// It returns on every input. `Board` is told as by a check, `NoRoot` exactly where the board is accepted and the bus is none of

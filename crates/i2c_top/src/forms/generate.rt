@@ -1,17 +1,14 @@
 //! The form `gen SEED ROOTS LINES`: a generated board, scripts and schedule, which are replayed, and the summary of it.
-ghost use Rattle.std.specs.Prelude.{◌≡◌, ◌≤◌, Some, map, string_bytes, IfOk, IfErr, IfSome, IsTrue};
-ghost use Rattle.std.specs.Char.{is_ascii_digit};
-ghost use Rattle.std.specs.List.{list_all};
-ghost use Rattle.tools.specs.Numbers.{is_decimal, within};
+ghost use Rattle.std.specs.Prelude.{◌≡◌, map, string_bytes, IfOk, IfErr, IfSome, IsTrue};
 ghost use Rattle.i2c_gen.specs.Scripts.{IsPlan};
 ghost use Rattle.i2c_top.specs.Endings.{CameToSuccess, CameToRefusal, HasEndedAs};
-ghost use Rattle.i2c_top.specs.Numbers.{is_numeral, number_named};
 ghost use Rattle.i2c_top.specs.Traces.{ShelfView, rig_view, around};
 ghost use Rattle.i2c_top.specs.forms.Generations.{plan_in, gen_form, HasGenerated};
 ghost use Rattle.i2c_top.specs.declared.status.Status.TheVariants as status;
 
 use crate::Status;
 use crate::ending::write_outcome;
+use crate::number::number_named;
 use crate::run::run_generated;
 use crate::text::Text;
 use crate::words::word_at;
@@ -19,55 +16,6 @@ use i2c_base::MOST_ROOTS;
 use i2c_gen::{MOST_LINES, Made, Plan, make};
 use i2c_outside::{Rig, Sink};
 use std::alloc::Global;
-
-// It has a byte, and several don't begin with 0.
-fn is_decimal(word: &[u8]) -> bool
-    ensures { result ≡ is_decimal word.now }
-{
-    !word.is_empty() && (word[0] != b'0' || word.len() == 1)
-}
-
-// It has decimal digits alone.
-fn are_digits(word: &[u8]) -> bool
-    ensures { result ≡ list_all is_ascii_digit word.now }
-{
-    word.iter().all(|byte| byte.is_ascii_digit())
-}
-
-#[tactic(auto, using(crate::proofs::NumberLemmas::all_digits))]
-fn is_numeral(word: &[u8]) -> bool
-    ensures { result ≡ is_numeral word.now }
-{
-    is_decimal(word) && are_digits(word)
-}
-
-// A number, where it is from low to high.
-fn within(low: u64, high: u64, number: u64) -> Option<u64>
-    ensures value { result ≡ within low high (Some number) }
-    ensures low { IfSome result (λ n. low ≤ n) }
-    ensures high { IfSome result (λ n. n ≤ high) }
-{
-    if low <= number && number <= high {
-        Some(number)
-    } else {
-        None
-    }
-}
-
-/// The number that a word names, where it is from low to high.
-pub fn number_named(word: &str, low: u64, high: u64) -> Option<u64>
-    ensures value { result ≡ number_named low high word.now }
-    ensures low { IfSome result (λ n. low ≤ n) }
-    ensures high { IfSome result (λ n. n ≤ high) }
-{
-    if !is_numeral(word.as_bytes()) {
-        return None;
-    }
-    match word.parse::<u64>() {
-        Ok(number) => within(low, high, number),
-        Err(_) => None,
-    }
-}
 
 /// What is to be generated, where the words are in the form.
 pub fn plan_in(words: &[String]) -> Option<Plan>

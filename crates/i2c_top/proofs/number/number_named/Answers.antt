@@ -1,7 +1,7 @@
 use Rattle.std.proofs.Common.{ℕ, sym, ◌∙◌, ap, arith}
 use Rattle.i2c_top.specs.Numbers.{is_numeral}
 use Rattle.i2c_top.proofs.NumberLemmas.{named_read, named_unread}
-use Rattle.i2c_top.proofs.forms.generate.number_named.Goals as goal
+use Rattle.i2c_top.proofs.number.number_named.Goals as goal
 
 pub returns-in-Ok-clause-value : goal.returns-in-Ok-clause-value
 returns-in-Ok-clause-value c =
