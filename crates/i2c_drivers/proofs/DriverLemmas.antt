@@ -264,7 +264,7 @@ below_small : (m : ℕ) → cast_unsigned w16 (neg_ℤ (pos m) *ℤ pos 128) < 6
 below_small zero = omega arith
 below_small (suc m) = subst (λ z. cast_unsigned w16 z < 65536) (sym (negsuc-*ℤ-pos m 128)) (minus_small (suc m * 128))
 
-raw_small : (z : ℤ) → IsMilli z → raw_of z < 65536
+pub raw_small : (z : ℤ) → IsMilli z → raw_of z < 65536
 raw_small (pos n) is = grind (arith, nat_tests, is.high)
 raw_small (negsuc n) is = below_small (suc n / 500)
 

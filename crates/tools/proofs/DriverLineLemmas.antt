@@ -1,6 +1,7 @@
 -- The lines of drivers: what they mean is in range, and how long they are.
 use Rattle.std.proofs.Common.{◌≡◌, ℕ, ◌≤◌, Bool, true, false, [], ◌∷◌, Option, Some, None, refl, arith, subst, cond}
-use Rattle.std.specs.Prelude.{ℤ, pos, neg_ℤ, option_and_then, ◌==◌}
+use Rattle.std.specs.Prelude.{ℤ, pos, neg_ℤ, option_and_then, ◌==◌, codes}
+use Rattle.std.specs.Str.{bytes_eq}
 use Rattle.std.specs.Option.{option_map}
 use Rattle.std.proofs.lemmas.Bool.Decides.{nat_tests}
 use Rattle.tools.specs.At24Lines.{page_written, read_span, written_span, at24_read_words, at24_write_words, at24_words}
@@ -8,9 +9,11 @@ use Rattle.tools.specs.Commands.{IsInRange}
 use Rattle.tools.specs.DriverLines.{driver_lines}
 use Rattle.tools.specs.Grammars.{Grammar}
 use Rattle.tools.specs.LineSets.{Word}
-use Rattle.tools.specs.Lm75Lines.{IsMilli, half_degree, half_degrees, milli_in, read_reg, written_reg, lm75_read_words, lm75_write_words, lm75_words}
+use Rattle.tools.specs.Lm75Lines.{IsMilli, IsWritten, half_degree, half_degrees, milli_in, read_reg, written_reg, lm75_read_words, lm75_write_words, lm75_words}
 use Rattle.tools.specs.Numbers.{number_in}
 use Rattle.tools.specs.declared.command.Cmd.{Cmd}
+use Rattle.tools.specs.declared.command.driver.lm75.RegName.{RegName}
+use Rattle.tools.specs.declared.command.driver.lm75.RegName.TheVariants.{Hyst, Max}
 use Rattle.tools.proofs.ByteListLemmas.{bytes_fit, bytes_within}
 use Rattle.tools.proofs.GrammarLemmas.{AllEnds, EndsWithin, ends_within_most}
 use Rattle.tools.proofs.OptionLemmas.{IsBetween, number_between}
@@ -76,6 +79,12 @@ milli_fits (c ∷ cs) z is =
     (λ n e. high_fits n (half_fits 0 127500 n (c ∷ cs) (number_in 0 127500 (c ∷ cs)) refl e).to_high))
     is
 
+-- REGNAME is one that is written
+pick_written : (b d : Bool) (which : RegName) → cond b (Some Hyst) (cond d (Some Max) None) ≡ Some which → IsWritten which
+pick_written true d which is = let same : Hyst ≡ which = cc in subst IsWritten same tt
+pick_written false true which is = let same : Max ≡ which = cc in subst IsWritten same tt
+pick_written false false which is = absurd cc
+
 module _ (limit bus addr : ℕ) (on : IsBetween 0 65535 bus) (to : IsBetween 8 119 addr) where
   reg_fits : AllEnds (IsInRange limit) (read_reg bus addr)
   unfolding read_reg
@@ -86,6 +95,7 @@ module _ (limit bus addr : ℕ) (on : IsBetween 0 65535 bus) (to : IsBetween 8 1
   reg_written_fits w which is x z is_milli = record {
     bus = omega (arith, on.to_high);
     addr = (to.from_low, to.to_high);
+    which = pick_written (bytes_eq w (codes "hyst")) (bytes_eq w (codes "max")) which is;
     milli = milli_fits x z is_milli;
   }
 

@@ -82,6 +82,12 @@ pub record IsMilli (z : ℤ) : Type 0 where
   pub low : negsuc 127999 ≤ℤ z
   pub high : z ≤ℤ pos 127500
 
+-- the registers that are written: the temperature isn't
+abbrev pub IsWritten : RegName → Type 0
+IsWritten Temp = ⊥
+IsWritten Hyst = Unit {0}
+IsWritten Max = Unit {0}
+
 pub record IsRegReadInRange (r : Lm75Read) : Type 0 where
   pub bus : r.bus < 2 ^ 16
   pub addr : IsTargetAddress r.addr
@@ -89,4 +95,5 @@ pub record IsRegReadInRange (r : Lm75Read) : Type 0 where
 pub record IsRegWriteInRange (w : Lm75Write) : Type 0 where
   pub bus : w.bus < 2 ^ 16
   pub addr : IsTargetAddress w.addr
+  pub which : IsWritten w.which
   pub milli : IsMilli w.milli
