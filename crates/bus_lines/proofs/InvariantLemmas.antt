@@ -1,7 +1,7 @@
 -- What each call leaves of the targets of a root as its type keeps them.
 use Rattle.std.proofs.Common.{◌≡◌, ℕ, zero, suc, ◌+◌, ◌-◌, ◌/◌, ◌==◌, ◌<◌, Bool, true, false, ◌&&◌, ◌||◌, cond, List, [], ◌∷◌, length, map, get_or, refl, sym, ap, ◌∙◌, subst, arith}
 use Rattle.std.specs.Prelude.{not}
-use Rattle.std.specs.List.{list_all, list_any}
+use Rattle.std.specs.List.{list_all}
 use Rattle.std.proofs.Common.{rules}
 use Rattle.std.proofs.lemmas.Bool.Decides.{nat_tests}
 use Rattle.std.proofs.lemmas.List.{length-map}
@@ -15,7 +15,7 @@ use Rattle.wire_spec.specs.Sites.{NodeState, NO_ADDRESS, node_table}
 use Rattle.i2c_bits.specs.Wiring.{Rooted, levelled_bits}
 use Rattle.bus_lines.specs.declared.edges.Edge.{Edge}
 use Rattle.bus_lines.specs.declared.edges.Edge.TheVariants.{Finish, Leave}
-use Rattle.bus_lines.specs.Edges.{seen, joined_at, waits_at}
+use Rattle.bus_lines.specs.Edges.{seen, joined_at}
 use Rattle.bus_lines.specs.Joins.{PlaceView, places_of, is_chip, kinds_of, states_on, joins_by}
 use Rattle.bus_lines.specs.LinesViews.{AreTargets, targets_of}
 use Rattle.bus_lines.specs.Numbers.{NumbersView, numbers_of, is_among}
@@ -25,7 +25,7 @@ use Rattle.bus_lines.proofs.NumberedLemmas.{length-numbered}
 use Rattle.bus_lines.proofs.UnitLemmas.{IsWithin}
 use Rattle.bus_lines.proofs.TargetsLemmas.{seen_alone, told_seen, told_doors, told_units, told_holds, told_pulls}
 use Rattle.bus_lines.proofs.AddressLemmas.{coming_falls, coming_ticks, coming_rises, coming_holds, coming_pulls, coming_units, called_seen, called_doors, called_units, called_holds, called_pulls, left_seen, left_doors, left_units}
-use Rattle.bus_lines.proofs.StopLemmas.{AreLoose, rejoined_units, stopped_seen, stopped_kinds, stopped_loose, calm_units, same_joined, calm_holds, calm_pulls, levelled_loose, spread_loose, spread_states}
+use Rattle.bus_lines.proofs.StopLemmas.{AreLoose, rejoined_units, stopped_seen, stopped_kinds, stopped_loose, levelled_loose, spread_loose, spread_states}
 
 -- ---- while an address comes in
 pub falls_coming : (left v : ℕ) (bs : List (Bit NodeState)) → 0 < left → map (shared left v) bs ≡ map (where_joined fall) (map (shared left v) bs)
@@ -222,10 +222,6 @@ module _ (k : Rooted) (ps : List PlaceView) (places : ps ≡ places_of k.board k
 pub nodes_fair : IsFairTable node_table
 nodes_fair = node_fair (search rules) states_fair
 
-or_parts : (a b : Bool) → (not a || b) ≡ false → (a ≡ true) × (b ≡ false)
-or_parts true b e = (refl, e)
-or_parts false b e = absurd (let f : true ≡ false = e in cc)
-
 module _ (k : Rooted) (ps : List PlaceView) (held pulled : Bool) (r : RegisterView) (live started : NumbersView) (at : List (List ℕ))
     (bs : List (Bit NodeState)) (are : AreTargets k ps held pulled r live started at bs) (live_new started_new : NumbersView)
     (lives : live_new ≡ numbers_of live.room (cond (list_all (joined_at bs) started.items) [] live.items))
@@ -262,39 +258,6 @@ module _ (k : Rooted) (ps : List PlaceView) (held pulled : Bool) (r : RegisterVi
 
   pub stop_seen : new ≡ map (where_joined (finish node_table)) (map (shared r.left r.value) bs)
   stop_seen = is ∙ stopped_seen nodes_fair r.left r.value live.items started.items at ps bs are.units
-
-  -- nobody has to be read anew
-  module _ (result : Bool) (tells : result ≡ (not all || list_any (waits_at bs) started.items)) (calm : result ≡ false) (now : RegisterView)
-      (over : now.left ≡ 0) where
-    parts : (all ≡ true) × (list_any (waits_at bs) started.items ≡ false)
-    parts = or_parts all (list_any (waits_at bs) started.items) (sym tells ∙ calm)
-
-    pub calm_are : (h p : Bool) → h ≡ false → p ≡ false → AreTargets k ps h p now live_new started_new at new
-    calm_are h p holds pulls =
-        let alone : new ≡ map (shared now.left now.value) new = sym (seen_alone now.left now.value new over) in
-        record {
-          places = are.places;
-          kinds = stop_kinds;
-          clock = holds
-              ∙ sym (ap (some_one holds_line) (sym alone ∙ is)
-              ∙ calm_holds nodes_fair r.left r.value live.items started.items at ps bs are.units parts.0 parts.1);
-          data_low = pulls
-              ∙ sym (ap (some_one (pulls_line node_table)) (sym alone ∙ is)
-              ∙ calm_pulls nodes_fair r.left r.value live.items started.items at ps bs are.units parts.0 parts.1);
-          units = subst (λ (xs : List (Bit NodeState)). AreUnits now.left live_new.items started_new.items at (joins_by ps (states_on xs)) xs) (sym is)
-              (subst (λ (m : ℕ). AreUnits m live_new.items started_new.items at (joins_by ps (states_on (by_number stop_to 0 bs))) (by_number stop_to 0 bs)) (sym over)
-              (subst (λ (v : NumbersView). AreUnits 0 v.items started_new.items at (joins_by ps (states_on (by_number stop_to 0 bs))) (by_number stop_to 0 bs)) (sym lives)
-              (subst (λ (v : NumbersView). AreUnits 0 (cond all [] live.items) v.items at (joins_by ps (states_on (by_number stop_to 0 bs))) (by_number stop_to 0 bs)) (sym starts)
-              (calm_units nodes_fair r.left r.value live.items started.items at ps bs are.units parts.0 parts.1))));
-          live_room = stop_live;
-          started_room = stop_started;
-          index = stop_index;
-        }
-
-    pub calm_rejoin : new ≡ rejoin_from (joins_by ps (states_on new)) 0 new
-    calm_rejoin =
-        is ∙ same_joined nodes_fair r.left r.value live.items started.items at ps bs are.units parts.0 parts.1
-        ∙ ap (λ xs. rejoin_from (joins_by ps (states_on xs)) 0 xs) (sym is)
 
 -- ---- a line is set
 module _ (k : Rooted) (ps : List PlaceView) (held pulled : Bool) (r : RegisterView) (live started : NumbersView) (at : List (List ℕ))

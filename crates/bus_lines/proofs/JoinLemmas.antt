@@ -4,6 +4,7 @@ use Rattle.wire_spec.specs.Wires.{Bit}
 use Rattle.wire_spec.specs.Bus.{rejoin_from}
 use Rattle.wire_spec.specs.Sites.{NodeState}
 use Rattle.bus_lines.specs.Joins.{read_anew, states_on}
+use Rattle.bus_lines.specs.Units.{by_number}
 
 abbrev pub joined_by : (ℕ → Bool) → ℕ → Bit NodeState → Bit NodeState
 joined_by f k b = read_anew (f k) b
@@ -17,6 +18,11 @@ first_from f k (suc n) (x ∷ xs) = f k x ∷ first_from f (k + 1) n xs
 pub rejoin_all : (f : ℕ → Bool) (k : ℕ) (bs : List (Bit NodeState)) → first_from (joined_by f) k (length bs) bs ≡ rejoin_from f k bs
 rejoin_all f k [] = refl
 rejoin_all f k (b ∷ bs) = ap (λ cs. joined_by f k b ∷ cs) (rejoin_all f (k + 1) bs)
+
+-- all of them
+pub first_all : {A : Type 0} (f : ℕ → A → A) (k : ℕ) (xs : List A) → first_from f k (length xs) xs ≡ by_number f k xs
+first_all f k [] = refl
+first_all f k (x ∷ xs) = ap (λ ys. f k x ∷ ys) (first_all f (k + 1) xs)
 
 -- one more is done
 next_set : {A : Type 0} (f : ℕ → A → A) (k n i : ℕ) (xs : List A) (d y : A) → i ≡ k + n → n < length xs → y ≡ f i (get_or xs n d)

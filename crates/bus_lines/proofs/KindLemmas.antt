@@ -9,7 +9,7 @@ use Rattle.i2c_base.specs.declared.event.Event.{Event}
 use Rattle.i2c_base.specs.declared.event.Event.TheVariants as event
 use Rattle.i2c_base.specs.Limits.{POLLS}
 use Rattle.i2c_base.specs.Muxes.{facts_of}
-use Rattle.i2c_spec.specs.Chips.{ChipView, stopped, opens}
+use Rattle.i2c_spec.specs.Chips.{ChipView, opens}
 use Rattle.i2c_spec.specs.Tree.{Hop}
 use Rattle.i2c_spec.specs.World.{has_heard}
 use Rattle.wire_spec.specs.declared.mode.Mode.{Mode}
@@ -21,7 +21,7 @@ use Rattle.wire_spec.specs.Sites.{NodeState, Chip, Device, node_table, node_afte
 use Rattle.i2c_bits.specs.Wiring.{node_level, levelled_bits}
 use Rattle.bus_lines.specs.declared.edges.Edge.{Edge}
 use Rattle.bus_lines.specs.declared.edges.Edge.TheVariants.{Rise, Fall, Tick, Finish, Leave, Other, Address, Put, Get, Enter}
-use Rattle.bus_lines.specs.Edges.{seen, put_in, get_in, enter_in, node_waits}
+use Rattle.bus_lines.specs.Edges.{seen, put_in, get_in, enter_in}
 use Rattle.bus_lines.specs.Joins.{PlaceView, is_chip, states_on, node_opens, opens_at, joins, joins_by}
 use Rattle.bus_lines.specs.Units.{by_number}
 
@@ -142,22 +142,6 @@ after_doors (Device x) e nostop = refl
 
 pub doors_kept : (e : Edge) → NoFinish e → (b : Bit NodeState) → doors (where_joined (seen e) b).site.state ≡ doors b.site.state
 doors_kept = joined_key (λ (s : Site NodeState). doors s.state) (λ s h e nostop. after_doors s.state e nostop)
-
-none_waits : (o : Option ℕ) → is_some o ≡ false → o ≡ None
-none_waits None none = refl
-none_waits (Some byte) none = let e : true ≡ false = none in cc
-
--- a stop opens no channel where no byte waits for it
-stop_doors : (x : NodeState) → node_waits x ≡ false → doors (node_after x event.Stop) ≡ doors x
-stop_doors (Chip x) none = ap (λ o. doors (Chip (stopped x o))) (none_waits x.waiting none)
-stop_doors (Device x) none = refl
-
-stop_either : (t : Bool) (b : Bit NodeState) → node_waits b.site.state ≡ false → doors (cond t (seen Finish b) b).site.state ≡ doors b.site.state
-stop_either true b none = stop_doors b.site.state none
-stop_either false b none = refl
-
-pub finish_doors : (b : Bit NodeState) → node_waits b.site.state ≡ false → doors (where_joined (seen Finish) b).site.state ≡ doors b.site.state
-finish_doors b none = stop_either b.site.joined b none
 
 -- ---- whether it is a chip
 after_kind : (x : NodeState) (e : Event) → is_chip (node_after x e) ≡ is_chip x

@@ -19,10 +19,13 @@ pub mod AndLemmas
 pub mod GetLemmas
 pub mod AddressLemmas
 pub mod StopLemmas
+-- Who is joined, of targets of which that isn't kept.
+pub mod KnownLemmas
 -- What each call leaves; the devices of other roots.
 pub mod InvariantLemmas
 pub mod AwayLemmas
 pub mod ToldLemmas
+pub mod KeptLemmas
 pub mod EnterLemmas
 pub mod EndsLemmas
 -- What a pull, a look and a line come to.

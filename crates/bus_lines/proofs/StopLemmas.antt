@@ -2,7 +2,6 @@
 use Rattle.std.proofs.Common.{◌≡◌, ℕ, zero, suc, ◌+◌, ◌==◌, ◌<◌, Bool, true, false, ◌||◌, cond, List, [], ◌∷◌, length, map, get_or, Option, Some, None, refl, sym, ap, ◌∙◌, subst, ◌⊎◌, inl, inr, arith}
 use Rattle.std.specs.Prelude.{not, slice_get, if◌then◌else◌}
 use Rattle.std.specs.List.{list_all, list_any}
-use Rattle.std.specs.Option.{option_map_or}
 use Rattle.std.proofs.lemmas.Option.{slice_get_within}
 use Rattle.i2c_base.proofs.ListLemmas.{map_from}
 use Rattle.i2c_base.specs.Muxes.{facts_of}
@@ -10,20 +9,20 @@ use Rattle.i2c_spec.specs.Chips.{ChipView, at_level, stopped, arbitrated, is_fre
 use Rattle.i2c_spec.specs.Targets.{IsQuiet, IsFairTable}
 use Rattle.wire_spec.specs.declared.mode.Mode.TheVariants.{In}
 use Rattle.wire_spec.specs.Wires.{Bit, stands, finish}
-use Rattle.wire_spec.specs.Roots.{where_joined, some_one, pulls_line}
-use Rattle.wire_spec.specs.Bus.{holds_line, rejoin_from}
+use Rattle.wire_spec.specs.Roots.{where_joined}
+use Rattle.wire_spec.specs.Bus.{rejoin_from}
 use Rattle.wire_spec.specs.Calls.{released}
 use Rattle.wire_spec.specs.Sites.{NodeState, Chip, Device, NO_ADDRESS, node_table}
 use Rattle.i2c_bits.specs.Wiring.{node_level, levelled_bits}
 use Rattle.bus_lines.specs.declared.edges.Edge.TheVariants.{Finish}
-use Rattle.bus_lines.specs.Edges.{seen, joined_at, waits_at, node_waits}
+use Rattle.bus_lines.specs.Edges.{seen, joined_at}
 use Rattle.bus_lines.specs.Joins.{PlaceView, is_chip, states_on, joins_by, read_anew, at_node_level}
 use Rattle.bus_lines.specs.Numbers.{is_among}
 use Rattle.bus_lines.specs.Units.{by_number, to_those, shared, IsCalm, IsUnit, AreUnits}
-use Rattle.bus_lines.proofs.KindLemmas.{doors, finish_doors, finish_kind, states_numbered, joins_kept}
-use Rattle.bus_lines.proofs.NumberedLemmas.{map_itself, numbered_itself, at_number, some_none}
-use Rattle.bus_lines.proofs.UnitLemmas.{done_all, calm_stops, shared_finishes, holds_none, pulls_none}
-use Rattle.bus_lines.proofs.TargetsLemmas.{touched_all, stays_out, stays_calm}
+use Rattle.bus_lines.proofs.KindLemmas.{finish_kind, states_numbered}
+use Rattle.bus_lines.proofs.NumberedLemmas.{map_itself, at_number}
+use Rattle.bus_lines.proofs.UnitLemmas.{done_all, calm_stops, shared_finishes}
+use Rattle.bus_lines.proofs.TargetsLemmas.{stays_out, stays_calm}
 use Rattle.bus_lines.proofs.AddressLemmas.{seen_numbered, all_have, joined_here, cleared, or_false, same_of}
 
 -- ---- who is joined is read anew
@@ -44,7 +43,7 @@ states_rejoin : (f : ℕ → Bool) (k : ℕ) (bs : List (Bit NodeState)) → sta
 states_rejoin f k [] = refl
 states_rejoin f k (b ∷ bs) = ap (λ ss. b.site.state ∷ ss) (states_rejoin f (k + 1) bs)
 
-anew_out : (j : Bool) (b : Bit NodeState) → b ≡ released b.site → read_anew j b ≡ released (read_anew j b).site
+pub anew_out : (j : Bool) (b : Bit NodeState) → b ≡ released b.site → read_anew j b ≡ released (read_anew j b).site
 anew_out j b out = ap (read_anew j) out
 
 pub rejoined_units : (left : ℕ) (live started : List ℕ) (at : List (List ℕ)) (ps : List PlaceView) (bs : List (Bit NodeState)) → left ≡ 0
@@ -73,11 +72,6 @@ finish_addr true true b = refl
 finish_addr true false b = refl
 finish_addr false j b = refl
 
-finish_joined : (t j : Bool) (b : Bit NodeState) → (cond t (cond j (finish node_table b) b) b).site.joined ≡ b.site.joined
-finish_joined true true b = refl
-finish_joined true false b = refl
-finish_joined false j b = refl
-
 -- who is out stays so
 finish_out : (t j : Bool) (b : Bit NodeState) → b ≡ released b.site
     → cond t (cond j (finish node_table b) b) b ≡ released (cond t (cond j (finish node_table b) b) b).site
@@ -91,13 +85,6 @@ finish_calm : IsFairTable node_table → (t j : Bool) (b : Bit NodeState) → (t
 finish_calm fair true true b calm joined = record { out = refl; deaf = refl; quiet = fair.stops b.site.state }
 finish_calm fair true false b calm joined = absurd (let e : false ≡ true = joined refl in cc)
 finish_calm fair false j b calm joined = calm refl
-
-anew_same : (b : Bit NodeState) (j : Bool) → b.site.joined ≡ j → b.site.heard ≡ false → read_anew j b ≡ b
-anew_same b j is deaf =
-    ap (λ i. read_anew i b) (sym is) ∙ ap (λ h. record b { site = record b.site { heard = h } }) (sym deaf)
-
-waits_here : (bs : List (Bit NodeState)) (k : ℕ) (b : Bit NodeState) → slice_get bs k ≡ Some b → waits_at bs k ≡ node_waits b.site.state
-waits_here bs k b is = ap (λ o. option_map_or (λ (c : Bit NodeState). node_waits c.site.state) o false) is
 
 none_step : (p : ℕ → Bool) (n k : ℕ) (ns : List ℕ) (here : Bool) → (k == n) ≡ here → p n ≡ false → (is_among ns k ≡ true → p k ≡ false)
     → (here || is_among ns k) ≡ true → p k ≡ false
@@ -159,46 +146,9 @@ module _ (fair : IsFairTable node_table) (left v : ℕ) (live started : List ℕ
         listed = λ a low. u.listed a low ∙ ap (λ x. a == x) (sym (finish_addr t b.site.joined b));
       })
 
-  -- all that it reached are calm, and no byte waited for it
-  module _ (reached : all ≡ true) (none : list_any (waits_at bs) started ≡ false) where
-    quiet_doors : (t : Bool) (k : ℕ) (b : Bit NodeState) → slice_get bs k ≡ Some b → is_among started k ≡ t
-        → doors (cond t (where_joined (seen Finish) b) b).site.state ≡ doors b.site.state
-    quiet_doors true k b is among = finish_doors b (sym (waits_here bs k b is) ∙ none_has (waits_at bs) started none k among)
-    quiet_doors false k b is among = refl
-
-    same_doors : map doors (states_on (by_number stop_to 0 bs)) ≡ map doors (states_on bs)
-    same_doors = states_numbered doors stop_to bs (λ k b is. quiet_doors (is_among started k) k b is refl)
-
-    pub calm_units : AreUnits 0 (cond all [] live) (cond all [] started) at (joins_by ps (states_on (by_number stop_to 0 bs))) (by_number stop_to 0 bs)
-    calm_units =
-        touched_all left 0 live started (cond all [] live) (cond all [] started) at (joins_by ps (states_on bs))
-        (joins_by ps (states_on (by_number stop_to 0 bs))) stop_to bs
-        (joins_kept ps (states_on (by_number stop_to 0 bs)) (states_on bs) same_doors) units
-        (λ k b is u. let calm = calm_at reached k b is in
-        record {
-          out = λ out. calm.out;
-          calm = λ out. calm;
-          waits = λ n more joined. absurd (omega (arith, more));
-          addr = finish_addr (is_among started k) b.site.joined b;
-          joined = finish_joined (is_among started k) b.site.joined b;
-        })
-
-    calm_after : (k : ℕ) (c : Bit NodeState) → slice_get (by_number stop_to 0 bs) k ≡ Some c → IsCalm c
-    calm_after k c is = let r = at_number stop_to k bs c is in subst IsCalm r.2 (calm_at reached k r.0 r.1)
-
-    -- then nobody is joined that wasn't, and the other way round
-    pub same_joined : by_number stop_to 0 bs ≡ rejoin_from (joins_by ps (states_on (by_number stop_to 0 bs))) 0 (by_number stop_to 0 bs)
-    same_joined =
-        let now = by_number stop_to 0 bs in
-        let joins = joins_by ps (states_on now) in
-        sym (rejoin_numbered joins 0 now ∙ numbered_itself (λ k b. read_anew (joins k) b) now
-        (λ k c is. let calm = calm_after k c is in anew_same c (joins k) (calm_units k c is).joined calm.deaf))
-
-    pub calm_holds : some_one holds_line (by_number stop_to 0 bs) ≡ false
-    calm_holds = some_none holds_line (by_number stop_to 0 bs) (λ k c is. let calm = calm_after k c is in holds_none c calm.out)
-
-    pub calm_pulls : some_one (pulls_line node_table) (by_number stop_to 0 bs) ≡ false
-    calm_pulls = some_none (pulls_line node_table) (by_number stop_to 0 bs) (λ k c is. let calm = calm_after k c is in pulls_none c calm.out)
+  -- who is joined then is calm, if all that a message had reached were
+  pub calm_after : all ≡ true → (k : ℕ) (c : Bit NodeState) → slice_get (by_number stop_to 0 bs) k ≡ Some c → IsCalm c
+  calm_after reached k c is = let r = at_number stop_to k bs c is in subst IsCalm r.2 (calm_at reached k r.0 r.1)
 
 -- ---- a line is set
 no_byte : (c : ChipView) (byte : ℕ) (b d : Bool)

@@ -21,7 +21,7 @@ pub seen_alone : (left v : ℕ) (bs : List (Bit NodeState)) → left ≡ 0 → m
 seen_alone zero v bs none = map_itself (shared 0 v) bs (λ i b is. refl)
 seen_alone (suc n) v bs none = absurd (omega (arith, none))
 
-within_goes : (e : Edge) → IsWithin e → NoFinish e
+pub within_goes : (e : Edge) → IsWithin e → NoFinish e
 within_goes (Rise level) within = tt
 within_goes Fall within = tt
 within_goes Tick within = tt

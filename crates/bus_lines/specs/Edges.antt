@@ -1,5 +1,5 @@
 -- What an edge of the lines is to a target.
-use Rattle.std.specs.Prelude.{ℕ, Bool, true, List, cond, slice_get, is_some, false, ◌&&◌}
+use Rattle.std.specs.Prelude.{ℕ, Bool, true, List, cond, slice_get, false, ◌&&◌}
 use Rattle.std.specs.Option.{option_map_or}
 use Rattle.i2c_base.specs.declared.event.Event.TheVariants as event
 use Rattle.i2c_spec.specs.World.{is_ack}
@@ -10,7 +10,7 @@ use Rattle.i2c_spec.specs.Regs.{is_too_long}
 use Rattle.wire_spec.specs.Roots.{at}
 use Rattle.wire_spec.specs.Started.{started, entered_by}
 use Rattle.wire_spec.specs.Calls.{released}
-use Rattle.wire_spec.specs.Sites.{NodeState, Chip, Device, node_table}
+use Rattle.wire_spec.specs.Sites.{NodeState, node_table}
 use Rattle.bus_lines.specs.declared.edges.Edge.{Edge}
 use Rattle.bus_lines.specs.declared.edges.Edge.TheVariants.{Rise, Fall, Tick, Finish, Leave, Other, Address, Put, Get, Enter}
 
@@ -97,12 +97,3 @@ seen Enter b = enter_in b b.mode
 -- the target of this number is joined
 abbrev pub joined_at : List (Bit NodeState) → ℕ → Bool
 joined_at bs k = option_map_or (λ (b : Bit NodeState). b.site.joined) (slice_get bs k) false
-
--- it is the chip of a mux, where a byte waits for the stop
-abbrev pub node_waits : NodeState → Bool
-node_waits (Chip x) = is_some x.waiting
-node_waits (Device x) = false
-
--- the target of this number is one
-abbrev pub waits_at : List (Bit NodeState) → ℕ → Bool
-waits_at bs k = option_map_or (λ (b : Bit NodeState). node_waits b.site.state) (slice_get bs k) false

@@ -7,6 +7,7 @@ pub mod Opens
 -- Which targets an edge touches, by their numbers; and the devices of other roots.
 pub mod Numbers
 pub mod Units
+pub mod Known
 pub mod Away
 -- Which devices are of a root; the targets of a root off its lines.
 pub mod Owned

@@ -6,7 +6,7 @@ ghost use Rattle.wire_spec.specs.Bus.{holds_line};
 ghost use Rattle.wire_spec.specs.Wires.{entered};
 ghost use Rattle.wire_spec.specs.Calls.{released};
 ghost use Rattle.wire_spec.specs.Sites.{node_table};
-ghost use Rattle.bus_lines.specs.Edges.{seen, acks_in, acks_put, gives_in, gives_get, acked_in, acks_enter, slow_at, joined_at, waits_at};
+ghost use Rattle.bus_lines.specs.Edges.{seen, acks_in, acks_put, gives_in, gives_get, acked_in, acks_enter, slow_at, joined_at};
 ghost use Rattle.bus_lines.specs.Numbers.{AreNumbers};
 ghost use Rattle.bus_lines.specs.Units.{by_number, some_by, and_by, to_those, of_those, given_by};
 ghost use Rattle.bus_lines.specs.declared.edges.Edge.TheVariants as the;
@@ -404,26 +404,9 @@ pub fn joined_at(targets: &[BitTarget<Node>], number: u16) -> bool
     }
 }
 
-/// The target of this number is the chip of a mux where a byte waits for the stop.
-fn waits_at(targets: &[BitTarget<Node>], number: u16) -> bool
-    ensures { result ≡ waits_at targets.now number }
-{
-    match targets.get(usize::from(number)) {
-        Some(target) => target.target.waits(),
-        None => false,
-    }
-}
-
 /// All of these are joined.
 pub fn all_joined(targets: &[BitTarget<Node>], numbers: &[u16]) -> bool
     ensures { result ≡ list_all (joined_at targets.now) numbers.now }
 {
     numbers.iter().all(|number| joined_at(targets, *number))
-}
-
-/// One of these is the chip of a mux where a byte waits for the stop.
-pub fn some_waits(targets: &[BitTarget<Node>], numbers: &[u16]) -> bool
-    ensures { result ≡ list_any (waits_at targets.now) numbers.now }
-{
-    numbers.iter().any(|number| waits_at(targets, *number))
 }

@@ -1,9 +1,12 @@
-//! Who is joined to the wires after a stop.
-ghost use Rattle.std.specs.Prelude.{◌≡◌};
+//! Who is joined to the wires.
+ghost use Rattle.std.specs.Prelude.{◌≡◌, length};
 ghost use Rattle.wire_spec.specs.Roots.{some_one, pulls_line};
 ghost use Rattle.wire_spec.specs.Bus.{holds_line, rejoin_from};
 ghost use Rattle.wire_spec.specs.Sites.{node_table};
 ghost use Rattle.bus_lines.specs.Joins.{at_node_level, joins_by, read_anew, states_on};
+ghost use Rattle.bus_lines.specs.Known.{known, known_of, known_on};
+ghost use Rattle.bus_lines.specs.Numbers.{AreNumbers};
+ghost use Rattle.bus_lines.specs.Units.{by_number};
 ghost use Rattle.i2c_bits.specs.Wiring.{levelled_bits};
 
 use crate::Node;
@@ -19,6 +22,56 @@ fn joins_by(places: &[Place], targets: &[BitTarget<Node>], number: usize) -> boo
     match places.get(number) {
         Some(place) => place.joins(targets),
         None => false,
+    }
+}
+
+/// The target is joined, or isn't.
+fn set_known(target: &mut BitTarget<Node>, joined: bool)
+    ensures { target.new ≡ known joined target.old }
+{
+    target.joined = joined;
+}
+
+/// Of the targets that have these numbers it is read anew whether they are joined.
+#[inline(always)]
+pub fn refresh(targets: &mut Vec<BitTarget<Node>>, places: &[Place], numbers: &[u16])
+    requires { AreNumbers (length targets.old.items) numbers.now }
+    ensures { targets.new.items ≡ by_number (known_of numbers.now (joins_by places.now (states_on targets.old.items))) 0 targets.old.items }
+{
+    refresh_those(targets, places, numbers)
+}
+
+/// The same of a slice.
+#[inline(always)]
+fn refresh_those(targets: &mut [BitTarget<Node>], places: &[Place], numbers: &[u16])
+    requires { AreNumbers (length targets.old) numbers.now }
+    ensures { targets.new ≡ by_number (known_of numbers.now (joins_by places.now (states_on targets.old))) 0 targets.old }
+{
+    for number in numbers {
+        let number = usize::from(*number);
+        let is_there = number < targets.len();
+        prove!(is_there);
+        let joined = joins_by(places, targets, number);
+        set_known(&mut targets[number], joined);
+    }
+}
+
+/// Of all targets it is read anew whether they are joined.
+pub fn refresh_all(targets: &mut Vec<BitTarget<Node>>, places: &[Place])
+    ensures { targets.new.items ≡ known_on places.now targets.old.items }
+{
+    refresh_each(targets, places)
+}
+
+/// The same of a slice. It goes from the last one back.
+fn refresh_each(targets: &mut [BitTarget<Node>], places: &[Place])
+    ensures { targets.new ≡ known_on places.now targets.old }
+{
+    let mut left = targets.len();
+    while left > 0 {
+        left -= 1;
+        let joined = joins_by(places, targets, left);
+        set_known(&mut targets[left], joined);
     }
 }
 

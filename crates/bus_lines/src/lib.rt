@@ -8,11 +8,14 @@
 //! who is joined, by the places of the targets; `specs/LinesViews.antt` and `specs/Opens.antt` what is seen of the lines, and
 //! how they are opened; `specs/Tallies.antt` the two counts.
 //!
-//! An edge touches only those that were called since the last start, whose numbers are kept, and a look at a high clock touches
-//! nobody. While an address byte comes in, one register takes it in for all that is joined; at its last bit those at the address are called, by
-//! an index, and those that a message has reached since their last stop see another's start (`specs/Units.antt`). A stop
-//! touches these alone, and who is joined is read anew only where a byte waited for it in the chip of a mux, or where someone
-//! that a message had reached was no longer joined. Nothing is kept of another root's devices (`specs/Away.antt`).
+//! They are `ByteLines` too: a start, a stop, and a byte with its acknowledge clock are one step, which comes to what their pulls
+//! and looks come to by the laws of `wire_spec`. An address byte at which a target would hold SCL for too long goes bit by bit.
+//!
+//! An edge, or a byte, touches only those that were called since the last start, whose numbers are kept, and a look at a high clock
+//! touches nobody. While an address byte comes in, one register takes it in for all that is joined; then those at the address are
+//! called, by an index, and those that a message has reached since their last stop see another's start (`specs/Units.antt`). A
+//! stop touches these alone. Who is joined is kept of these alone too: of others it is read from the board's tree and the chips
+//! when an address names them (`specs/Known.antt`). Nothing is kept of another root's devices (`specs/Away.antt`).
 #![tactic(auto)]
 
 mod apart;

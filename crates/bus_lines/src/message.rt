@@ -1,16 +1,16 @@
-//! What becomes of the lists of who is in the message, and of who a message has reached, at an address byte, a start and a stop.
-ghost use Rattle.std.specs.Prelude.{◌≡◌, ◌<◌, ◌/◌, ◌||◌, ◌&&◌, ◌==◌, ℕ, true, false, not, [], length, map, cond, get_or};
-ghost use Rattle.std.specs.List.{list_all, list_any};
+//! At an address byte, a start and a stop: who is in the message, and who a message has reached.
+ghost use Rattle.std.specs.Prelude.{◌≡◌, ◌<◌, ◌/◌, ◌||◌, ◌&&◌, ◌==◌, ℕ, true, false, [], length, map, cond, get_or};
+ghost use Rattle.std.specs.List.{list_all};
 ghost use Rattle.tgt_bits.specs.Targets.{IsMode};
 ghost use Rattle.wire_spec.specs.declared.mode.Mode.TheVariants as mode;
 ghost use Rattle.wire_spec.specs.Roots.{where_joined};
 ghost use Rattle.bus_lines.specs.declared.edges.Edge.TheVariants as the;
-ghost use Rattle.bus_lines.specs.Edges.{seen, joined_at, waits_at};
+ghost use Rattle.bus_lines.specs.Edges.{seen, joined_at};
 ghost use Rattle.bus_lines.specs.Numbers.{is_among, AreNumbers, numbers_of};
 ghost use Rattle.bus_lines.specs.Units.{by_number, to_those, shared, addressed, IsIndex};
 
 use crate::Node;
-use crate::edges::{Edge, all_joined, joined_at, some_waits, tell};
+use crate::edges::{Edge, all_joined, joined_at, tell};
 use crate::index::Index;
 use crate::numbers::Numbers;
 use crate::register::Register;
@@ -87,22 +87,20 @@ pub fn leave(bits: &mut Vec<BitTarget<Node>>, live: &mut Numbers)
     clear_if(live, all);
 }
 
-/// A stop: it reaches who is joined. Whether it has to be read anew who is joined: a channel may have opened or closed, or someone
-/// wasn't reached.
+/// A stop: it reaches who is joined. Whether it reached all that a message had reached.
 #[inline(never)]
 pub fn stop(bits: &mut Vec<BitTarget<Node>>, live: &mut Numbers, started: &mut Numbers) -> bool
     requires { started.old.room ≡ length bits.old.items }
     ensures live { live.new ≡ numbers_of live.old.room (cond (list_all (joined_at bits.old.items) started.old.items) [] live.old.items) }
     ensures started { started.new ≡ numbers_of started.old.room (cond (list_all (joined_at bits.old.items) started.old.items) [] started.old.items) }
     ensures bits { bits.new.items ≡ by_number (to_those started.old.items (where_joined (seen the.Finish))) 0 bits.old.items }
-    ensures result { result ≡ (not (list_all (joined_at bits.old.items) started.old.items) || list_any (waits_at bits.old.items) started.old.items) }
+    ensures result { result ≡ list_all (joined_at bits.old.items) started.old.items }
 {
     let all = all_joined(bits, started.as_slice());
-    let waits = some_waits(bits, started.as_slice());
     tell(bits, started.as_slice(), Edge::Finish);
     clear_if(live, all);
     clear_if(started, all);
-    !all || waits
+    all
 }
 
 /// What has come of an address byte is given to each target that is joined, so that none comes in any more: then each of them may

@@ -4,7 +4,6 @@ ghost use Rattle.i2c_spec.specs.Targets.{Silent};
 ghost use Rattle.wire_spec.specs.Sites as node;
 ghost use Rattle.i2c_bits.specs.Wiring.{node_level};
 ghost use Rattle.bus_lines.specs.Aparts.{device_of, emptied};
-ghost use Rattle.bus_lines.specs.Edges.{node_waits};
 ghost use Rattle.bus_lines.specs.Joins.{is_chip, node_opens};
 
 use i2c_base::{Answer, Event, Target};
@@ -76,16 +75,6 @@ impl Node {
         match &mut self.target {
             Kind::Chip(chip) => chip.set_level(level),
             Kind::Device(_) | Kind::Away => {}
-        }
-    }
-
-    /// It is the chip of a mux, where a byte waits for the stop.
-    pub fn waits(&self) -> bool
-        ensures { result ≡ node_waits self.now }
-    {
-        match &self.target {
-            Kind::Chip(chip) => chip.waits(),
-            Kind::Device(_) | Kind::Away => false,
         }
     }
 

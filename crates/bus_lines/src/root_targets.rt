@@ -16,7 +16,7 @@ ghost use Rattle.bus_lines.specs.Opens.{opened_targets};
 use crate::counter::Counter;
 use crate::edges::{Edge, Pulls, enter_all, get_all, put_all, some_slow, tell};
 use crate::index::Index;
-use crate::joining::{rejoin, set_level};
+use crate::joining::{refresh, refresh_all, rejoin, set_level};
 use crate::message::{call, leave, spread, stop};
 use crate::numbers::Numbers;
 use crate::opening::{add_chips, add_device_places, add_devices, add_mux_places};
@@ -31,8 +31,9 @@ use std::snapshot::Snapshot;
 use tgt_bits::BitTarget;
 
 /// The targets of a root: a chip for each mux of the board, and then each of its devices, by number. Those of another root, and
-/// absent chips, are never joined, and nothing is kept of another root's devices. A contract sees them with the board and the root, and how often SCL rose and SDA changed
-/// while it was high.
+/// absent chips, are never joined, and nothing is kept of another root's devices. Whether a target is joined is kept of those that
+/// a message has reached, and read anew of those that an address names. A contract sees all of them as they are joined, with the
+/// board and the root, and how often SCL rose and SDA changed while it was high.
 #[derive(Drop)]
 pub struct RootTargets {
     board: Snapshot<Accepted>,
@@ -53,15 +54,16 @@ pub struct RootTargets {
 
 impl Model for RootTargets {
     ghost use Rattle.std.specs.Prelude.{map};
-    ghost use Rattle.bus_lines.specs.LinesViews.{TargetsView, AreTargets};
+    ghost use Rattle.bus_lines.specs.LinesViews.{TargetsView};
     ghost use Rattle.bus_lines.specs.Away.{whole_on};
+    ghost use Rattle.bus_lines.specs.Known.{AreKept, known_on};
     ghost use Rattle.bus_lines.specs.Units.{shared};
 
     ghost Value = { TargetsView };
 
-    ghost view = { λ t. record { rooted = record { board = t.board.value; root = t.root }; bits = map (shared t.address.left t.address.value) (whole_on t.board.value t.places.items t.bits.items); counts = t.counter } };
+    ghost view = { λ t. record { rooted = record { board = t.board.value; root = t.root }; bits = map (shared t.address.left t.address.value) (whole_on t.board.value t.places.items (known_on t.places.items t.bits.items)); counts = t.counter } };
 
-    ghost invariant = { λ t. AreTargets (record { board = t.board.value; root = t.root }) t.places.items t.pulls.clock t.pulls.data t.address t.live t.started t.at t.bits.items };
+    ghost invariant = { λ t. AreKept (record { board = t.board.value; root = t.root }) t.places.items t.pulls.clock t.pulls.data t.address t.live t.started t.at t.bits.items };
 }
 
 impl RootTargets {
@@ -102,9 +104,10 @@ impl RootTargets {
             board,
             root,
             places,
-            bits,
+            mut bits,
             ..
         } = self;
+        refresh_all(&mut bits, places.as_slice());
         Apart::of(board, root, places, bits)
     }
 
@@ -149,6 +152,7 @@ impl RootTargets {
         if !self.address.is_coming() {
             tell(&mut self.bits, self.live.as_slice(), Edge::Rise(level));
         } else if let Some(byte) = self.address.take(level) {
+            refresh(&mut self.bits, self.places.as_slice(), self.at.at(byte / 2));
             call(
                 &mut self.bits,
                 &self.at,
@@ -175,7 +179,11 @@ impl RootTargets {
     pub fn address(&mut self, byte: u8) -> Option<bool>
         ensures { IsAddressed byte result self.old self.new }
     {
-        if !self.address.is_coming() || some_slow(self.bits.as_slice(), self.at.at(byte / 2)) {
+        if !self.address.is_coming() {
+            return None;
+        }
+        refresh(&mut self.bits, self.places.as_slice(), self.at.at(byte / 2));
+        if some_slow(self.bits.as_slice(), self.at.at(byte / 2)) {
             return None;
         }
         self.counter.add_nine();
@@ -249,16 +257,16 @@ impl RootTargets {
         self.pulls = Pulls::none();
     }
 
-    /// A stop: SDA rises while SCL is high, and who is joined is read anew where that may have changed.
+    /// A stop: SDA rises while SCL is high. Who is joined then is read anew of all at once only where it missed someone.
     pub fn finish(&mut self)
         ensures { self.new ≡ record self.old { bits = rejoined (mask_of self.old.rooted.board self.old.rooted.root) (map (where_joined (finish node_table)) self.old.bits); counts = one_flip self.old.counts } }
     {
         self.counter.add_flip();
         self.address = Register::none();
         if stop(&mut self.bits, &mut self.live, &mut self.started) {
-            self.pulls = rejoin(&mut self.bits, self.places.as_slice());
-        } else {
             self.pulls = Pulls::none();
+        } else {
+            self.pulls = rejoin(&mut self.bits, self.places.as_slice());
         }
     }
 
@@ -266,6 +274,7 @@ impl RootTargets {
     pub fn set_line(&mut self, mux: MuxId, level: u8)
         ensures { self.new ≡ record self.old { bits = rejoined (mask_of self.old.rooted.board self.old.rooted.root) (levelled_bits mux level self.old.bits) } }
     {
+        refresh_all(&mut self.bits, self.places.as_slice());
         spread(
             &mut self.bits,
             &mut self.live,

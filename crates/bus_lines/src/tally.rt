@@ -3,8 +3,8 @@ ghost use Rattle.std.specs.Prelude.{◌≡◌};
 
 use std::snapshot::Snapshot;
 
-/// What has happened on the lines: each rise of SCL, or the nine of a byte at once, and each start and stop, behind all that was before. It keeps nothing of
-/// that, so that it takes no more memory the longer it goes on. A contract sees the two counts.
+/// What has happened on the lines: each rise of SCL, or the nine of a byte at once, and each start and stop, after all that was
+/// before. It keeps nothing of that, so that it takes no more memory the longer it goes on. A contract sees the two counts.
 #[derive(Drop)]
 pub enum Tally {
     Nothing,

@@ -1,5 +1,9 @@
 //! The controller of a root that drives the two wires, SDA and SCL, bit by bit: a port over any pair of lines.
 //!
+//! `Lines` are pulled and looked at. `ByteLines` are sent whole bytes, starts and stops, each of which comes to what its pulls and
+//! looks come to; the bodies that the trait has make these one by one, so that lines of one's own, which watch each level, need
+//! none.
+//!
 //! Its public contract: a `BitPort` over lines that tell their targets is a `Port` that does in each call what the world of
 //! bytes says, with a clock that is held for more than 64 looks as Slow, and never fails; over any lines a call fails exactly
 //! where SCL, once let go, looked low 65 times in a row, in a stop 255 times, and lets both lines go then. In the acknowledge

@@ -1,5 +1,5 @@
 //! The chip of a mux, or the line of a gpio mux: which of its channels are open.
-ghost use Rattle.std.specs.Prelude.{◌≡◌, ◌≤◌, ◌%◌, ◌^◌, is_some};
+ghost use Rattle.std.specs.Prelude.{◌≡◌, ◌≤◌, ◌%◌, ◌^◌};
 ghost use Rattle.i2c_spec.specs.Chips.{chip_opening, chip_sends, is_open, at_level, looked, stopped, arbitrated, bit_of};
 
 use i2c_base::{Answer, ChannelCode, Event, MuxKind, MuxSpec, POLLS, Target};
@@ -62,13 +62,6 @@ impl Chip {
             ChannelCode::Alone => self.control == 1 && channel == 0,
             ChannelCode::Level => u32::from(self.control) == u32::from(channel) + 1,
         }
-    }
-
-    /// A byte waits for the stop: no other stop opens or closes a channel.
-    pub fn waits(&self) -> bool
-        ensures { result ≡ is_some self.now.waiting }
-    {
-        self.waiting.is_some()
     }
 
     /// Sets the line of a gpio mux: level 0 opens no channel, level k opens channel k - 1.

@@ -4,6 +4,7 @@ use Rattle.wire_spec.specs.Sites.{NodeState}
 use Rattle.i2c_bits.specs.Wiring.{Rooted}
 use Rattle.bus_lines.specs.Aparts.{apart_of}
 use Rattle.bus_lines.specs.Away.{whole_on}
+use Rattle.bus_lines.specs.Known.{known_on}
 use Rattle.bus_lines.specs.LinesViews.{TargetsView}
 use Rattle.bus_lines.specs.Units.{shared}
 use Rattle.bus_lines.proofs.root_targets.RootTargets.apart.Goals as goal
@@ -27,6 +28,8 @@ returns c =
     let i = c.self.inside in
     let k : Rooted = record { board = i.board.value; root = i.root } in
     c.of.ensures
+    ∙ ap (λ (xs : List (Bit NodeState)). apart_of k (whole_on i.board.value i.places.items xs))
+    (c.refresh_all.ensures ∙ ap (λ ps. known_on ps i.bits.items) c.as_slice.ensures.value)
     ∙ ap (λ (ss : List (Site NodeState)). record { rooted = k; sites = ss })
-    (sym (shared_sites i.address.left i.address.value (whole_on i.board.value i.places.items i.bits.items)))
+    (sym (shared_sites i.address.left i.address.value (whole_on i.board.value i.places.items (known_on i.places.items i.bits.items))))
     ∙ ap (λ (t : TargetsView). apart_of t.rooted t.bits) c.self.view_is

@@ -6,19 +6,21 @@ use Rattle.i2c_bits.specs.Wiring.{Rooted}
 use Rattle.bus_lines.specs.declared.edges.Edge.TheVariants.{Get}
 use Rattle.bus_lines.specs.Away.{whole_on}
 use Rattle.bus_lines.specs.Edges.{seen, gives_get}
+use Rattle.bus_lines.specs.Known.{known_on}
 use Rattle.bus_lines.specs.LinesViews.{TargetsView}
-use Rattle.bus_lines.specs.Units.{some_by, of_those, and_by, given_by}
+use Rattle.bus_lines.specs.Units.{and_by, given_by}
 use Rattle.bus_lines.proofs.AwayLemmas.{units_away, whole_given}
-use Rattle.bus_lines.proofs.InvariantLemmas.{seen_as, told_are, none_comes, some_comes}
+use Rattle.bus_lines.proofs.InvariantLemmas.{seen_as, none_comes, some_comes}
+use Rattle.bus_lines.proofs.KeptLemmas.{edge_known, edge_asked, edge_kept, edge_seen}
+use Rattle.bus_lines.proofs.KnownLemmas.{given_known}
 use Rattle.bus_lines.proofs.GetLemmas.{gives_nobody, gets_coming, gives_coming, get_holds, get_gives}
-use Rattle.bus_lines.proofs.ToldLemmas.{is_told, edge_whole}
 use Rattle.bus_lines.proofs.root_targets.RootTargets.get.Goals as goal
 
 pub returns-then-is_coming-clause-byte : goal.returns-then-is_coming-clause-byte
 returns-then-is_coming-clause-byte c =
     let i = c.self.inside in
     let some = some_comes c.is_coming.result i.address.left c.is_coming.ensures c.if-is_coming.true in
-    sym (gives_coming i.address.left i.address.value (whole_on i.board.value i.places.items i.bits.items) some)
+    sym (gives_coming i.address.left i.address.value (whole_on i.board.value i.places.items (known_on i.places.items i.bits.items)) some)
     ∙ ap (λ (v : TargetsView). and_all (map gives_get v.bits)) c.self.view_is
 
 pub returns-then-is_coming-clause-after : goal.returns-then-is_coming-clause-after
@@ -26,7 +28,7 @@ returns-then-is_coming-clause-after c =
     let i = c.self.inside in
     let k : Rooted = record { board = i.board.value; root = i.root } in
     let some = some_comes c.is_coming.result i.address.left c.is_coming.ensures c.if-is_coming.true in
-    seen_as k (gets_coming i.address.left i.address.value c.args.ack (whole_on i.board.value i.places.items i.bits.items) some) c.add_nine.ensures
+    seen_as k (gets_coming i.address.left i.address.value c.args.ack (whole_on i.board.value i.places.items (known_on i.places.items i.bits.items)) some) c.add_nine.ensures
     ∙ ap (λ (v : TargetsView). record v { bits = map (where_joined (seen (Get c.args.ack))) v.bits; counts = more_edges 9 v.counts }) c.self.view_is
 
 pub invariant_of-self-2 : goal.invariant_of-self-2
@@ -36,24 +38,31 @@ invariant_of-self-2 c =
     let new = given.new.targets.items in
     let k : Rooted = record { board = i.board.value; root = i.root } in
     let none = none_comes c.is_coming.result i.address.left c.is_coming.ensures c.if-is_coming.false in
-    let told = is_told k i.places.items i.pulls.clock i.pulls.data i.address i.live i.started i.at i.bits.items c.self.invariant (Get c.args.ack) tt none
+    let kept = c.self.invariant in
+    let ps = i.places.items in
+    let told = edge_known k ps i.pulls.clock i.pulls.data i.address i.live i.started i.at i.bits.items kept (Get c.args.ack) tt none
     _ c.as_slice.ensures.value new given.ensures.targets in
-    told_are k i.places.items i.pulls.clock i.pulls.data i.address i.live i.started i.at i.bits.items c.self.invariant (Get c.args.ack) tt none new told
-    i.pulls.clock given.result.data
-    (get_holds c.args.ack i.address.left i.address.value i.live.items i.started.items i.at i.places.items i.bits.items none
-    c.self.invariant.units new told i.pulls.clock c.self.invariant.clock)
-    (given.ensures.data ∙ ap (λ ns. some_by (of_those ns (pulls_line node_table)) 0 new) c.as_slice.ensures.value)
+    edge_kept k ps i.pulls.clock i.pulls.data i.address i.live i.started i.at i.bits.items kept (Get c.args.ack) tt none
+    _ c.as_slice.ensures.value new given.ensures.targets i.pulls.clock given.result.data
+    (get_holds c.args.ack i.address.left i.address.value i.live.items i.started.items i.at ps (known_on ps i.bits.items) none
+    kept.are.units (known_on ps new) told i.pulls.clock kept.are.clock)
+    (given.ensures.data
+    ∙ edge_asked k ps i.pulls.clock i.pulls.data i.address i.live i.started i.at i.bits.items kept (Get c.args.ack) tt none
+    _ c.as_slice.ensures.value new given.ensures.targets (pulls_line node_table))
 
 pub returns-clause-byte : goal.returns-clause-byte
 returns-clause-byte c =
     let i = c.self.inside in
     let none = none_comes c.is_coming.result i.address.left c.is_coming.ensures c.if-is_coming.false in
-    let units = c.self.invariant.units in
-    let away = units_away i.places.items i.address.left i.live.items i.started.items i.at i.bits.items units in
+    let kept = c.self.invariant in
+    let ps = i.places.items in
+    let bs = known_on ps i.bits.items in
+    let away = units_away ps i.address.left i.live.items i.started.items i.at bs kept.are.units in
     c.get_all-given.ensures.byte
     ∙ ap (λ ns. and_by (given_by ns gives_get) 0 i.bits.items) c.as_slice.ensures.value
-    ∙ get_gives c.args.ack i.address.left i.address.value i.live.items i.started.items i.at i.places.items i.bits.items none units
-    ∙ ap and_all (whole_given i.board.value i.places.items gives_get 255 gives_nobody i.address.left i.address.value i.bits.items away)
+    ∙ given_known ps i.live.items gives_get i.bits.items kept.in_message
+    ∙ get_gives c.args.ack i.address.left i.address.value i.live.items i.started.items i.at ps bs none kept.are.units
+    ∙ ap and_all (whole_given i.board.value ps gives_get 255 gives_nobody i.address.left i.address.value bs away)
     ∙ ap (λ (v : TargetsView). and_all (map gives_get v.bits)) c.self.view_is
 
 pub returns-clause-after : goal.returns-clause-after
@@ -62,7 +71,7 @@ returns-clause-after c =
     let given = c.get_all-given in
     let k : Rooted = record { board = i.board.value; root = i.root } in
     seen_as k
-    (edge_whole k i.places.items i.pulls.clock i.pulls.data i.address i.live i.started i.at i.bits.items c.self.invariant (Get c.args.ack) tt
+    (edge_seen k i.places.items i.pulls.clock i.pulls.data i.address i.live i.started i.at i.bits.items c.self.invariant (Get c.args.ack) tt
     (none_comes c.is_coming.result i.address.left c.is_coming.ensures c.if-is_coming.false) _ c.as_slice.ensures.value
     given.new.targets.items given.ensures.targets i.pulls.clock given.result.data (invariant_of-self-2 c))
     c.add_nine.ensures

@@ -2,6 +2,7 @@ use Rattle.std.proofs.Common.{ap, ◌∙◌}
 use Rattle.wire_spec.specs.Roots.{some_one}
 use Rattle.wire_spec.specs.Bus.{holds_line}
 use Rattle.i2c_bits.specs.Wiring.{Rooted}
+use Rattle.bus_lines.specs.Known.{known_on}
 use Rattle.bus_lines.specs.LinesViews.{TargetsView}
 use Rattle.bus_lines.proofs.RiseLemmas.{held_as}
 use Rattle.bus_lines.proofs.root_targets.RootTargets.holds_clock.Goals as goal
@@ -10,5 +11,5 @@ pub returns : goal.returns
 returns c =
     let i = c.self.inside in
     let k : Rooted = record { board = i.board.value; root = i.root } in
-    held_as i.board.value k i.places.items i.pulls.clock i.pulls.data i.address i.live i.started i.at i.bits.items c.self.invariant
+    held_as i.board.value k i.places.items i.pulls.clock i.pulls.data i.address i.live i.started i.at (known_on i.places.items i.bits.items) c.self.invariant.are
     ∙ ap (λ (t : TargetsView). some_one holds_line t.bits) c.self.view_is

@@ -10,10 +10,12 @@ use Rattle.bus_lines.specs.LinesViews.{targets_of}
 use Rattle.bus_lines.specs.Numbers.{NumbersView}
 use Rattle.bus_lines.specs.Opens.{bits_of, chip_bit}
 use Rattle.bus_lines.specs.Away.{kept_device, kept_bits, whole_on}
-use Rattle.bus_lines.specs.Units.{RegisterView, IsIndex}
+use Rattle.bus_lines.specs.Units.{RegisterView, shared, IsIndex}
 use Rattle.bus_lines.proofs.AwayLemmas.{kept_whole, kept_kinds, whole_rejoined}
 use Rattle.bus_lines.proofs.FirstLemmas.{opened_loose}
 use Rattle.bus_lines.proofs.InvariantLemmas.{rejoined_are, seen_as}
+use Rattle.bus_lines.proofs.KeptLemmas.{kept_anew}
+use Rattle.bus_lines.proofs.KnownLemmas.{anew_is_known}
 use Rattle.bus_lines.proofs.root_targets.RootTargets.open.Goals as goal
 
 pub invariant_of-result : goal.invariant_of-result
@@ -31,16 +33,20 @@ invariant_of-result c =
     let slice = c.as_slice.ensures.value in
     let count = ap length slice in
     let len = sym c.as_slice.ensures.len ∙ count in
-    rejoined_are k c.add_device_places.new.places.items (places ∙ ap (λ (x : BoardView). places_of x r) same) c.in_ok-live.live c.in_ok-started.started
+    let ps = c.add_device_places.new.places.items in
+    let anew = c.rejoin-pulls.ensures.targets ∙ ap (λ ps. rejoin_from (joins_by ps (states_on bs)) 0 bs) c.as_slice-2.ensures.value in
+    kept_anew k ps c.rejoin-pulls.result.clock c.rejoin-pulls.result.data c.none.result c.in_ok-live.live c.in_ok-started.started c.in_ok-at.at
+    c.rejoin-pulls.new.targets.items
+    (rejoined_are k ps (places ∙ ap (λ (x : BoardView). places_of x r) same) c.in_ok-live.live c.in_ok-started.started
     c.in_ok-at.at bs (ap (λ xs. map is_chip (states_on xs)) bits ∙ kept_kinds b r ∙ ap kinds_of same) c.none.result
-    (ap (λ (x : RegisterView). x.left) c.none.ensures) c.rejoin-pulls.new.targets.items
-    (c.rejoin-pulls.ensures.targets ∙ ap (λ ps. rejoin_from (joins_by ps (states_on bs)) 0 bs) c.as_slice-2.ensures.value)
+    (ap (λ (x : RegisterView). x.left) c.none.ensures) c.rejoin-pulls.new.targets.items anew
     (opened_loose b r bs c.in_ok-at.at c.in_ok-live.live.items c.in_ok-started.started.items bits
     (λ j x is. c.in_ok-at.ensures.listed j x (ap (λ xs. slice_get xs j) slice ∙ is)))
     (ap (λ (v : NumbersView). v.room) c.in_ok-live.ensures ∙ c.len.ensures ∙ len)
     (ap (λ (v : NumbersView). v.room) c.in_ok-started.ensures ∙ c.len-2.ensures ∙ len)
     (subst (λ n. IsIndex n c.in_ok-at.at) count c.in_ok-at.ensures.index)
-    c.rejoin-pulls.result.clock c.rejoin-pulls.result.data c.rejoin-pulls.ensures.clock c.rejoin-pulls.ensures.data
+    c.rejoin-pulls.result.clock c.rejoin-pulls.result.data c.rejoin-pulls.ensures.clock c.rejoin-pulls.ensures.data)
+    (anew_is_known ps bs c.rejoin-pulls.new.targets.items anew)
 
 pub returns : goal.returns
 returns c =
@@ -56,9 +62,11 @@ returns c =
     let k : Rooted = record { board = c.of-2.result.value; root = r } in
     let ps = c.add_device_places.new.places.items in
     let at_it = places ∙ ap (λ (x : BoardView). places_of x r) same in
-    let view = whole_rejoined k ps at_it bs (ap (λ xs. map is_chip (states_on xs)) bits ∙ kept_kinds b r ∙ ap kinds_of same) c.none.result
-    (ap (λ (x : RegisterView). x.left) c.none.ensures) c.rejoin-pulls.new.targets.items
-    (c.rejoin-pulls.ensures.targets ∙ ap (λ ps. rejoin_from (joins_by ps (states_on bs)) 0 bs) c.as_slice-2.ensures.value)
+    let anew = c.rejoin-pulls.ensures.targets ∙ ap (λ ps. rejoin_from (joins_by ps (states_on bs)) 0 bs) c.as_slice-2.ensures.value in
+    let view = ap (λ xs. map (shared c.none.result.left c.none.result.value) (whole_on c.of-2.result.value ps xs))
+    (anew_is_known ps bs c.rejoin-pulls.new.targets.items anew)
+    ∙ whole_rejoined k ps at_it bs (ap (λ xs. map is_chip (states_on xs)) bits ∙ kept_kinds b r ∙ ap kinds_of same) c.none.result
+    (ap (λ (x : RegisterView). x.left) c.none.ensures) c.rejoin-pulls.new.targets.items anew
     ∙ ap (λ xs. rejoined (mask_of c.of-2.result.value r) xs)
     (ap (λ qs. whole_on c.of-2.result.value qs bs) at_it ∙ ap (whole_on c.of-2.result.value (places_of c.of-2.result.value r)) (bits ∙ ap (λ (x : BoardView). kept_bits x r) same)
     ∙ kept_whole c.of-2.result.value r) in

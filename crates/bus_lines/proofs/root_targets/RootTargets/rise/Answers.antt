@@ -1,16 +1,18 @@
-use Rattle.std.proofs.Common.{◌≡◌, ℕ, ◌<◌, ◌/◌, Some, None, map, sym, ap, ◌∙◌, arith}
+use Rattle.std.proofs.Common.{◌≡◌, ℕ, ◌<◌, ◌/◌, Some, None, [], get_or, map, sym, ap, ◌∙◌, arith}
 use Rattle.wire_spec.specs.Wires.{rise, shifted}
 use Rattle.wire_spec.specs.Roots.{where_joined, some_one}
 use Rattle.wire_spec.specs.Bus.{one_edge, holds_line}
 use Rattle.wire_spec.specs.Sites.{NO_ADDRESS, node_table}
 use Rattle.i2c_bits.specs.Wiring.{Rooted}
 use Rattle.bus_lines.specs.declared.edges.Edge.TheVariants.{Rise}
-use Rattle.bus_lines.specs.Units.{RegisterView}
-use Rattle.bus_lines.specs.LinesViews.{TargetsView}
-use Rattle.bus_lines.proofs.InvariantLemmas.{seen_as, told_are, coming_are, rises_coming, called_are, called_view, none_comes, some_comes, last_comes, more_comes}
 use Rattle.bus_lines.specs.Away.{whole_on}
+use Rattle.bus_lines.specs.Joins.{joins_by, states_on}
+use Rattle.bus_lines.specs.Known.{known_of, known_on}
+use Rattle.bus_lines.specs.LinesViews.{TargetsView}
+use Rattle.bus_lines.specs.Units.{RegisterView, by_number}
 use Rattle.bus_lines.proofs.AwayLemmas.{units_away, whole_edge}
-use Rattle.bus_lines.proofs.ToldLemmas.{is_told, edge_whole}
+use Rattle.bus_lines.proofs.InvariantLemmas.{seen_as, coming_are, rises_coming, called_are, called_view, none_comes, some_comes, last_comes, more_comes}
+use Rattle.bus_lines.proofs.KeptLemmas.{edge_known, edge_kept, edge_seen, fresh_kept, fresh_joined, call_known, call_kept, kept_with}
 use Rattle.bus_lines.proofs.RiseLemmas.{held_as, risen_holds, risen_pulls}
 use Rattle.bus_lines.proofs.root_targets.RootTargets.rise.Goals as goal
 
@@ -27,28 +29,61 @@ invariant_of-self c =
     let e = Rise c.args.level in
     let k : Rooted = record { board = i.board.value; root = i.root } in
     let none = none_comes c.is_coming.result i.address.left c.is_coming.ensures c.if-not-is_coming.true in
-    let told = is_told k i.places.items i.pulls.clock i.pulls.data i.address i.live i.started i.at i.bits.items c.self.invariant e tt none
+    let kept = c.self.invariant in
+    let ps = i.places.items in
+    let bs = known_on ps i.bits.items in
+    let told = edge_known k ps i.pulls.clock i.pulls.data i.address i.live i.started i.at i.bits.items kept e tt none
     _ c.as_slice.ensures.value new c.tell.ensures.targets in
-    let free = held_as i.board.value k i.places.items i.pulls.clock i.pulls.data i.address i.live i.started i.at i.bits.items c.self.invariant
+    let free = held_as i.board.value k ps i.pulls.clock i.pulls.data i.address i.live i.started i.at bs kept.are
     ∙ ap (λ (v : TargetsView). some_one holds_line v.bits) c.self.view_is ∙ c.requires in
-    told_are k i.places.items i.pulls.clock i.pulls.data i.address i.live i.started i.at i.bits.items c.self.invariant e tt none new told
-    i.pulls.clock i.pulls.data
-    (risen_holds c.args.level i.address.left i.address.value i.live.items i.started.items i.at i.places.items i.bits.items new none
-    c.self.invariant.units told i.pulls.clock c.self.invariant.clock free)
-    (risen_pulls c.args.level i.address.left i.address.value i.live.items i.started.items i.at i.places.items i.bits.items new none
-    c.self.invariant.units told i.pulls.data c.self.invariant.data_low)
+    edge_kept k ps i.pulls.clock i.pulls.data i.address i.live i.started i.at i.bits.items kept e tt none
+    _ c.as_slice.ensures.value new c.tell.ensures.targets i.pulls.clock i.pulls.data
+    (risen_holds c.args.level i.address.left i.address.value i.live.items i.started.items i.at ps bs (known_on ps new) none
+    kept.are.units told i.pulls.clock kept.are.clock free)
+    (risen_pulls c.args.level i.address.left i.address.value i.live.items i.started.items i.at ps bs (known_on ps new) none
+    kept.are.units told i.pulls.data kept.are.data_low)
 
 pub returns-then-not-is_coming : goal.returns-then-not-is_coming
 returns-then-not-is_coming c =
     let i = c.self.inside in
     let k : Rooted = record { board = i.board.value; root = i.root } in
     seen_as k
-    (edge_whole k i.places.items i.pulls.clock i.pulls.data i.address i.live i.started i.at i.bits.items c.self.invariant (Rise c.args.level) tt
+    (edge_seen k i.places.items i.pulls.clock i.pulls.data i.address i.live i.started i.at i.bits.items c.self.invariant (Rise c.args.level) tt
     (none_comes c.is_coming.result i.address.left c.is_coming.ensures c.if-not-is_coming.true) _ c.as_slice.ensures.value
     c.tell.new.targets.items c.tell.ensures.targets i.pulls.clock i.pulls.data (invariant_of-self c))
     c.add_edge.ensures
     ∙ ap (λ (v : TargetsView). record v { bits = map (where_joined (λ b. rise node_table b c.args.level)) v.bits; counts = one_edge v.counts })
     c.self.view_is
+
+pub call-requires-clause-index : goal.call-requires-clause-index
+call-requires-clause-index c =
+    let i = c.self.inside in
+    let k : Rooted = record { board = i.board.value; root = i.root } in
+    let kept = fresh_kept k i.places.items i.pulls.clock i.pulls.data i.address i.live i.started i.at i.bits.items c.self.invariant c.at.result.now
+    c.refresh.new.targets.items
+    (c.refresh.ensures
+    ∙ ap (λ qs. by_number (known_of c.at.result.now (joins_by qs (states_on i.bits.items))) 0 i.bits.items) c.as_slice-in-Some.ensures.value) in
+    kept.index
+
+pub call-requires-clause-live : goal.call-requires-clause-live
+call-requires-clause-live c =
+    let i = c.self.inside in
+    let k : Rooted = record { board = i.board.value; root = i.root } in
+    let kept = fresh_kept k i.places.items i.pulls.clock i.pulls.data i.address i.live i.started i.at i.bits.items c.self.invariant c.at.result.now
+    c.refresh.new.targets.items
+    (c.refresh.ensures
+    ∙ ap (λ qs. by_number (known_of c.at.result.now (joins_by qs (states_on i.bits.items))) 0 i.bits.items) c.as_slice-in-Some.ensures.value) in
+    kept.live_room
+
+pub call-requires-clause-started : goal.call-requires-clause-started
+call-requires-clause-started c =
+    let i = c.self.inside in
+    let k : Rooted = record { board = i.board.value; root = i.root } in
+    let kept = fresh_kept k i.places.items i.pulls.clock i.pulls.data i.address i.live i.started i.at i.bits.items c.self.invariant c.at.result.now
+    c.refresh.new.targets.items
+    (c.refresh.ensures
+    ∙ ap (λ qs. by_number (known_of c.at.result.now (joins_by qs (states_on i.bits.items))) 0 i.bits.items) c.as_slice-in-Some.ensures.value) in
+    kept.started_room
 
 pub invariant_of-self-in-Some : goal.invariant_of-self-in-Some
 invariant_of-self-in-Some c =
@@ -60,9 +95,26 @@ invariant_of-self-in-Some c =
     same_some c.in-Some.byte (shifted i.address.value c.args.level) (sym c.in-Some.is ∙ c.take.ensures.last last) in
     let low : c.in-Some.byte / 2 < NO_ADDRESS = omega arith in
     let over : c.take.new.self.left ≡ 0 = ap (λ (r : RegisterView). r.left) c.take.ensures.value ∙ omega (arith, last) in
-    called_are (record { board = i.board.value; root = i.root }) i.places.items i.pulls.clock i.pulls.data i.address i.live i.started i.at i.bits.items
-    c.self.invariant last c.args.level c.in-Some.byte byte low c.take.new.self over c.call.new.live c.call.new.started c.call.new.bits.items
-    c.call.ensures.live c.call.ensures.started c.call.ensures.bits c.call.ensures.live_room c.call.ensures.started_room
+    let k : Rooted = record { board = i.board.value; root = i.root } in
+    let kept = c.self.invariant in
+    let ps = i.places.items in
+    let ns = get_or i.at (c.in-Some.byte / 2) [] in
+    let mid = c.refresh.new.targets.items in
+    let fresh = c.refresh.ensures
+    ∙ ap (λ qs. by_number (known_of c.at.result.now (joins_by qs (states_on i.bits.items))) 0 i.bits.items) c.as_slice-in-Some.ensures.value
+    ∙ ap (λ ms. by_number (known_of ms (joins_by ps (states_on i.bits.items))) 0 i.bits.items) c.at.ensures in
+    let call = c.call in
+    let new = call.new.bits.items in
+    call_kept k ps i.pulls.clock i.pulls.data i.address i.live i.started i.at i.bits.items kept ns mid fresh call.new.live call.new.started
+    call.ensures.live call.ensures.started c.in-Some.byte new call.ensures.bits c.take.new.self
+    (called_are k ps i.pulls.clock i.pulls.data i.address i.live i.started i.at (known_on ps i.bits.items) kept.are last c.args.level c.in-Some.byte byte low
+    c.take.new.self over call.new.live call.new.started (known_on ps new)
+    (fresh_joined k ps i.pulls.clock i.pulls.data i.address i.live i.started i.at i.bits.items kept ns mid fresh i.live.items call.new.live.items call.ensures.live)
+    (fresh_joined k ps i.pulls.clock i.pulls.data i.address i.live i.started i.at i.bits.items kept ns mid fresh i.started.items call.new.started.items call.ensures.started)
+    (call_known k ps i.pulls.clock i.pulls.data i.address i.live i.started i.at i.bits.items kept ns mid fresh call.new.live call.new.started
+    call.ensures.live call.ensures.started c.in-Some.byte new call.ensures.bits)
+    call.ensures.live_room call.ensures.started_room)
+    call.ensures.live_room call.ensures.started_room
 
 pub returns-in-Some : goal.returns-in-Some
 returns-in-Some c =
@@ -74,14 +126,28 @@ returns-in-Some c =
     let byte : c.in-Some.byte ≡ shifted i.address.value c.args.level =
     same_some c.in-Some.byte (shifted i.address.value c.args.level) (sym c.in-Some.is ∙ c.take.ensures.last last) in
     let low : c.in-Some.byte / 2 < NO_ADDRESS = omega arith in
-    let over : c.take.new.self.left ≡ 0 = ap (λ (r : RegisterView). r.left) c.take.ensures.value ∙ omega (arith, last) in
-    let old = units_away i.places.items i.address.left i.live.items i.started.items i.at i.bits.items c.self.invariant.units in
-    let kept = invariant_of-self-in-Some c in
-    let gone = units_away i.places.items c.take.new.self.left c.call.new.live.items c.call.new.started.items i.at c.call.new.bits.items kept.units in
-    let view = whole_edge i.board.value i.places.items (λ b. rise node_table b c.args.level) i.address.left i.address.value c.take.new.self.left
-    c.take.new.self.value i.bits.items c.call.new.bits.items old gone (called_view k i.places.items i.pulls.clock i.pulls.data i.address i.live i.started i.at i.bits.items
-    c.self.invariant last c.args.level c.in-Some.byte byte low c.take.new.self over c.call.new.live c.call.new.started c.call.new.bits.items
-    c.call.ensures.live c.call.ensures.started c.call.ensures.bits) in
+    let now = c.take.new.self in
+    let over : now.left ≡ 0 = ap (λ (r : RegisterView). r.left) c.take.ensures.value ∙ omega (arith, last) in
+    let kept = c.self.invariant in
+    let ps = i.places.items in
+    let bs = known_on ps i.bits.items in
+    let ns = get_or i.at (c.in-Some.byte / 2) [] in
+    let mid = c.refresh.new.targets.items in
+    let fresh = c.refresh.ensures
+    ∙ ap (λ qs. by_number (known_of c.at.result.now (joins_by qs (states_on i.bits.items))) 0 i.bits.items) c.as_slice-in-Some.ensures.value
+    ∙ ap (λ ms. by_number (known_of ms (joins_by ps (states_on i.bits.items))) 0 i.bits.items) c.at.ensures in
+    let call = c.call in
+    let new = call.new.bits.items in
+    let old = units_away ps i.address.left i.live.items i.started.items i.at bs kept.are.units in
+    let then_kept = invariant_of-self-in-Some c in
+    let gone = units_away ps now.left call.new.live.items call.new.started.items i.at (known_on ps new) then_kept.are.units in
+    let view = whole_edge i.board.value ps (λ b. rise node_table b c.args.level) i.address.left i.address.value now.left now.value bs (known_on ps new) old gone
+    (called_view k ps i.pulls.clock i.pulls.data i.address i.live i.started i.at bs kept.are last c.args.level c.in-Some.byte byte low now over
+    call.new.live call.new.started (known_on ps new)
+    (fresh_joined k ps i.pulls.clock i.pulls.data i.address i.live i.started i.at i.bits.items kept ns mid fresh i.live.items call.new.live.items call.ensures.live)
+    (fresh_joined k ps i.pulls.clock i.pulls.data i.address i.live i.started i.at i.bits.items kept ns mid fresh i.started.items call.new.started.items call.ensures.started)
+    (call_known k ps i.pulls.clock i.pulls.data i.address i.live i.started i.at i.bits.items kept ns mid fresh call.new.live call.new.started
+    call.ensures.live call.ensures.started c.in-Some.byte new call.ensures.bits)) in
     seen_as k view c.add_edge.ensures
     ∙ ap (λ (v : TargetsView). record v { bits = map (where_joined (λ b. rise node_table b c.args.level)) v.bits; counts = one_edge v.counts })
     c.self.view_is
@@ -89,10 +155,14 @@ returns-in-Some c =
 pub invariant_of-self-in_default : goal.invariant_of-self-in_default
 invariant_of-self-in_default c =
     let i = c.self.inside in
+    let k : Rooted = record { board = i.board.value; root = i.root } in
     let some = some_comes c.is_coming.result i.address.left c.is_coming.ensures c.if-not-is_coming.false in
     let more = more_comes i.address.left some (λ last. c.in_default.not-Some _ (c.take.ensures.last last)) in
-    coming_are (record { board = i.board.value; root = i.root }) i.places.items i.pulls.clock i.pulls.data i.address i.live i.started i.at i.bits.items
-    c.self.invariant more.0 more.1 c.take.new.self c.args.level c.take.ensures.value
+    let kept = c.self.invariant in
+    let ps = i.places.items in
+    kept_with k ps i.pulls.clock i.pulls.data i.address c.take.new.self i.live i.started i.at i.bits.items kept
+    (coming_are k ps i.pulls.clock i.pulls.data i.address i.live i.started i.at (known_on ps i.bits.items)
+    kept.are more.0 more.1 c.take.new.self c.args.level c.take.ensures.value)
 
 pub returns-in_default : goal.returns-in_default
 returns-in_default c =
@@ -100,8 +170,10 @@ returns-in_default c =
     let k : Rooted = record { board = i.board.value; root = i.root } in
     let some = some_comes c.is_coming.result i.address.left c.is_coming.ensures c.if-not-is_coming.false in
     let more = more_comes i.address.left some (λ last. c.in_default.not-Some _ (c.take.ensures.last last)) in
+    let ps = i.places.items in
     seen_as k
-    (rises_coming more.0 i.address.value c.args.level i.address.left c.take.new.self (whole_on i.board.value i.places.items i.bits.items) more.1 c.take.ensures.value)
+    (rises_coming more.0 i.address.value c.args.level i.address.left c.take.new.self (whole_on i.board.value ps (known_on ps i.bits.items)) more.1
+    c.take.ensures.value)
     c.add_edge.ensures
     ∙ ap (λ (v : TargetsView). record v { bits = map (where_joined (λ b. rise node_table b c.args.level)) v.bits; counts = one_edge v.counts })
     c.self.view_is

@@ -1,12 +1,17 @@
-use Rattle.std.proofs.Common.{List, sym, ap, ◌∙◌}
+use Rattle.std.proofs.Common.{◌≡◌, List, map, sym, ap, ◌∙◌, subst}
 use Rattle.wire_spec.specs.Wires.{Bit}
 use Rattle.wire_spec.specs.Bus.{rejoin_from, rejoined}
 use Rattle.wire_spec.specs.Sites.{NodeState, mask_of}
 use Rattle.i2c_bits.specs.Wiring.{Rooted, levelled_bits}
+use Rattle.bus_lines.specs.Away.{whole_on}
 use Rattle.bus_lines.specs.Joins.{joins_by, states_on}
-use Rattle.bus_lines.specs.LinesViews.{TargetsView, targets_of}
-use Rattle.bus_lines.proofs.InvariantLemmas.{line_count, line_kinds, line_loose, line_seen, line_index, rejoined_are}
+use Rattle.bus_lines.specs.Known.{known_on}
+use Rattle.bus_lines.specs.LinesViews.{AreTargets, TargetsView, targets_of}
+use Rattle.bus_lines.specs.Units.{shared}
 use Rattle.bus_lines.proofs.AwayLemmas.{units_away, whole_line, whole_rejoined}
+use Rattle.bus_lines.proofs.InvariantLemmas.{line_count, line_kinds, line_loose, line_seen, line_index, rejoined_are}
+use Rattle.bus_lines.proofs.KeptLemmas.{kept_anew}
+use Rattle.bus_lines.proofs.KnownLemmas.{anew_is_known}
 use Rattle.bus_lines.proofs.root_targets.RootTargets.set_line.Goals as goal
 
 pub invariant_of-self : goal.invariant_of-self
@@ -16,22 +21,27 @@ invariant_of-self c =
     let k : Rooted = record { board = i.board.value; root = i.root } in
     let j = c.rejoin-self-inside in
     let ps = i.places.items in
+    let all = c.refresh_all.new.targets.items in
+    let known : all ≡ known_on ps i.bits.items = c.refresh_all.ensures ∙ ap (λ qs. known_on qs i.bits.items) c.as_slice.ensures.value in
+    let kept = c.self.invariant in
+    let are = subst (AreTargets k ps i.pulls.clock i.pulls.data i.address i.live i.started i.at) (sym known) kept.are in
     let mid = s.new.bits.items in
     let bs = c.set_level.new.targets.items in
-    let count = line_count k ps i.pulls.clock i.pulls.data i.address i.live i.started i.at i.bits.items c.self.invariant s.new.live s.new.started
+    let anew = j.ensures.targets ∙ ap (λ qs. rejoin_from (joins_by qs (states_on bs)) 0 bs) c.as_slice-2.ensures.value in
+    let kinds = line_kinds k ps i.pulls.clock i.pulls.data i.address i.live i.started i.at all are s.new.live s.new.started
     s.ensures.live s.ensures.started mid bs c.args.mux c.args.level s.ensures.bits c.set_level.ensures in
-    rejoined_are k ps c.self.invariant.places s.new.live s.new.started i.at bs
-    (line_kinds k ps i.pulls.clock i.pulls.data i.address i.live i.started i.at i.bits.items c.self.invariant s.new.live s.new.started
+    let count = line_count k ps i.pulls.clock i.pulls.data i.address i.live i.started i.at all are s.new.live s.new.started
+    s.ensures.live s.ensures.started mid bs c.args.mux c.args.level s.ensures.bits c.set_level.ensures in
+    kept_anew k ps j.result.clock j.result.data s.new.address s.new.live s.new.started i.at j.new.targets.items
+    (rejoined_are k ps kept.are.places s.new.live s.new.started i.at bs kinds s.new.address s.ensures.address j.new.targets.items anew
+    (line_loose k ps i.pulls.clock i.pulls.data i.address i.live i.started i.at all are s.new.live s.new.started
     s.ensures.live s.ensures.started mid bs c.args.mux c.args.level s.ensures.bits c.set_level.ensures)
-    s.new.address s.ensures.address j.new.targets.items
-    (j.ensures.targets ∙ ap (λ qs. rejoin_from (joins_by qs (states_on bs)) 0 bs) c.as_slice.ensures.value)
-    (line_loose k ps i.pulls.clock i.pulls.data i.address i.live i.started i.at i.bits.items c.self.invariant s.new.live s.new.started
+    (s.ensures.live_room ∙ are.live_room ∙ sym count)
+    (s.ensures.started_room ∙ are.started_room ∙ sym count)
+    (line_index k ps i.pulls.clock i.pulls.data i.address i.live i.started i.at all are s.new.live s.new.started
     s.ensures.live s.ensures.started mid bs c.args.mux c.args.level s.ensures.bits c.set_level.ensures)
-    (s.ensures.live_room ∙ c.self.invariant.live_room ∙ sym count)
-    (s.ensures.started_room ∙ c.self.invariant.started_room ∙ sym count)
-    (line_index k ps i.pulls.clock i.pulls.data i.address i.live i.started i.at i.bits.items c.self.invariant s.new.live s.new.started
-    s.ensures.live s.ensures.started mid bs c.args.mux c.args.level s.ensures.bits c.set_level.ensures)
-    j.result.clock j.result.data j.ensures.clock j.ensures.data
+    j.result.clock j.result.data j.ensures.clock j.ensures.data)
+    (anew_is_known ps bs j.new.targets.items anew)
 
 pub returns : goal.returns
 returns c =
@@ -40,18 +50,24 @@ returns c =
     let k : Rooted = record { board = i.board.value; root = i.root } in
     let j = c.rejoin-self-inside in
     let ps = i.places.items in
+    let all = c.refresh_all.new.targets.items in
+    let known : all ≡ known_on ps i.bits.items = c.refresh_all.ensures ∙ ap (λ qs. known_on qs i.bits.items) c.as_slice.ensures.value in
+    let kept = c.self.invariant in
+    let are = subst (AreTargets k ps i.pulls.clock i.pulls.data i.address i.live i.started i.at) (sym known) kept.are in
     let mid = s.new.bits.items in
     let bs = c.set_level.new.targets.items in
-    let old = units_away ps i.address.left i.live.items i.started.items i.at i.bits.items c.self.invariant.units in
-    let view = whole_rejoined k ps c.self.invariant.places bs
-    (line_kinds k ps i.pulls.clock i.pulls.data i.address i.live i.started i.at i.bits.items c.self.invariant s.new.live s.new.started
-    s.ensures.live s.ensures.started mid bs c.args.mux c.args.level s.ensures.bits c.set_level.ensures)
-    s.new.address s.ensures.address j.new.targets.items
-    (j.ensures.targets ∙ ap (λ qs. rejoin_from (joins_by qs (states_on bs)) 0 bs) c.as_slice.ensures.value)
+    let anew = j.ensures.targets ∙ ap (λ qs. rejoin_from (joins_by qs (states_on bs)) 0 bs) c.as_slice-2.ensures.value in
+    let kinds = line_kinds k ps i.pulls.clock i.pulls.data i.address i.live i.started i.at all are s.new.live s.new.started
+    s.ensures.live s.ensures.started mid bs c.args.mux c.args.level s.ensures.bits c.set_level.ensures in
+    let old = units_away ps i.address.left i.live.items i.started.items i.at all are.units in
+    let view = ap (λ xs. map (shared s.new.address.left s.new.address.value) (whole_on i.board.value ps xs)) (anew_is_known ps bs j.new.targets.items anew)
+    ∙ whole_rejoined k ps kept.are.places bs kinds s.new.address s.ensures.address j.new.targets.items anew
     ∙ ap (λ (xs : List (Bit NodeState)). rejoined (mask_of i.board.value i.root) xs)
-    (whole_line i.board.value ps c.args.mux c.args.level i.address.left i.address.value i.bits.items bs old
-    (line_seen k ps i.pulls.clock i.pulls.data i.address i.live i.started i.at i.bits.items c.self.invariant s.new.live s.new.started
-    s.ensures.live s.ensures.started mid bs c.args.mux c.args.level s.ensures.bits c.set_level.ensures)) in
+    (whole_line i.board.value ps c.args.mux c.args.level i.address.left i.address.value all bs old
+    (line_seen k ps i.pulls.clock i.pulls.data i.address i.live i.started i.at all are s.new.live s.new.started
+    s.ensures.live s.ensures.started mid bs c.args.mux c.args.level s.ensures.bits c.set_level.ensures))
+    ∙ ap (λ (xs : List (Bit NodeState)). rejoined (mask_of i.board.value i.root)
+    (levelled_bits c.args.mux c.args.level (map (shared i.address.left i.address.value) (whole_on i.board.value ps xs)))) known in
     ap (λ (xs : List (Bit NodeState)). targets_of k xs i.counter) view
     ∙ ap (λ (v : TargetsView). record v { bits = rejoined (mask_of v.rooted.board v.rooted.root) (levelled_bits c.args.mux c.args.level v.bits) })
     c.self.view_is

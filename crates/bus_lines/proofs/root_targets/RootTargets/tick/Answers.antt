@@ -5,9 +5,10 @@ use Rattle.wire_spec.specs.Sites.{NodeState}
 use Rattle.i2c_bits.specs.Wiring.{Rooted}
 use Rattle.bus_lines.specs.declared.edges.Edge.TheVariants.{Tick}
 use Rattle.bus_lines.specs.Away.{whole_on}
+use Rattle.bus_lines.specs.Known.{known_on}
 use Rattle.bus_lines.specs.LinesViews.{TargetsView, targets_of}
 use Rattle.bus_lines.proofs.InvariantLemmas.{ticks_coming, none_comes, some_comes}
-use Rattle.bus_lines.proofs.ToldLemmas.{edge_are, edge_whole}
+use Rattle.bus_lines.proofs.KeptLemmas.{edge_told, edge_seen}
 use Rattle.bus_lines.proofs.root_targets.RootTargets.tick.Goals as goal
 
 pub invariant_of-self : goal.invariant_of-self
@@ -15,7 +16,7 @@ invariant_of-self c =
     let i = c.self.inside in
     let t = c.tell-self-inside in
     let k : Rooted = record { board = i.board.value; root = i.root } in
-    edge_are k i.places.items i.pulls.clock i.pulls.data i.address i.live i.started i.at i.bits.items c.self.invariant Tick tt
+    edge_told k i.places.items i.pulls.clock i.pulls.data i.address i.live i.started i.at i.bits.items c.self.invariant Tick tt
     (none_comes c.is_coming.result i.address.left c.is_coming.ensures c.if-not-is_coming.true) _ c.as_slice.ensures.value
     t.new.targets.items t.ensures.targets t.result.clock t.result.data t.ensures.clock t.ensures.data
 
@@ -25,7 +26,7 @@ returns-then-not-is_coming c =
     let t = c.tell-self-inside in
     let k : Rooted = record { board = i.board.value; root = i.root } in
     ap (λ (xs : List (Bit NodeState)). targets_of k xs i.counter)
-    (edge_whole k i.places.items i.pulls.clock i.pulls.data i.address i.live i.started i.at i.bits.items c.self.invariant Tick tt
+    (edge_seen k i.places.items i.pulls.clock i.pulls.data i.address i.live i.started i.at i.bits.items c.self.invariant Tick tt
     (none_comes c.is_coming.result i.address.left c.is_coming.ensures c.if-not-is_coming.true) _ c.as_slice.ensures.value
     t.new.targets.items t.ensures.targets t.result.clock t.result.data (invariant_of-self c))
     ∙ ap (λ (v : TargetsView). record v { bits = map (where_joined tick) v.bits }) c.self.view_is
@@ -36,5 +37,6 @@ returns-else-not-is_coming c =
     let k : Rooted = record { board = i.board.value; root = i.root } in
     let some = some_comes c.is_coming.result i.address.left c.is_coming.ensures c.if-not-is_coming.false in
     sym c.self.view_is
-    ∙ ap (λ (xs : List (Bit NodeState)). targets_of k xs i.counter) (ticks_coming i.address.left i.address.value (whole_on i.board.value i.places.items i.bits.items) some)
+    ∙ ap (λ (xs : List (Bit NodeState)). targets_of k xs i.counter)
+    (ticks_coming i.address.left i.address.value (whole_on i.board.value i.places.items (known_on i.places.items i.bits.items)) some)
     ∙ ap (λ (v : TargetsView). record v { bits = map (where_joined tick) v.bits }) c.self.view_is

@@ -1,0 +1,14 @@
+use Rattle.std.proofs.Common.{◌≡◌, length, drop}
+use Rattle.bus_lines.specs.Joins.{joins_by, states_on}
+use Rattle.bus_lines.proofs.KnownLemmas.{read_those}
+use Rattle.bus_lines.proofs.joining.refresh_those.Given as goal
+
+-- what is left to be read comes to what all comes to
+abbrev pub invariant-loop-number : goal.invariant-loop-number
+invariant-loop-number l =
+    let joins = joins_by l.places (states_on l.fn.targets) in
+    record {
+      count : length l.targets ≡ length l.fn.targets;
+      states : states_on l.targets ≡ states_on l.fn.targets;
+      targets : read_those joins (drop l.number-index l.numbers) l.targets ≡ read_those joins l.numbers l.fn.targets;
+    }
