@@ -1,5 +1,5 @@
 -- The lines of entries: where those of some stand in front of those of others, the entries do. The induction goes over the entries.
-use Rattle.std.proofs.Common.{◌≡◌, ℕ, suc, ◌+◌, ◌<◌, ◌==◌, ◌&&◌, Bool, true, false, cond, List, [], ◌∷◌, ◌++◌, length, length-append, append_assoc, All, drop, refl, sym, ◌∙◌, ap, arith}
+use Rattle.std.proofs.Common.{◌≡◌, ℕ, suc, ◌+◌, ◌<◌, ◌≤◌, ◌==◌, ◌&&◌, Bool, true, false, cond, List, [], ◌∷◌, ◌++◌, length, length-append, append_assoc, All, drop, refl, sym, ◌∙◌, ap, arith}
 use Rattle.std.specs.List.{flat_map}
 use Rattle.std.proofs.lemmas.Grind.{flat_map-append}
 use Rattle.std.proofs.lemmas.List.Elements.{All-head, All-tail}
@@ -62,6 +62,15 @@ some-entry (e ∷ es) some = (e, es, refl)
 
 pub lines-append : (xs ys : List Entry) → flat_map ended_line (xs ++ ys) ≡ flat_map ended_line xs ++ flat_map ended_line ys
 lines-append xs ys = flat_map-append ended_line xs ys
+
+-- a text has at least as many bytes as entries
+pub fewer-entries : (es : List Entry) → length es ≤ length (flat_map ended_line es)
+fewer-entries [] = omega arith
+fewer-entries (e ∷ es) =
+    let counted : length (flat_map ended_line (e ∷ es)) ≡ length (entry_line e) + length (10 ∷ flat_map ended_line es) =
+    ap (λ (xs : List ℕ). length xs) (entry-lines e es) ∙ length-append (entry_line e) (10 ∷ flat_map ended_line es) in
+    let more = fewer-entries es in
+    omega (arith, counted, more)
 
 -- THE FIRST STEP, by the lines of its entries
 pub second-line : (e : Entry) (es : List Entry) (text : List ℕ) (count : ℕ) → text ≡ flat_map ended_line (e ∷ es) → count ≡ length (entry_line e) + 1

@@ -1,5 +1,7 @@
 -- A caller that is over by the journal has no next step. No induction.
-use Rattle.std.proofs.Common.{◌≡◌, ℕ, ◌≤◌, List, cond, Option, Some, None, reverse, IsTrue, Bool, refl, sym, ◌∙◌, ap, subst, inl, inr}
+use Rattle.std.specs.Prelude.{IfSome}
+use Rattle.std.proofs.lemmas.Bool.{cases_lt}
+use Rattle.std.proofs.Common.{◌≡◌, ℕ, ◌<◌, ◌≤◌, List, cond, Option, Some, None, reverse, IsTrue, Bool, refl, sym, ◌∙◌, ap, subst, inl, inr}
 use Rattle.i2c_base.specs.declared.reply.Reply.{Reply}
 use Rattle.i2c_base.specs.Transfer.{TransferView}
 use Rattle.i2c_base.specs.Limits.{MOST_CALLERS}
@@ -14,7 +16,7 @@ use Rattle.journal_check.specs.Steps.{asks_on, IsSteady}
 use Rattle.journal_check.specs.Checks.{HasFollowed}
 use Rattle.journal_check.specs.Opens.{IsFirstOpen}
 use Rattle.journal_check.specs.Faults.{IsFirstLeft}
-use Rattle.bus_core.specs.Answers.{IsOverIn, IsStuckIn, WaitsFor}
+use Rattle.bus_core.specs.Answers.{IsLeast, IsOverIn, IsStuckIn, WaitsFor}
 use Rattle.bus_core.specs.declared.steps.StepAnswer.{StepAnswer}
 use Rattle.bus_core.specs.declared.steps.StepAnswer.TheVariants as answer
 use Rattle.bus_core.specs.Kept.{HasTurn}
@@ -58,6 +60,22 @@ pub steady-few : {S : Type 0} (asked : S → List Reply → Option TransferView)
     → ((c : ℕ) → count ≤ c → (rs : List Reply) → asks_on asked o c rs ≡ None) → IsSteady asked o es
     → IsStepwise o.board count (asks_on asked o) (reverse es)
 steady-few asked o es count silent steady = (callers-known o.board MOST_CALLERS count (asks_on asked o) silent (reverse es) steady.stepwise).0
+
+-- where each caller is over, and nobody else asks for anything, none can make a step
+pub none-least : {S : Type 0} (asked : S → List Reply → Option TransferView) (v : CoreState S) (count : ℕ)
+    → ((c : ℕ) → count ≤ c → (rs : List Reply) → asks_on asked v.opening c rs ≡ None) → IsSteady asked v.opening v.journal.entries
+    → ((c : ℕ) → c < count → IsOverIn asked v c) → (tells : Bool) → IsTrue tells → (c : ℕ) → IsLeast asked tells v c → ⊥
+none-least asked v count silent steady over tells tell c least =
+    elim (cases_lt c count) [
+      | inl low ↦ least.can tell (over-stuck asked v c (over c low))
+      | inr high ↦ least.can tell
+          (inr (ap (λ (w : WalkTree). first_act (seen (now_in asked v).slot w))
+          ((callers-known v.opening.board MOST_CALLERS count (asks_on asked v.opening) silent (reverse v.journal.entries) steady.stepwise).1 c high)))
+    ]
+
+pub no-answer : (r : Option ℕ) (P Q : ℕ → Type 0) → IfSome r P → ((c : ℕ) → P c → ⊥) → IfSome r Q
+no-answer None P Q some none = tt
+no-answer (Some c) P Q some none = absurd (none c some)
 
 -- a core that has followed a journal, with what the callers ask for as it was opened
 module _ {S : Type 0} (asked : S → List Reply → Option TransferView) (o : Opening S) (es : List Entry) (v : CoreState S) (f : HasFollowed asked o es v) where

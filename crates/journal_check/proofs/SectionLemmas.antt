@@ -1,6 +1,8 @@
 -- Two texts line by line. The inductions go over the bytes of a line.
 use Rattle.std.proofs.Common.{◌≡◌, ◌⊎◌, ℕ, ◌+◌, ◌<◌, ◌≤◌, Bool, true, false, ◌||◌, List, [], ◌∷◌, ◌++◌, length, length-append, append_assoc, append-nil, drop, take, refl, sym, ◌∙◌, ap, subst, arith, inl, inr}
-use Rattle.std.specs.Prelude.{◌==◌}
+use Rattle.std.specs.Prelude.{◌==◌, codes, IfOk, IfErr, Result, Ok, Err}
+use Rattle.std.specs.Fmt.{decimal}
+use Rattle.std.proofs.lemmas.Fmt.{decimal_digit}
 use Rattle.std.specs.List.{flat_map, list_any}
 use Rattle.std.proofs.lemmas.Bool.{or_parts, eqb-true}
 use Rattle.std.proofs.lemmas.List.{take-append-le, take_all}
@@ -138,6 +140,45 @@ goes-on due old before rest more number beside is =
       few = beside.few;
       goes = λ later f other. beside.goes later f (subst (λ (xs : List ℕ). FirstOther number (lines_of rest) (lines_of (xs ++ later)) f) (sym none) other);
     }
+
+-- A SECTION, its heading first
+module _ (first second old : List ℕ) (n : ℕ) where
+  pub goes-on-then : (mid : List ℕ) (m : ℕ) (new : List ℕ) (k : ℕ) → GoesOn first old n mid m → GoesOn second mid m new k
+      → GoesOn (first ++ second) old n new k
+  goes-on-then mid m new k one two =
+      record {
+        parts = one.parts ∙ ap (λ (xs : List ℕ). first ++ xs) two.parts ∙ sym (append_assoc first second new);
+        few = (let a = one.few in let b = two.few in omega (arith, a, b));
+        goes = λ later f other.
+            subst (λ (xs : List ℕ). FirstOther n (lines_of old) (lines_of xs) f) (sym (append_assoc first second later))
+            (one.goes (second ++ later) f (two.goes later f other));
+      }
+
+  pub otherwise-first : (f : ℕ) → GoesOtherwise first old n f → GoesOtherwise (first ++ second) old n f
+  otherwise-first f one later =
+      subst (λ (xs : List ℕ). FirstOther n (lines_of old) (lines_of xs) f) (sym (append_assoc first second later)) (one (second ++ later))
+
+  pub otherwise-then : (mid : List ℕ) (m f : ℕ) → GoesOn first old n mid m → GoesOtherwise second mid m f → GoesOtherwise (first ++ second) old n f
+  otherwise-then mid m f one two later =
+      subst (λ (xs : List ℕ). FirstOther n (lines_of old) (lines_of xs) f) (sym (append_assoc first second later))
+      (one.goes (second ++ later) f (two later))
+
+-- what follows from what holds of an outcome
+pub ok-under : {X E : Type 0} (r : Result X E) (P Q : X → Type 0) → ((x : X) → P x → Q x) → IfOk r P → IfOk r Q
+ok-under (Ok x) P Q f h = f x h
+ok-under (Err e) P Q f h = tt
+
+pub err-under : {X E : Type 0} (r : Result X E) (P Q : E → Type 0) → ((e : E) → P e → Q e) → IfErr r P → IfErr r Q
+err-under (Ok x) P Q f h = tt
+err-under (Err e) P Q f h = f e h
+
+abbrev pub under : ℕ → List ℕ → List ℕ
+under caller text = codes "caller " ++ (decimal caller ++ (10 ∷ text))
+
+-- the heading of a caller whose number has one digit
+pub heading-is : (caller : ℕ) (text : List ℕ) → caller < 10 → (99 ∷ 97 ∷ 108 ∷ 108 ∷ 101 ∷ 114 ∷ 32 ∷ (48 + caller) ∷ 10 ∷ []) ++ text ≡ under caller text
+heading-is caller text low =
+    ap (λ (ds : List ℕ). codes "caller " ++ (ds ++ (10 ∷ text))) (sym (decimal_digit caller low))
 
 -- LINES TOO MANY
 pub too-many : (text : List ℕ) (n : ℕ) → (length text == 0) ≡ false → FirstOther n (lines_of text) (lines_of []) n

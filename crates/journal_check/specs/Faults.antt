@@ -1,10 +1,15 @@
 -- What a check of a report finds: that it is the report of a legal and complete journal, or the first thing that is wrong with it.
 use Rattle.std.specs.Prelude.{◌≡◌, ℕ, ◌<◌, List, length, reverse, map}
-use Rattle.std.specs.List.{range_with_len}
+use Rattle.std.specs.List.{All, range_with_len}
 use Rattle.i2c_base.specs.declared.entry.Entry.{Entry}
 use Rattle.i2c_base.specs.declared.reply.Reply.{Reply}
 use Rattle.i2c_base.specs.Board.{BoardView}
 use Rattle.i2c_spec.specs.History.{Asks}
+use Rattle.i2c_spec.specs.Plain.{IsPlainBoard}
+use Rattle.i2c_spec.specs.Rules.{MeetsRules}
+use Rattle.bus_laws.specs.Reach.{AsksForMessages, AsksWithinLimits}
+use Rattle.bus_journal.specs.Ranges.{IsEntry}
+use Rattle.bus_journal.specs.Reports.{HasNoJournalLine}
 use Rattle.bus_spec.specs.Legal.{IsLegal, IsComplete}
 use Rattle.bus_spec.specs.Past.{now}
 use Rattle.bus_spec.specs.Report.{report_of, sections, text_of}
@@ -22,6 +27,15 @@ pub record Checked : Type 0 where
   pub callers : ℕ
   pub asks : Asks
   pub printed : ℕ → List Reply → List ℕ
+
+-- it can be: the board is an accepted one, the callers ask for transfers with messages and within the limits, and nobody else asks
+-- for anything; and what a caller prints are whole lines, of which none is `journal`
+pub record CanBeChecked (x : Checked) : Type 0 where
+  pub plain : IsPlainBoard x.board
+  pub rules : MeetsRules x.board
+  pub some : AsksForMessages x.asks
+  pub limits : AsksWithinLimits x.asks
+  pub whole : (c : ℕ) (rs : List Reply) → HasNoJournalLine (x.printed c rs)
 
 -- a text that has the form: its sections, and the lines of its entries
 pub record IsRead (text : List ℕ) : Type 0 where
@@ -63,11 +77,12 @@ IsFaultIn x text (fault.Form n) = FirstOffence InSections 1 (lines_of text) n
 IsFaultIn x text (fault.Entry i) = HasWrongEntry x text i
 IsFaultIn x text (fault.Open c) = HasOpenCaller x text c
 IsFaultIn x text (fault.Text n) = HasOtherText x text n
-IsFaultIn x text fault.Memory = Unit {0}
+IsFaultIn x text fault.Memory = ⊥
 
 -- VERIFIED: the text is the report of a legal and complete journal of so many entries
 pub record IsVerified (x : Checked) (text : List ℕ) (n : ℕ) : Type 0 where
   pub journal : List Entry
+  pub in_range : All IsEntry journal
   pub legal : IsLegalIn x journal
   pub complete : IsComplete x.board x.callers x.asks (reverse journal)
   pub report : text ≡ report_of x.printed x.callers journal

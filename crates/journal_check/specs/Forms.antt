@@ -81,3 +81,8 @@ pub record HasAdded (b : BoardView) (line : List ℕ) (old new : List RootGaps) 
   pub in_range : IsEntry entry
   pub line_is : entry_line entry ≡ line
   pub more : (es : List Entry) → AreGapsOf b es old → AreGapsOf b (es ++ entry ∷ []) new
+
+-- the gaps of each root of a board that the lines of entries tell
+pub record TellsGaps (b : BoardView) (lines : List ℕ) (gaps : List RootGaps) : Type 0 where
+  pub count : length gaps ≡ length b.roots
+  pub told : AreGapsOf b (entries_of lines) gaps

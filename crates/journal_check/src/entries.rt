@@ -1,5 +1,5 @@
 //! The entries of a journal: legal and complete, or what is wrong with them.
-ghost use Rattle.std.specs.Prelude.{◌≡◌, ◌<◌, ◌≤◌, ℕ, List, [], None, true, false, length, IfOk, IfErr, IsTrue};
+ghost use Rattle.std.specs.Prelude.{◌≡◌, ◌<◌, ◌≤◌, ◌^◌, ℕ, List, [], None, true, false, length, IfOk, IfErr, IsTrue};
 ghost use Rattle.i2c_base.specs.Limits.{MOST_CALLERS};
 ghost use Rattle.i2c_base.specs.declared.reply.Reply.{Reply};
 ghost use Rattle.i2c_spec.specs.Plain.{IsPlainBoard};
@@ -29,6 +29,7 @@ pub fn check_entries<'b, P: FailsAsTold, C: Caller>(
 ) -> Result<BusCore<'b, P, C>, CheckFault>
     requires tells { IsTrue P.tells }
     requires lines { AreLines lines.now (entries_of lines.now) }
+    requires short { length lines.now ≤ 2 ^ 28 }
     requires empty { core.journal.entries ≡ [] }
     requires named { (r : ℕ) → P.gaps r ≡ gaps_told core.opening.board (entries_of lines.now) r }
     requires plain { IsPlainBoard core.opening.board }
@@ -40,12 +41,12 @@ pub fn check_entries<'b, P: FailsAsTold, C: Caller>(
     requires has { (c : ℕ) → c < count → has_caller core.opening.scripts c ≡ true }
     requires numbered { (c : ℕ) → has_caller core.opening.scripts c ≡ false → count ≤ c }
     requires silent { (c : ℕ) → count ≤ c → (rs : List Reply) → asks_on C.asked core.opening c rs ≡ None }
-    ensures ok { IfOk result (HasPassed C.asked core.entry.opening count (entries_of lines.now)) }
+    ensures ok { IfOk result (HasPassed C.asked P.tells core.entry.opening count (entries_of lines.now)) }
     ensures wrong { IfErr result (IsWrongIn core.entry.opening.board count (asks_on C.asked core.entry.opening) (entries_of lines.now)) }
 {
     let mut followed = match follow_journal(core, lines, count) {
         Ok(core) => core,
-        Err(entry) => return Err(CheckFault::Entry(entry)),
+        Err(entry) => return Err(CheckFault::Entry(entry as u32)),
     };
     match first_open(&mut followed, count) {
         Some(caller) => Err(CheckFault::Open(caller)),

@@ -106,6 +106,13 @@ impl RootGaps {
         }
     }
 
+    /// The gaps before each call that failed, the first one first.
+    pub fn into_gaps(self) -> Vec<u32>
+        ensures { result.items ≡ self.gaps.items }
+    {
+        self.gaps
+    }
+
     // An entry on this root more.
     fn add(&mut self, entry: &EntryRef<'_>) -> Result<(), NoMemory>
         requires { length entry.now.bytes.now ≤ most_bytes entry.now.head }

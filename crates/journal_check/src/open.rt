@@ -6,7 +6,7 @@ ghost use Rattle.i2c_spec.specs.Rules.{MeetsRules};
 ghost use Rattle.bus_spec.specs.Legal.{IsComplete, IsLegal};
 ghost use Rattle.bus_laws.specs.Reach.{AsksForMessages, AsksWithinLimits};
 ghost use Rattle.bus_core.specs.Answers.{IsOverIn};
-ghost use Rattle.bus_core.specs.State.{has_caller};
+ghost use Rattle.bus_core.specs.State.{AllThrough, has_caller};
 ghost use Rattle.journal_check.specs.Opens.{IsFirstOpen};
 ghost use Rattle.journal_check.specs.Steps.{IsSteady, asks_on};
 
@@ -57,8 +57,13 @@ pub fn first_open<P: Port, C: Caller>(core: &mut BusCore<'_, P, C>, count: u8) -
     ensures legal { IsLegal core.old.opening.board count (asks_on C.asked core.old.opening) (reverse core.old.journal.entries) }
     ensures none { result ≡ None → (core.new ≡ core.old) × IsComplete core.old.opening.board count (asks_on C.asked core.old.opening) (reverse core.old.journal.entries) }
     ensures some { IfSome result (IsFirstOpen C.asked core.old count) }
+    ensures through { result ≡ None → AllThrough C.asked P.tells core.new }
 {
     a_journal_is_legal();
     a_finished_journal_is_complete();
-    least_open(core, count)
+    match least_open(core, count) {
+        Some(caller) => Some(caller),
+        // none can make a step: so each has taken the replies that the journal tells
+        None => core.ready(),
+    }
 }

@@ -1,5 +1,6 @@
 //! The sections of a report beside what callers have printed.
-ghost use Rattle.std.specs.Prelude.{◌≡◌, ◌+◌, ◌^◌, ◌≤◌, [], length, None, IfOk, IfErr, IfSome};
+ghost use Rattle.std.specs.Prelude.{◌≡◌, ◌+◌, ◌^◌, ◌<◌, ◌≤◌, ◌++◌, ◌∷◌, [], codes, length, None, IfOk, IfErr, IfSome};
+ghost use Rattle.std.specs.Fmt.{decimal};
 ghost use Rattle.journal_check.specs.Forms.{lines_of};
 ghost use Rattle.journal_check.specs.Texts.{FirstOther, GoesOn, GoesOtherwise, IsWhole};
 
@@ -33,6 +34,35 @@ pub fn goes_on<'t>(sections: &'t [u8], first: u32, due: &[u8]) -> Result<LinesLe
         number += 1;
     }
     Ok(LinesLeft { rest, number })
+}
+
+/// The sections go on with a caller's, under its number.
+pub fn section_goes_on<'t>(
+    left: LinesLeft<'t>,
+    caller: usize,
+    text: &[u8],
+) -> Result<LinesLeft<'t>, u32>
+    requires short { left.number + length left.rest.now ≤ 1 + 2 ^ 28 }
+    requires digit { caller < 10 }
+    requires whole { IsWhole text.now }
+    ensures ok { IfOk result (λ behind. GoesOn (codes "caller " ++ (decimal caller ++ (10 ∷ text.now))) left.entry.rest.now left.entry.number behind.rest.now behind.number) }
+    ensures other { IfErr result (GoesOtherwise (codes "caller " ++ (decimal caller ++ (10 ∷ text.now))) left.entry.rest.now left.entry.number) }
+{
+    let heading = [
+        b'c',
+        b'a',
+        b'l',
+        b'l',
+        b'e',
+        b'r',
+        b' ',
+        b'0' + caller as u8,
+        b'\n',
+    ];
+    match goes_on(left.rest, left.number, &heading) {
+        Ok(under) => goes_on(under.rest, under.number, text),
+        Err(line) => Err(line),
+    }
 }
 
 /// The first line that is there too many, where no more are due.

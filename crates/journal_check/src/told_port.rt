@@ -5,9 +5,12 @@ ghost use Rattle.i2c_base.specs.Phases.{MayStart, MayPut, MayGet, MayStop, MayLi
 ghost use Rattle.i2c_physics.specs.SimPorts.{opening_port};
 ghost use Rattle.i2c_physics.specs.FailPorts.{failed_calls_in};
 ghost use Rattle.check_laws.specs.Failed.{fails_by};
-ghost use Rattle.journal_check.specs.Ports.{still};
+ghost use Rattle.journal_check.specs.Gaps.{gaps_by};
+ghost use Rattle.journal_check.specs.Forms.{TellsGaps};
+ghost use Rattle.journal_check.specs.Ports.{AreOpeningPorts, still};
 
-use i2c_base::{Addr, Answer, MuxId, SegId};
+use crate::gaps::RootGaps;
+use i2c_base::{Addr, Answer, MuxId, NoMemory, SegId};
 use i2c_board::Accepted;
 use i2c_physics::SimPort;
 use ports::{Failed, Port};
@@ -119,6 +122,27 @@ impl<N: Telling> ToldPort<N> {
             of: PhantomData,
         })
     }
+}
+
+/// The ports of all roots, each by its number, of which those calls fail that the lines of entries tell.
+pub fn told_ports<N: Telling>(
+    alloc: Global,
+    board: &Accepted,
+    lines: &[u8],
+    gaps: Vec<RootGaps>,
+) -> Result<Vec<(SegId, ToldPort<N>)>, NoMemory>
+    requires told { TellsGaps board.now lines.now gaps.items }
+    requires named { (r : ℕ) → N.gaps r ≡ gaps_by board.now lines.now r }
+    ensures { IfOk result (λ ports. AreOpeningPorts board.now ports.items) }
+{
+    board.board().roots();
+    let mut ports = Vec::new(alloc);
+    for root in gaps {
+        let number = SegId(ports.len() as u16);
+        let port = ToldPort::open(alloc, board, number, root.into_gaps())?;
+        ports.push((number, port))?;
+    }
+    Ok(ports)
 }
 
 impl<N: Telling + Send> FailsAsTold for ToldPort<N> {

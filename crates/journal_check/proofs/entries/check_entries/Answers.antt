@@ -1,12 +1,15 @@
-use Rattle.std.proofs.Common.{◌≡◌, ℕ, ◌<◌, ◌≤◌, List, true, None, reverse, sym, subst}
+use Rattle.std.proofs.Common.{◌≡◌, ℕ, ◌<◌, ◌≤◌, List, true, None, length, reverse, sym, ap, subst, arith}
+use Rattle.std.specs.List.{flat_map}
+use Rattle.bus_spec.specs.Report.{ended_line}
 use Rattle.i2c_base.specs.declared.reply.Reply.{Reply}
 use Rattle.bus_laws.specs.Reach.{AsksForMessages, AsksWithinLimits}
 use Rattle.bus_spec.specs.Legal.{IsLegal, IsComplete}
 use Rattle.bus_journal.specs.Told.{entries_of}
-use Rattle.bus_core.specs.State.{CoreState, has_caller}
+use Rattle.bus_core.specs.State.{AllThrough, CoreState, has_caller}
 use Rattle.journal_check.specs.Checks.{HasPassed}
 use Rattle.journal_check.specs.Faults.{AtEntry, AtCaller}
 use Rattle.journal_check.specs.Steps.{asks_on}
+use Rattle.journal_check.proofs.LineLemmas.{fewer-entries}
 use Rattle.journal_check.proofs.OverLemmas.{on-opening, from-there, first-left}
 use Rattle.journal_check.proofs.entries.check_entries.Goals as goal
 
@@ -44,11 +47,23 @@ returns-in-Some-clause-wrong g c =
 pub returns-clause-ok : goal.returns-clause-ok
 returns-clause-ok g c =
     let none = c.first_open.ensures.none c.in-None.is in
-    subst (λ (v : CoreState g.row.C-Script.Denot). HasPassed g.C.Caller.asked c.args.core.opening c.args.count (entries_of c.args.lines.now) v) (sym none.0)
+    subst (λ (v : CoreState g.row.C-Script.Denot). HasPassed g.C.Caller.asked g.P.Port.tells c.args.core.opening c.args.count (entries_of c.args.lines.now) v)
+    (sym none.0)
     (record {
       followed = c.in-Ok.ensures.ok;
       legal = from-there g.C.Caller.asked c.args.core.opening (entries_of c.args.lines.now) c.in-Ok.core c.in-Ok.ensures.ok
           (λ x xs. IsLegal x.board c.args.count (asks_on g.C.Caller.asked x) (reverse xs)) c.first_open.ensures.legal;
       complete = from-there g.C.Caller.asked c.args.core.opening (entries_of c.args.lines.now) c.in-Ok.core c.in-Ok.ensures.ok
           (λ x xs. IsComplete x.board c.args.count (asks_on g.C.Caller.asked x) (reverse xs)) none.1;
+      through = subst (λ (v : CoreState g.row.C-Script.Denot). AllThrough g.C.Caller.asked g.P.Port.tells v) none.0
+          (c.first_open.ensures.through c.in-None.is);
     })
+
+pub overflow_cast-result : goal.overflow_cast-result
+overflow_cast-result g c =
+    let there : c.in-Err.entry < length (entries_of c.args.lines.now) = c.in-Err.ensures.wrong.ends.there in
+    let fewer = fewer-entries (entries_of c.args.lines.now) in
+    let lines : length c.args.lines.now ≡ length (flat_map ended_line (entries_of c.args.lines.now)) =
+    ap (λ (xs : List ℕ). length xs) c.requires.lines.lines in
+    let short = c.requires.short in
+    omega (arith, there, fewer, lines, short)
