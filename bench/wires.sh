@@ -1,7 +1,8 @@
 #!/usr/bin/env bash
-# How many instructions the proved program takes, which drives two wires bit by bit, as a multiple of those of the same program
-# over the rig of bytes: for 1,000 register reads on a root, for 1,000 behind a mux, for eight callers with 1,000 each on a root of
-# eight devices, and for 1,000 on a root of 112 devices. The multiple should be at most 2.5 in each. It prints the memory of both too.
+# How many instructions the proved program takes, which drives two wires, as a multiple of those of the same program over the rig of
+# bytes: for register reads on a root, behind a mux, behind 32 muxes by turns, of eight callers, and on a root of 112 devices; for
+# blocks of an EEPROM and of an SMBus device, dumps, an `at24 read`, `sensors`, a scan of each bus of a tree, and `gen`. The
+# multiple should be at most 1.5 in each. It prints the memory of both too.
 #
 #     bench/wires.sh [PROGRAM [OTHER]]
 #
@@ -18,7 +19,7 @@ if [ ! -f "$bytes" ] || [ ! -x "$bytes" ]; then
 fi
 command -v valgrind >/dev/null || { echo 'there is no valgrind, which counts the instructions' >&2; exit 1; }
 
-MOST=2.5 # so many times the instructions of the rig of bytes
+MOST=1.5 # so many times the instructions of the rig of bytes
 
 # A root with register devices at these addresses.
 write_devices() {
@@ -69,4 +70,63 @@ for ((k = 0x08; k < 0x78; k++)); do addresses+=("$(printf '0x%02x' "$k")"); done
 write_devices "${addresses[@]}" >"$folder/board.many"
 "$bytes" replay "$folder/board.many" "$folder/schedule" "$folder/script0" >"$folder/due" || exit 1
 compare '1,000 reads, 112 devices' replay "$folder/board.many" "$folder/schedule" "$folder/script0"
+
+# Measures the lines of a script, so many times over, on the board of this name, over both programs.
+compare_lines() {
+  local what=$1 board=$2 times=$3
+  shift 3
+  for ((k = 0; k < times; k++)); do printf '%s\n' "$@"; done >"$folder/lines"
+  "$bytes" replay "$folder/board.$board" "$folder/schedule" "$folder/lines" >"$folder/due" || exit 1
+  compare "$what" replay "$folder/board.$board" "$folder/schedule" "$folder/lines"
+}
+
+# A device of this kind at an address of a bus, with more lines of its table.
+write_device() {
+  printf '%s\n' '[[device]]' "bus = $1" "kind = \"$2\"" "address = $3" "${@:4}"
+}
+
+write_mux() {
+  printf '%s\n' '[[mux]]' "bus = $1" 'kind = "pca9548"' "address = $2"
+}
+
+{
+  printf '%s\n' 'version = 1' '[[root]]'
+  for ((k = 0; k < 32; k++)); do write_mux 0 "$((0x40 + k))"; done
+  for ((k = 0; k < 32; k++)); do write_device "$((1 + 8 * k))" regs 0x20 'set = [[5, 0x7e]]'; done
+} >"$folder/board.muxes"
+lines=()
+for ((k = 0; k < 32; k++)); do lines+=("i2cget -y $((1 + 8 * k)) 0x20 5"); done
+compare_lines '992 reads, 32 muxes by turns' muxes 31 "${lines[@]}"
+
+{
+  printf '%s\n' 'version = 1' '[[root]]'
+  write_device 0 24c02 0x50 'set = [[0, 1, 2, 3]]'
+  write_device 0 smbus 0x21 'width = 0' 'set = [[0, 32]]'
+  write_device 0 regs 0x20 'set = [[5, 0x7e]]'
+  write_device 0 24c256 0x51 'bound = true'
+} >"$folder/board.blocks"
+compare_lines '1,000 blocks of an EEPROM' blocks 1000 'i2cget -y 0 0x50 0 i 32'
+compare_lines '1,000 SMBus blocks with PEC' blocks 1000 'i2cget -y 0 0x21 0 sp'
+compare_lines '61 dumps of 256 words' blocks 61 'i2cdump -y 0 0x20 w'
+compare_lines 'at24 read of 32 KiB' blocks 1 'at24 read 0 0x51 0 32768'
+
+{
+  printf '%s\n' 'version = 1' '[[root]]'
+  for ((k = 0; k < 64; k++)); do write_device 0 lm75 "$((8 + k))" 'bound = true' 'raw = 0x1900'; done
+} >"$folder/board.sensors"
+compare_lines '100 times sensors, 64 of them' sensors 100 sensors
+
+{
+  printf '%s\n' 'version = 1' '[[root]]'
+  write_mux 0 0x70
+  write_mux 1 0x71
+  write_mux 2 0x72
+  write_device 9 regs 0x20
+} >"$folder/board.tree"
+lines=()
+for ((k = 0; k < 25; k++)); do lines+=("i2cdetect -y $k"); done
+compare_lines 'a scan of 25 buses of a tree' tree 1 "${lines[@]}"
+
+"$bytes" gen 1 8 1000 >"$folder/due" || exit 1
+compare 'gen 1 8 1000' gen 1 8 1000
 echo "wanted: a multiple of at most $MOST in each"
