@@ -1,11 +1,12 @@
 //! A call of the top with the words of the command line, over the real files and output.
 ghost use Rattle.std.specs.Prelude.{◌≡◌, ◌⊎◌, ℕ, List, Some, map, string_bytes, IfOk, IsTrue, OnErr};
 ghost use Rattle.i2c_gen.specs.declared.plan.Plan.{Plan};
-ghost use Rattle.i2c_top.specs.forms.{Replay, Check, Generate, Clear, request_in, HasEnded};
+ghost use Rattle.i2c_top.specs.forms.{Replay, Check, Generate, Verify, Clear, request_in, HasEnded};
 ghost use Rattle.i2c_top.specs.forms.Checks.{HasChecked};
 ghost use Rattle.i2c_top.specs.forms.Clears.{HasCleared};
 ghost use Rattle.i2c_top.specs.forms.Generations.{HasGenerated};
 ghost use Rattle.i2c_top.specs.forms.Replays.{Names, HasReplayed};
+ghost use Rattle.i2c_top.specs.forms.Verifies.{VerifyNames, HasVerified};
 ghost use Rattle.i2c_top.specs.declared.forms.clear.ClearAt.{ClearAt};
 ghost use Rattle.i2c_top.specs.declared.status.Status.TheVariants as status;
 ghost use Rattle.i2c_top.specs.Traces.{outside, rig_view};
@@ -43,6 +44,9 @@ fn run<H: Threads + Wait + Sync, S: Shelf, K: Sink, R: Rig>(
     ensures generated { IsTrue K.tells → IsTrue R.tells → IsTrue R.P.tells
         → (plan : Plan) → request_in (map string_bytes words.now) ≡ Some (Generate plan) → result ≡ status.Ok
         → HasGenerated plan (K.bytes sink.old) (K.bytes sink.new) (R.logs rig.new) (R.states rig.new) (R.port_faults rig.new) }
+    ensures verified { IsTrue S.tells → IsTrue K.tells
+        → (names : VerifyNames) → request_in (map string_bytes words.now) ≡ Some (Verify names) → result ≡ status.Ok
+        → HasVerified (S.file shelf.old) names (K.bytes sink.old) (K.bytes sink.new) }
     ensures cleared { IsTrue S.tells → IsTrue K.tells
         → (board : List ℕ) (at : ClearAt) → request_in (map string_bytes words.now) ≡ Some (Clear board at) → result ≡ status.Ok
         → HasCleared (S.file shelf.old) board at (K.bytes sink.old) (K.bytes sink.new) }

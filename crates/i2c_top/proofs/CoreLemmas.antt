@@ -88,7 +88,7 @@ number-here m [] i low = absurd (omega (arith, low))
 number-here m (x ∷ xs) zero low = ap (λ (k : ℕ). Some k) (omega (arith))
 number-here m (x ∷ xs) (suc i) low = number-here (m + 1) xs i (omega (arith, low)) ∙ ap (λ (k : ℕ). Some k) (omega (arith))
 
-all-at : {X : Type 0} (P : X → Type 0) (xs : List X) (i : ℕ) (x : X) → All P xs → slice_get xs i ≡ Some x → P x
+pub all-at : {X : Type 0} (P : X → Type 0) (xs : List X) (i : ℕ) (x : X) → All P xs → slice_get xs i ≡ Some x → P x
 all-at P xs i x all here = subst P (get_or_from_slice_get xs i x x here) (All-get_or P xs i x (slice_get_within xs i x here) all)
 
 pub twice : {X Y Z : Type 0} (f : Y → Z) (g : X → Y) (xs : List X) → map f (map g xs) ≡ map (λ x. f (g x)) xs
@@ -99,6 +99,10 @@ twice {X} {Y} {Z} f g (x ∷ xs) = ap (λ (zs : List Z). f (g x) ∷ zs) (twice 
 alone : {X Y : Type 0} (f : X → Y) (n : ℕ) (xs : List X) → map (λ (x : ℕ × X). f x.1) (enumerate_from n xs) ≡ map f xs
 alone f n [] = refl
 alone {X} {Y} f n (x ∷ xs) = ap (λ (ys : List Y). f x ∷ ys) (alone f (n + 1) xs)
+
+pub firsts : {X : Type 0} (n : ℕ) (xs : List X) → map (λ (x : ℕ × X). x.1) (enumerate_from n xs) ≡ xs
+firsts n [] = refl
+firsts {X} n (x ∷ xs) = ap (λ (ys : List X). x ∷ ys) (firsts (n + 1) xs)
 
 -- what opened scripts have left is what they cost
 costs : (b : BoardView) (scripts : List CallerView) (n : ℕ) → AreOpened b scripts
@@ -278,7 +282,7 @@ module _ {P : Type 0} (g : PortGhosts P) (b : BoardView) (x : Parts P CallerView
       (map_at (λ (t : Seat CallerView). t.caller) seats i s here)
 
   -- they ask for what their texts ask for
-  asks-same : asks ≡ asks_by b (texts_of (callers_of x))
+  pub asks-same : asks ≡ asks_by b (texts_of (callers_of x))
   asks-same = same_asks asks (asks_by b (texts_of (callers_of x))) (λ c rs. by c rs (cases_lt c (length seats)))
     where
       by : (c : ℕ) (rs : List Reply) → (c < length seats) ⊎ (length seats ≤ c) → asks c rs ≡ asks_by b (texts_of (callers_of x)) c rs
@@ -301,13 +305,13 @@ module _ {P : Type 0} (g : PortGhosts P) (b : BoardView) (x : Parts P CallerView
           ∙ ap (λ (o : Option (List ℕ)). option_map_or (λ text. asked_by (script_on b text) rs) o None)
           (sym (slice_get_past (texts_of (callers_of x)) c (omega (arith, count, above))))
 
-  own-at : (c : ℕ) (s : CallerView) → slice_get (callers_of x) c ≡ Some s → s.script ≡ script_on b s.script.text
+  pub own-at : (c : ℕ) (s : CallerView) → slice_get (callers_of x) c ≡ Some s → s.script ≡ script_on b s.script.text
   own-at c s here =
       let y = map_from (λ (t : Seat CallerView). t.caller) seats c s here in
       subst (λ (t : CallerView). t.script ≡ script_on b t.script.text) y.2 (own-script c y.0 y.1)
 
   -- a caller that is through
-  through-at : (v : CoreState ScriptView) → AllThrough asked_by g.tells (left v) → (c : ℕ) (s : CallerView)
+  pub through-at : (v : CoreState ScriptView) → AllThrough asked_by g.tells (left v) → (c : ℕ) (s : CallerView)
       → slice_get (callers_of x) c ≡ Some s
       → (asked_by (script_on b s.script.text) s.taken ≡ None) × IsThrough asked_by g.tells (left v) c s.taken
   through-at v through c s here =

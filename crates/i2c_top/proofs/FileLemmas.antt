@@ -110,13 +110,13 @@ pub one_more : {X : Type 0} (xs xs_now : List X) (x : X) (n : ℕ) → xs_now �
 one_more xs xs_now x n pushed count = ap length pushed ∙ length-append xs (x ∷ []) ∙ ap (λ k. k + 1) count
 
 -- the texts of files that are the same
-same_texts : (file file_now : Files) → ((n : List ℕ) → file_now n ≡ file n) → (names : List (List ℕ))
+pub same_texts : (file file_now : Files) → ((n : List ℕ) → file_now n ≡ file n) → (names : List (List ℕ))
     → texts_in file_now names ≡ texts_in file names
 same_texts file file_now same [] = refl
 same_texts file file_now same (n ∷ ns) =
     ap (λ o. unwrap_or o [] ∷ texts_in file_now ns) (same n) ∙ ap (λ xs. bytes_in file n ∷ xs) (same_texts file file_now same ns)
 
-same_scripts : (file file_now : Files) → ((n : List ℕ) → file_now n ≡ file n) → (b : BoardView) (names : List (List ℕ)) (n : ℕ)
+pub same_scripts : (file file_now : Files) → ((n : List ℕ) → file_now n ≡ file n) → (b : BoardView) (names : List (List ℕ)) (n : ℕ)
     → HasScripts file_now b names n → HasScripts file b names n
 same_scripts file file_now same b names n has c below =
     let h = has c below in record { text = h.text; there = sym (same (script_name names c)) ∙ h.there; read = h.read }
@@ -218,7 +218,7 @@ passed_on (Ok v) x P h p = tt
 passed_on (Err y) x P h p = subst P (sym h) p
 
 -- a bad script of a file that is the same
-same_bad : (file file_now : Files) (b : BoardView) (name : List ℕ) (line word : ℕ) → ((n : List ℕ) → file_now n ≡ file n)
+pub same_bad : (file file_now : Files) (b : BoardView) (name : List ℕ) (line word : ℕ) → ((n : List ℕ) → file_now n ≡ file n)
     → HasBadScript file_now b name line word → HasBadScript file b name line word
 same_bad file file_now b name line word same bad = record { text = bad.text; there = sym (same name) ∙ bad.there; read = bad.read }
 
@@ -300,7 +300,7 @@ scripts_refusal tells file file_now b names reads reads_mid reads_now s same kep
         ))
 
 -- scripts in the grammar over a board are so over the board of the file
-scripts_on : (file : Files) (b : BoardView) (names : Names) (board : IsAcceptedIn file names.board b)
+pub scripts_on : (file : Files) (b : BoardView) (names : Names) (board : IsAcceptedIn file names.board b)
     → HasScripts file b names.scripts (length names.scripts)
     → HasScripts file board.has.board names.scripts (length names.scripts)
 scripts_on file b names board scripts = subst (λ k. HasScripts file k names.scripts (length names.scripts)) board.same scripts

@@ -72,7 +72,7 @@ one_order file (Some name) callers word word_now b n = one_word file name caller
 one_cost : (file : Files) (names : Names) (a b : HasTexts file names) → cost_in file names a.board.board ≡ cost_in file names b.board.board
 one_cost file names a b = ap (cost_in file names) (one_board_in file names.board a.board b.board)
 
-not_dear : (m a b : ℕ) → a ≤ m → m < b → a ≡ b → ⊥
+pub not_dear : (m a b : ℕ) → a ≤ m → m < b → a ≡ b → ⊥
 not_dear m a b low high same = absurd (omega arith)
 
 -- the five statuses that files decide, where all scripts are in the grammar and where they aren't
@@ -81,13 +81,13 @@ record DecideBoard (file : Files) (names : Names) (s : Status) : Type 0 where
   same : s ≡ status.Board why
   board : HasRejected file names.board why
 
-record DecideScript (file : Files) (names : Names) (s : Status) : Type 0 where
-  caller : ℕ
-  line : ℕ
-  word : ℕ
-  same : s ≡ status.Script caller line word
-  earlier : HasScriptsBefore file names caller
-  script : HasBadScript file earlier.board.board (script_name names.scripts caller) line word
+pub record DecideScript (file : Files) (names : Names) (s : Status) : Type 0 where
+  pub caller : ℕ
+  pub line : ℕ
+  pub word : ℕ
+  pub same : s ≡ status.Script caller line word
+  pub earlier : HasScriptsBefore file names caller
+  pub script : HasBadScript file earlier.board.board (script_name names.scripts caller) line word
 
 record DecideSchedule (file : Files) (names : Names) (s : Status) : Type 0 where
   word : ℕ
@@ -159,7 +159,7 @@ bad_on : (file : Files) (names : Names) (caller line word : ℕ) (a b : HasAccep
 bad_on file names caller line word a b bad = subst (λ k. HasBadScript file k (script_name names.scripts caller) line word)
     (one_board_in file names.board a b) bad
 
-agree_script : (file : Files) (names : Names) (s r : Status) → DecideScript file names s → DecideScript file names r → r ≡ s
+pub agree_script : (file : Files) (names : Names) (s r : Status) → DecideScript file names s → DecideScript file names r → r ≡ s
 agree_script file names s r a b =
     let board = a.earlier.board in
     let good = subst (λ k. HasScripts file k names.scripts b.caller)
@@ -168,7 +168,7 @@ agree_script file names s r a b =
     b.same ∙ one_script file board.board names.scripts a.caller b.caller a.line a.word b.line b.word a.earlier.before a.script good bad
     (cases_order a.caller b.caller) ∙ sym a.same
 
-all_earlier : (file : Files) (names : Names) (caller line word : ℕ) (board : HasAccepted file names.board)
+pub all_earlier : (file : Files) (names : Names) (caller line word : ℕ) (board : HasAccepted file names.board)
     → HasScripts file board.board names.scripts (length names.scripts)
     → (earlier : HasScriptsBefore file names caller) → HasBadScript file earlier.board.board (script_name names.scripts caller) line word
     → ⊥

@@ -180,7 +180,7 @@ module _ (b : BoardView) (callers : List CallerView) (many : ℕ) (journal : Lis
       ∙ ap (λ o. Some (option_map_or (λ text. section_text (commands_of (script_on b text)) (replies past c)) o []))
       (sym (text_at c s.0 s.1))
 
-  sections_are : map section_of callers ≡ map (text_of (printed_by b texts) journal) (range_with_len 0 count)
+  pub sections_are : map section_of callers ≡ map (text_of (printed_by b texts) journal) (range_with_len 0 count)
   sections_are =
       listed (text_of (printed_by b texts) journal) (map section_of callers) count
       (length-map callers section_of ∙ sym (length-map callers (λ (s : CallerView). s.script.text))) section_at

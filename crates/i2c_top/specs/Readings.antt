@@ -8,6 +8,7 @@ use Rattle.caller_core.specs.View.{CallerView}
 use Rattle.i2c_top.specs.Scripts.{script_name, HasScript, HasBadScript, HasScripts, HasSchedule, HasBadSchedule, HasOrder, words_in, texts_in}
 use Rattle.i2c_top.specs.Traces.{IsUnread}
 use Rattle.i2c_top.specs.forms.Replays.{Names, IsPlaceIn, IsScheduleAt, IsReadInTurn, IsReplayCause}
+use Rattle.i2c_top.specs.forms.Verifies.{VerifyNames}
 use Rattle.i2c_top.specs.Runs.{AreOpened, texts_of, MOST_COST}
 use Rattle.i2c_top.specs.declared.status.BoardRefusal.{BoardRefusal}
 use Rattle.i2c_top.specs.declared.status.Status.{Status}
@@ -54,6 +55,13 @@ pub record HasRead (file : Files) (names : Names) (board : BoardView) (texts : L
   pub scripts : HasScripts file board names.scripts (length names.scripts)
   pub texts_are : texts ≡ texts_in file names.scripts
   pub order_in : IsOrderIn file names.schedule (length names.scripts) words
+
+-- .. of a journal, with the bytes of its file
+pub record HasReadJournal (file : Files) (names : VerifyNames) (board : BoardView) (texts : List (List ℕ)) (text : List ℕ) : Type 0 where
+  pub board_in : IsAcceptedIn file names.board board
+  pub scripts : HasScripts file board names.scripts (length names.scripts)
+  pub texts_are : texts ≡ texts_in file names.scripts
+  pub there : file names.journal ≡ Some text
 
 -- the file at this place was not read, or there was no memory, or what was read was bad
 abbrev pub IsRefusedAt : ℕ → (Status → Type 0) → ℕ → ℕ → Status → Type 0

@@ -8,6 +8,8 @@ use Rattle.i2c_boardtext.specs.declared.fault.BoardFault.{BoardFault}
 use Rattle.i2c_boardtext.specs.declared.fault.BoardFault.TheVariants as fault
 use Rattle.i2c_boardtext.specs.declared.fault.TableName.{TableName}
 use Rattle.i2c_boardtext.specs.declared.fault.TableName.TheVariants as table
+use Rattle.journal_check.specs.declared.fault.CheckFault.{CheckFault}
+use Rattle.journal_check.specs.declared.fault.CheckFault.TheVariants as verdict
 use Rattle.i2c_top.specs.declared.status.BoardRefusal.{BoardRefusal}
 use Rattle.i2c_top.specs.declared.status.BoardRefusal.TheVariants as refusal
 use Rattle.i2c_top.specs.declared.status.Status.{Status}
@@ -35,6 +37,7 @@ class_of status.Write = Silent
 class_of status.Memory = Silent
 class_of status.Rig = NoRig
 class_of (status.Schedule word) = Refused
+class_of (status.Verify fault) = Refused
 class_of (status.NoRoot bus) = Refused
 
 abbrev pub code_of : Status → ℕ
@@ -48,6 +51,7 @@ code_of status.Write = 6
 code_of status.Memory = 7
 code_of status.Rig = 8
 code_of (status.Schedule word) = 9
+code_of (status.Verify fault) = 10
 code_of (status.NoRoot bus) = 12
 
 -- whose table a fault is in, or which tables are too few or too many
@@ -86,6 +90,14 @@ abbrev pub board_text : BoardRefusal → List ℕ
 board_text (refusal.Fault f) = fault_text f
 board_text (refusal.Rule r) = broken_text r
 
+-- what is wrong with a journal's file, and where; want of memory is told by a status of its own
+abbrev pub verdict_text : CheckFault → List ℕ
+verdict_text (verdict.Form line) = codes "line " ++ (decimal line ++ codes "\n")
+verdict_text (verdict.Entry entry) = codes "entry " ++ (decimal entry ++ codes "\n")
+verdict_text (verdict.Open caller) = codes "caller " ++ (decimal caller ++ codes "\n")
+verdict_text (verdict.Text line) = codes "text line " ++ (decimal line ++ codes "\n")
+verdict_text verdict.Memory = []
+
 abbrev pub unread_text : List ℕ → List ℕ
 unread_text name = codes "cannot read " ++ (name ++ codes "\n")
 
@@ -103,4 +115,5 @@ refusal_text status.Write name = []
 refusal_text status.Memory name = []
 refusal_text status.Rig name = codes "cannot plug the rig\n"
 refusal_text (status.Schedule word) name = codes "schedule word " ++ (decimal word ++ codes "\n")
+refusal_text (status.Verify fault) name = codes "not verified: " ++ verdict_text fault
 refusal_text (status.NoRoot bus) name = codes "no root bus " ++ (decimal bus ++ codes "\n")

@@ -55,8 +55,27 @@ fn by_number(alloc: Global, scripts: Vec<Script>) -> Result<Vec<(u8, Script)>, N
     Ok(by_number)
 }
 
-// A core of the scripts and the ports, each by its number, which has made no step.
-fn opened<'b, P: Port>(
+/// A core of the scripts, each by its number, and of the ports of all roots by theirs, which has made no step.
+pub fn opened<'b, P: Port>(
+    alloc: Global,
+    board: &'b Accepted,
+    scripts: Vec<Script>,
+    ports: Vec<(SegId, P)>,
+) -> Result<BusCore<'b, P, Script>, NoMemory>
+    requires may { MayRun P.Port board.now scripts.items (map (λ p. p.1) ports.items) }
+    requires numbered { ports.items ≡ enumerate_from 0 (map (λ p. p.1) ports.items) }
+    ensures of { IfOk result (IsCoreOf board.now scripts.items (map (λ p. p.1) ports.items)) }
+    ensures entries { IfOk result (λ core. core.journal.entries ≡ []) }
+{
+    scripts_are_fair();
+    board.board().roots();
+    let limit = cost_of(board, scripts.as_slice()) as u32;
+    let callers = by_number(alloc, scripts)?;
+    BusCore::open(alloc, board, ports, callers, limit)
+}
+
+// The same over ports that account for their faults from here on.
+fn opened_counting<'b, P: Port>(
     alloc: Global,
     board: &'b Accepted,
     scripts: Vec<Script>,
@@ -66,12 +85,9 @@ fn opened<'b, P: Port>(
     ensures of { IfOk result (IsCoreOf board.now scripts.items ports.items) }
     ensures entries { IfOk result (λ core. core.journal.entries ≡ []) }
 {
-    scripts_are_fair();
-    let limit = cost_of(board, scripts.as_slice()) as u32;
     let roots = board.board().roots().len();
     let ports = by_root(alloc, ports, roots)?;
-    let callers = by_number(alloc, scripts)?;
-    BusCore::open(alloc, board, ports, callers, limit)
+    opened(alloc, board, scripts, ports)
 }
 
 // What is left of one core, with its journal in a list that has room for it.
@@ -107,7 +123,7 @@ pub fn followed<P: Port>(
     requires named { All (λ c. c < length scripts.items) words.now }
     ensures { IfOk result (IsLeftOf P.Port board.now scripts.items ports.items (Some words.now)) }
 {
-    let mut core = opened(alloc, board, scripts, ports)?;
+    let mut core = opened_counting(alloc, board, scripts, ports)?;
     core.follow(words);
     Ok(core.take_apart())
 }

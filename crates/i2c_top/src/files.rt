@@ -38,8 +38,8 @@ pub struct ReplayFiles {
     pub schedule: Option<Vec<u8>>,
 }
 
-// Reads the file at a place of the words.
-fn bytes_at<S: Shelf>(
+/// Reads the file at a place of the words.
+pub fn bytes_at<S: Shelf>(
     alloc: Global,
     shelf: &mut S,
     place: u8,
@@ -170,8 +170,8 @@ fn callers_of(scripts: &[Script]) -> u8
     scripts.len() as u8
 }
 
-// Reads the scripts' files, which stand from a place on, one after the other: the scripts, or the first refusal.
-fn scripts_in<S: Shelf>(
+/// Reads the scripts' files, which stand from a place on, one after the other: the scripts, or the first refusal.
+pub fn scripts_in<S: Shelf>(
     alloc: Global,
     board: &Accepted,
     shelf: &mut S,

@@ -9,6 +9,7 @@ mod check;
 mod clear;
 mod generate;
 mod replay;
+mod verify;
 
 use crate::Status;
 use crate::ending::write_due;
@@ -24,9 +25,11 @@ use replay::{is_replay, is_run};
 use std::alloc::Global;
 use std::sync::Wait;
 use std::thread::Threads;
+use verify::is_verify;
+pub use verify::verify_call;
 
 const USAGE: &[u8] =
-    b"usage: i2cbus run BOARD SCRIPT... | replay BOARD SCHEDULE SCRIPT... | check BOARD | gen SEED ROOTS LINES | clear BOARD BUS ADDR CUT\n";
+    b"usage: i2cbus run BOARD SCRIPT... | replay BOARD SCHEDULE SCRIPT... | check BOARD | gen SEED ROOTS LINES | verify BOARD JOURNAL SCRIPT... | clear BOARD BUS ADDR CUT\n";
 
 // Writes the line on usage.
 fn turn_down<K: Sink>(sink: &mut K) -> Status
@@ -57,6 +60,8 @@ pub fn answer<H: Threads + Wait + Sync, S: Shelf, K: Sink, R: Rig, G: Gate + Syn
         run_call(rt, alloc, words, shelf, sink, rig, gate)
     } else if is_check(words) {
         check_call(alloc, words, shelf, sink)
+    } else if is_verify(words) {
+        verify_call(alloc, words, shelf, sink)
     } else if let Some(plan) = plan_in(words) {
         gen_call(alloc, &plan, sink, rig)
     } else if let Some(at) = clear_in(words) {

@@ -15,6 +15,7 @@
 #![tactic(auto)]
 
 mod callers;
+mod check_journal;
 mod cost;
 mod counted_port;
 mod ending;

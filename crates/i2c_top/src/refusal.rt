@@ -1,12 +1,13 @@
 //! The lines that refusals write.
 ghost use Rattle.std.specs.Prelude.{◌≡◌, ◌++◌, OnOk, IfOk};
 ghost use Rattle.std.specs.Fmt.{decimal};
-ghost use Rattle.i2c_top.specs.Status.{table_text, placed_text, limit_text, fault_text, item_text, broken_text, board_text, refusal_text};
+ghost use Rattle.i2c_top.specs.Status.{table_text, placed_text, limit_text, fault_text, item_text, broken_text, board_text, verdict_text, refusal_text};
 
 use crate::{BoardRefusal, Status};
 use bus_journal::{push_bytes, push_number};
 use i2c_base::{Item, NoMemory, RuleBroken};
 use i2c_boardtext::{BoardFault, TableName};
+use journal_check::CheckFault;
 use std::alloc::Global;
 
 // A number between two texts.
@@ -97,6 +98,19 @@ fn push_board(out: &mut Vec<u8>, why: BoardRefusal) -> Result<(), NoMemory>
     }
 }
 
+// What is wrong with a journal's file, and where.
+fn push_verdict(out: &mut Vec<u8>, fault: CheckFault) -> Result<(), NoMemory>
+    ensures { OnOk result (out.new.items ≡ out.old.items ++ verdict_text fault) }
+{
+    match fault {
+        CheckFault::Form(line) => push_around(out, b"line ", u64::from(line), b"\n"),
+        CheckFault::Entry(entry) => push_around(out, b"entry ", u64::from(entry), b"\n"),
+        CheckFault::Open(caller) => push_around(out, b"caller ", u64::from(caller), b"\n"),
+        CheckFault::Text(line) => push_around(out, b"text line ", u64::from(line), b"\n"),
+        CheckFault::Memory => Ok(()),
+    }
+}
+
 // The line of a refusal; nothing for what is none.
 fn push_refusal(out: &mut Vec<u8>, status: Status, name: &[u8]) -> Result<(), NoMemory>
     ensures { OnOk result (out.new.items ≡ out.old.items ++ refusal_text status name.now) }
@@ -116,6 +130,10 @@ fn push_refusal(out: &mut Vec<u8>, status: Status, name: &[u8]) -> Result<(), No
         Status::Read(_) => push_between(out, b"cannot read ", name, b"\n"),
         Status::Rig => push_bytes(out, b"cannot plug the rig\n"),
         Status::Schedule(word) => { push_around(out, b"schedule word ", u64::from(word), b"\n") }
+        Status::Verify(fault) => {
+            push_bytes(out, b"not verified: ")?;
+            push_verdict(out, fault)
+        }
         Status::NoRoot(bus) => push_around(out, b"no root bus ", u64::from(bus), b"\n"),
     }
 }

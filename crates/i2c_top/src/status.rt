@@ -5,6 +5,7 @@ ghost use Rattle.i2c_top.specs.declared.status.Status.TheVariants.{Memory as NoR
 
 use i2c_base::{NoMemory, RuleBroken};
 use i2c_boardtext::BoardFault;
+use journal_check::CheckFault;
 use std::alloc::{AllocError, AllocFailed};
 
 /// Why a board was refused.
@@ -39,6 +40,8 @@ pub enum Status {
     Rig,
     /// The first word of the schedule, from 0, that is no caller's number.
     Schedule(u32),
+    /// The first thing that is wrong with a journal's file. It is never want of memory.
+    Verify(CheckFault),
     /// The bus of this number is no root of the board.
     NoRoot(u16),
 }
@@ -59,6 +62,7 @@ impl Status {
             Status::Memory => 7,
             Status::Rig => 8,
             Status::Schedule(_) => 9,
+            Status::Verify(_) => 10,
             Status::NoRoot(_) => 12,
         }
     }

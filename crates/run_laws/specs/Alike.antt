@@ -1,4 +1,5 @@
--- When the same calls of the ports fail in two runs, that two runs come to the same, and the schedule that a run's own steps are.
+-- When the same calls of the ports fail in two runs, that two runs come to the same, the schedule that a run's own steps are, and the
+-- files by which its report is verified.
 use Rattle.std.specs.Prelude.{◌≡◌, ◌↔◌, ℕ, List, length, map, Some}
 use Rattle.i2c_base.specs.declared.entry.Entry.{Entry}
 use Rattle.i2c_base.specs.declared.port.PortCall.{PortCall}
@@ -8,6 +9,8 @@ use Rattle.bus_spec.specs.Schedule.{turns}
 use Rattle.i2c_top.specs.Faults.{FaultAt}
 use Rattle.i2c_top.specs.Readings.{AreNamed}
 use Rattle.i2c_top.specs.Runs.{HasRun}
+use Rattle.i2c_top.specs.forms.Replays.{Names}
+use Rattle.i2c_top.specs.forms.Verifies.{VerifyNames}
 
 -- in two runs' logs the same calls are faults
 abbrev pub FaultsAlike : List (List PortCall) → List (List PortCall) → Type 0
@@ -33,3 +36,7 @@ pub record IsTheReplay (b : BoardView) (texts : List (List ℕ)) (words : List �
   pub only : (other_bytes : List ℕ) (others : List (List PortCall)) (ends : List TargetState) (other_counts : List ℕ)
       → HasRun b texts (Some words) other_bytes others ends other_counts → FaultsAlike logs others
       → ComesToTheSame bytes other_bytes logs others states ends
+
+-- the files of a run, and one that has its report, as `verify` names them
+abbrev pub beside : Names → List ℕ → VerifyNames
+beside names journal = record { board = names.board; journal = journal; scripts = names.scripts }

@@ -1,15 +1,18 @@
 //! One report at most: what the files and the failures of the ports leave open of a run.
-ghost use Rattle.std.specs.Prelude.{◌≡◌, ℕ, List, None, Some};
+ghost use Rattle.std.specs.Prelude.{◌≡◌, ℕ, List, Option, None, Some, length};
 ghost use Rattle.i2c_base.specs.Board.{BoardView};
 ghost use Rattle.i2c_base.specs.declared.entry.Entry.{Entry};
 ghost use Rattle.i2c_base.specs.declared.port.PortCall.{PortCall};
 ghost use Rattle.i2c_gen.specs.declared.plan.Plan.{Plan};
 ghost use Rattle.i2c_spec.specs.Targets.{TargetState};
+ghost use Rattle.i2c_top.specs.Checked.{checked_on};
 ghost use Rattle.i2c_top.specs.Files.{Files};
 ghost use Rattle.i2c_top.specs.Runs.{HasRun, HasRunTold};
 ghost use Rattle.i2c_top.specs.forms.Generations.{HasSummary};
 ghost use Rattle.i2c_top.specs.forms.Replays.{Names, HasReport};
-ghost use Rattle.run_laws.specs.Alike.{ComesToTheSame, FaultsAlike, IsTheReplay, steps_of};
+ghost use Rattle.i2c_top.specs.forms.Verifies.{HasVerdict};
+ghost use Rattle.journal_check.specs.Faults.{IsVerified};
+ghost use Rattle.run_laws.specs.Alike.{ComesToTheSame, FaultsAlike, IsTheReplay, beside, steps_of};
 
 use caller_core::scripts_are_fair;
 use i2c_spec::an_accepted_board_is_a_tree;
@@ -51,3 +54,16 @@ pub fn a_run_is_a_replay_of_its_own_steps()
     an_accepted_board_is_a_tree();
     scripts_are_fair();
 }
+
+/// What `replay` and `run` write is verified, also where calls of their ports failed: where the report of a run of some scripts stands in a
+/// file, `verify` of that file finds it to be verified, with as many entries as the run's journal has.
+///
+/// It needs neither the schedule nor the ports. Of a report that is changed nothing is said here.
+pub fn what_a_run_reports_is_verified()
+    ensures run { (b : BoardView) (texts : List (List ℕ)) (words : Option (List ℕ)) (x : List ℕ) (logs : List (List PortCall))
+        (states : List TargetState) (counts : List ℕ) → (run : HasRun b texts words x logs states counts)
+        → IsVerified (checked_on b texts) x (length run.journal) }
+    ensures report { (file : Files) (names : Names) (journal x : List ℕ) (logs : List (List PortCall)) (states : List TargetState)
+        (counts : List ℕ) → (report : HasReport file names x logs states counts) → file journal ≡ Some x
+        → HasVerdict file (beside names journal) (length report.run.journal) }
+{}

@@ -20,5 +20,6 @@ returns g c =
       success = c.top.ensures.success;
       checked = c.top.ensures.checked;
       generated = c.top.ensures.generated;
+      verified = c.top.ensures.verified;
       cleared = c.top.ensures.cleared;
     }

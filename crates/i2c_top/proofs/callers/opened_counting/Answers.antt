@@ -1,0 +1,31 @@
+use Rattle.std.proofs.Common.{◌≡◌, ℕ, List, length, map, sym, ◌∙◌, ap, subst, arith}
+use Rattle.std.specs.Prelude.{IfOk}
+use Rattle.std.specs.List.{enumerate_from}
+use Rattle.i2c_base.specs.Board.{BoardView}
+use Rattle.i2c_spec.specs.Plain.{IsPlainBoard}
+use Rattle.i2c_top.specs.Cores.{IsCoreOf, MayRun}
+use Rattle.i2c_top.proofs.CoreLemmas.{firsts}
+use Rattle.i2c_top.proofs.callers.opened_counting.Goals as goal
+
+pub by_root-requires-clause-few : goal.by_root-requires-clause-few
+by_root-requires-clause-few g c κs within =
+    let plain : IsPlainBoard c.args.board.now = subst IsPlainBoard c.board.ensures.value c.roots-roots.ensures.plain in
+    let value : length c.roots-roots.result.now ≡ length c.args.board.now.roots = ap length c.roots-roots.ensures.value
+    ∙ ap (λ (x : BoardView). length x.roots) c.board.ensures.value in
+    let most = plain.most_roots in
+    omega (arith, value, most)
+
+pub opened-requires-clause-may : goal.opened-requires-clause-may
+opened-requires-clause-may g c κs within =
+    subst (λ (ps : List g.row.P.Denot). MayRun g.P.Port c.args.board.now c.args.scripts.items ps)
+    (sym (ap (map (λ (p : ℕ × g.row.P.Denot). p.1)) c.in_ok-ports.ensures ∙ firsts 0 c.args.ports.items)) c.requires.may
+
+pub opened-requires-clause-numbered : goal.opened-requires-clause-numbered
+opened-requires-clause-numbered g c κs within =
+    c.in_ok-ports.ensures
+    ∙ ap (enumerate_from 0) (sym (ap (map (λ (p : ℕ × g.row.P.Denot). p.1)) c.in_ok-ports.ensures ∙ firsts 0 c.args.ports.items))
+
+pub returns-clause-of : goal.returns-clause-of
+returns-clause-of g c =
+    subst (λ (ps : List g.row.P.Denot). IfOk c.opened.result (IsCoreOf c.args.board.now c.args.scripts.items ps))
+    (ap (map (λ (p : ℕ × g.row.P.Denot). p.1)) c.in_ok-ports.ensures ∙ firsts 0 c.args.ports.items) c.opened.ensures.of
