@@ -5,6 +5,8 @@ export LC_ALL=C
 
 RUNS=21 # odd, so that the median is one of them
 
+due_status=0 # with which a run ends
+
 program=${1:-$(dirname "${BASH_SOURCE[0]}")/../crates/i2cbus/out/i2cbus}
 if [ ! -f "$program" ] || [ ! -x "$program" ]; then
   echo "there is no program $program: rt ci, or rt run in crates/i2cbus, leaves it in crates/i2cbus/out/" >&2
@@ -14,9 +16,9 @@ fi
 folder=$(mktemp -d) || exit 1
 trap 'rm -rf "$folder"' EXIT
 
-# A run (what it is, the file with what is due, its status) has to end with status 0 and print what is due.
+# A run (what it is, the file with what is due, its status) has to end with the status that is due and print what is due.
 check_run() {
-  if [ "$3" -ne 0 ]; then
+  if [ "$3" -ne "$due_status" ]; then
     echo "$1 ended with status $3" >&2
     exit 1
   fi
