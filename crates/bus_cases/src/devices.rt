@@ -34,8 +34,8 @@ fn same_bytes(one: &mut DeviceState, other: &mut DeviceState) -> bool {
     true
 }
 
-// Both answer alike to a start that reads, to a get for each byte, and to a stop.
-fn same_device(alloc: Global, one: &DeviceState, other: &DeviceState) -> bool {
+/// Both answer alike to a start that reads, to a get for each byte, and to a stop.
+pub fn same_device(alloc: Global, one: &DeviceState, other: &DeviceState) -> bool {
     match (one.copied(alloc), other.copied(alloc)) {
         (Ok(mut one), Ok(mut other)) => {
             same_at(&mut one, &mut other, Event::Start { reading: true })

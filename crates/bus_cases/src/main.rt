@@ -70,6 +70,7 @@ mod table;
 mod transfers;
 mod trees;
 mod turns;
+mod watched;
 mod wires;
 mod words;
 

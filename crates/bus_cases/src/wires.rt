@@ -2,6 +2,7 @@
 use crate::devices::same_answer;
 use crate::driver::make;
 use crate::page::Page;
+use crate::watched::{Watched, same_ends};
 use crate::words::{addr, byte, put_said};
 use bus_lines::BusLines;
 use i2c_base::{Answer, MuxId, NoMemory, PortCall, SegId};
@@ -10,14 +11,16 @@ use i2c_board::Accepted;
 use i2c_physics::SimWorld;
 use std::alloc::Global;
 
-/// The wires of a root, as a world of bytes, and beside it bit by bit, as far as a port may make the calls.
+/// The wires of a root, as a world of bytes, and beside it as two wires, as far as a port may make the calls: wires that take
+/// whole bytes, and such as are watched, on which each goes bit by bit.
 #[derive(Drop)]
 struct Wires {
     world: SimWorld,
     port: BitPort<BusLines>,
-    /// How many calls were answered alike by both.
+    watched: BitPort<Watched>,
+    /// How many calls were answered alike by all.
     alike: u64,
-    /// The port has made each call so far.
+    /// The ports have made each call so far.
     is_beside: bool,
 }
 
@@ -27,40 +30,49 @@ impl Wires {
         Ok(Wires {
             world: SimWorld::open(alloc, board, root)?,
             port: BitPort::open(alloc, BusLines::open(alloc, board, root)?)?,
+            watched: BitPort::open(alloc, Watched::open(alloc, board, root)?)?,
             alike: 0,
             is_beside: true,
         })
     }
 
-    // Puts what the world answers to a call, and what the port answers, where that is anything else.
+    // Puts what the world answers to a call, and what the ports answer, where that is anything else.
     fn put_answer(&mut self, page: &mut Page, call: &PortCall) {
         let said = answer(&mut self.world, *call);
         put_said(page, said);
         if self.is_beside {
-            match make(&mut self.port, *call) {
-                Some(other) => self.compare(page, said, other),
-                None => self.is_beside = false,
+            match (make(&mut self.port, *call), make(&mut self.watched, *call)) {
+                (Some(short), Some(long)) => self.compare(page, said, short, long),
+                (None, None) => self.is_beside = false,
+                _ => page.require(false),
             }
         }
     }
 
-    fn compare(&mut self, page: &mut Page, said: Answer, other: Answer) {
-        if same_answer(said, other) {
+    fn compare(&mut self, page: &mut Page, said: Answer, short: Answer, long: Answer) {
+        if same_answer(said, short) && same_answer(said, long) {
             self.alike = self.alike.saturating_add(1);
         } else {
             page.put(" over two wires ");
-            put_said(page, other);
+            put_said(page, short);
+            page.put(" bit by bit ");
+            put_said(page, long);
         }
     }
 }
 
 /// Answers words about the wires of the first root of a board, as they are opened: `wADDR` and `rADDR` are starts, to write and
 /// to read, two hexadecimal digits a byte that is put, `+` and `-` a read that is acknowledged or isn't, `.` a stop, `!` a call
-/// that fails, which acts as one, and `mN=K` the line of mux N at level K. Behind them stands how many of them, from the first
-/// on, a port over two wires answers too: up to one that may not come where it stands, or sets a line.
+/// that fails, which acts as one, and `mN=K` the line of mux N at level K. Then it tells how many of them, from the first
+/// on, ports over two wires answer too, whole bytes at once and bit by bit: up to one that may not come where it stands, or
+/// sets a line. The two ports have to come to the same.
 pub fn answer_all(page: &mut Page, alloc: Global, board: &Accepted, words: &str) {
     match Wires::open(alloc, board) {
-        Ok(mut wires) => answer_each(page, &mut wires, words),
+        Ok(mut wires) => {
+            answer_each(page, &mut wires, words);
+            let devices = board.board().devices().len();
+            page.require(same_ends(alloc, wires.port, wires.watched, devices));
+        }
         Err(_) => page.require(false),
     }
 }
