@@ -4,7 +4,7 @@ ghost use Rattle.std.specs.Prelude.{[], false, IfSome};
 ghost use Rattle.wire_spec.specs.Bus.{bus_of};
 ghost use Rattle.i2c_bits.specs.Wiring.{AreLetGo};
 
-use crate::driver::make;
+use crate::driver::Driver;
 use crate::page::Page;
 use crate::wires::call_of;
 use crate::words::put_said;
@@ -147,21 +147,21 @@ impl ByteLines for HeldLines {}
 /// clock for as many looks as one of the numbers says.
 pub fn answer_all(page: &mut Page, alloc: Global, holds: &str, words: &str) {
     match port_of(alloc, holds) {
-        Some(mut port) => answer_each(page, &mut port, words),
+        Some(mut driver) => answer_each(page, &mut driver, words),
         None => page.require(false),
     }
 }
 
-// The port over them.
-fn port_of(alloc: Global, holds: &str) -> Option<BitPort<HeldLines>> {
-    BitPort::open(alloc, HeldLines::open(alloc, holds)?).ok()
+// A port over them.
+fn port_of(alloc: Global, holds: &str) -> Option<Driver<HeldLines>> {
+    Some(Driver::of(BitPort::open(HeldLines::open(alloc, holds)?)))
 }
 
-fn answer_each(page: &mut Page, port: &mut BitPort<HeldLines>, words: &str) {
+fn answer_each(page: &mut Page, driver: &mut Driver<HeldLines>, words: &str) {
     for word in words.split_whitespace() {
         page.put(" ");
         match call_of(word) {
-            Some(call) => match make(port, call) {
+            Some(call) => match driver.make(call) {
                 Some(answer) => put_said(page, answer),
                 None => page.put("no answer"),
             },

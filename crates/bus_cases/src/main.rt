@@ -10,7 +10,7 @@
 //! - `call WORD..`: calls the top with these words, and prints the status, what was written, each count of faults that
 //!   isn't 0, and how often the rig was plugged and unplugged
 //!   Where no call on a port fails and no plug, the same call is made over ports that drive two wires, and a line says so where
-//!   the status, the output, the calls on a port or a device is another then
+//!   the status, the output or a device is another then
 //! - `edges`: prints how often SCL rose in that call, on all roots
 //! - `fronts`: makes the call again for each smaller output, and prints whether each time it ends with one fault of
 //!   the output, which holds the front of what was written; the case is left with the last of these outputs and its call

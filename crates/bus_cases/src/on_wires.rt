@@ -2,7 +2,6 @@
 
 use crate::case::{Call, Case, Files, shelf_of, sink_of};
 use crate::devices::same_devices;
-use i2c_base::PortCall;
 use i2c_outside::{OpenGate, VecSink};
 use i2c_physics::BitRig;
 use i2c_top::{Status, top};
@@ -39,44 +38,10 @@ impl WiredCall {
         self.rig.edges()
     }
 
-    /// It left what the other call did: the status, each byte that was written, the calls on each port, and the devices.
+    /// It left what the other call did: the status, each byte that was written, and the devices.
     pub fn is_as(&self, alloc: Global, other: &Call) -> bool {
         self.status.code() == other.status.code()
             && self.sink.bytes() == other.outside.sink.bytes()
-            && same_logs(self.rig.logs(), other.outside.rig.logs())
             && same_devices(alloc, self.rig.states(), other.outside.rig.states())
-    }
-}
-
-// These ports had the same calls.
-fn same_logs(logs: &[Vec<PortCall>], others: &[Vec<PortCall>]) -> bool {
-    for (one, other) in logs.iter().zip(others.iter()) {
-        if !same_log(one.as_slice(), other.as_slice()) {
-            return false;
-        }
-    }
-    logs.len() == others.len()
-}
-
-fn same_log(log: &[PortCall], other: &[PortCall]) -> bool {
-    for (one, two) in log.iter().zip(other.iter()) {
-        if number_of(*one) != number_of(*two) {
-            return false;
-        }
-    }
-    log.len() == other.len()
-}
-
-// A number of its own for each call.
-fn number_of(call: PortCall) -> u32 {
-    match call {
-        PortCall::Start(addr, reading) => 0x1_0000
-            + 256 * u32::from(reading)
-            + u32::from(addr.get()),
-        PortCall::Put(byte) => 0x2_0000 + u32::from(byte),
-        PortCall::Get(ack) => 0x3_0000 + u32::from(ack),
-        PortCall::Stop => 0x4_0000,
-        PortCall::Fault => 0x5_0000,
-        PortCall::Line(mux, level) => 0x100_0000 + 256 * u32::from(mux.0) + u32::from(level),
     }
 }

@@ -1,6 +1,6 @@
 //! Worked examples of the wires of a root, call by call.
 use crate::devices::same_answer;
-use crate::driver::make;
+use crate::driver::Driver;
 use crate::page::Page;
 use crate::watched::{Watched, same_ends};
 use crate::words::{addr, byte, put_said};
@@ -16,8 +16,8 @@ use std::alloc::Global;
 #[derive(Drop)]
 struct Wires {
     world: SimWorld,
-    port: BitPort<BusLines>,
-    watched: BitPort<Watched>,
+    port: Driver<BusLines>,
+    watched: Driver<Watched>,
     /// How many calls were answered alike by all.
     alike: u64,
     /// The ports have made each call so far.
@@ -29,8 +29,8 @@ impl Wires {
         let root = SegId(0);
         Ok(Wires {
             world: SimWorld::open(alloc, board, root)?,
-            port: BitPort::open(alloc, BusLines::open(alloc, board, root)?)?,
-            watched: BitPort::open(alloc, Watched::open(alloc, board, root)?)?,
+            port: Driver::of(BitPort::open(BusLines::open(alloc, board, root)?)),
+            watched: Driver::of(BitPort::open(Watched::open(alloc, board, root)?)),
             alike: 0,
             is_beside: true,
         })
@@ -41,7 +41,7 @@ impl Wires {
         let said = answer(&mut self.world, *call);
         put_said(page, said);
         if self.is_beside {
-            match (make(&mut self.port, *call), make(&mut self.watched, *call)) {
+            match (self.port.make(*call), self.watched.make(*call)) {
                 (Some(short), Some(long)) => self.compare(page, said, short, long),
                 (None, None) => self.is_beside = false,
                 _ => page.require(false),
@@ -71,7 +71,9 @@ pub fn answer_all(page: &mut Page, alloc: Global, board: &Accepted, words: &str)
         Ok(mut wires) => {
             answer_each(page, &mut wires, words);
             let devices = board.board().devices().len();
-            page.require(same_ends(alloc, wires.port, wires.watched, devices));
+            let port = wires.port.into_port();
+            let watched = wires.watched.into_port();
+            page.require(same_ends(alloc, port, watched, devices));
         }
         Err(_) => page.require(false),
     }

@@ -47,7 +47,7 @@ pub fn clear_root(
     an_opening_world_is_quiet();
     let mut lines = BusLines::open(alloc, board, root)?;
     let CutRead { high, cleared } = clear_cut(&mut lines, addr, cut);
-    let mut port = BitPort::open(alloc, lines)?;
+    let mut port = BitPort::open(lines);
     Ok(RootCleared {
         high,
         pulses: pulses_made(cleared),

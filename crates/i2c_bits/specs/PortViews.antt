@@ -1,6 +1,5 @@
 -- What contracts see of a port over two lines.
-use Rattle.std.specs.Prelude.{⊤, ℕ, ◌≡◌, ◌≤◌, Bool, true, false, List, IsTrue, Result, Ok, Err}
-use Rattle.i2c_base.specs.Limits.{MOST_CALLS}
+use Rattle.std.specs.Prelude.{⊤, ℕ, ◌≡◌, Bool, true, false, List, IsTrue, Result, Ok, Err}
 use Rattle.i2c_base.specs.declared.port.Phase.{Phase}
 use Rattle.i2c_base.specs.declared.port.Phase.TheVariants.{Idle, Writing, PutRefused, Reading, LastRead, Unanswered, Slow}
 use Rattle.i2c_base.specs.declared.port.PortCall.{PortCall}
@@ -67,11 +66,10 @@ LetGoBy LastRead w = ⊤
 LetGoBy Unanswered w = ⊤
 LetGoBy Slow w = ⊤
 
--- told lines stand as the phase says, and the log has room for all calls
-pub record IsBitPort (tells : Bool) (phase : Phase) (k : Rooted) (bus : Bus NodeState) (wire : Wire) (room : ℕ) : Type 0 where
+-- told lines stand as the phase says
+pub record IsBitPort (tells : Bool) (phase : Phase) (k : Rooted) (bus : Bus NodeState) (wire : Wire) : Type 0 where
   pub stands : IsTrue tells → Stands phase k bus
   pub let_go : LetGoBy phase wire
-  pub has_room : MOST_CALLS ≤ room
 
 -- its count of faults rises
 pub record Faulted (tells : Bool) (old new : ℕ) : Type 0 where

@@ -15,61 +15,55 @@ ghost use Rattle.i2c_bits.specs.PortViews as view;
 ghost use Rattle.i2c_bits.specs.PortViews.{FaultsTell, port_of};
 
 use crate::bytes::{get_byte, put_byte};
+use crate::call_log::CallLog;
 use crate::lines::ByteLines;
 use crate::messages::{set_line, start_message, stop_message};
 use crate::phases::{is_busy, is_late, started};
-use i2c_base::{Addr, Answer, MOST_CALLS, MuxId, NoMemory, Phase, PortCall};
+use i2c_base::{Addr, Answer, MuxId, Phase, PortCall};
 use ports::{Failed, Port};
-use std::alloc::Global;
 use std::marker::Model;
 
-/// A port over the two lines of a root, bit by bit.
+/// A port over the two lines of a root, bit by bit. A contract sees the calls that were made on it, of which it keeps none.
 #[derive(Drop)]
 pub struct BitPort<L: ByteLines> {
     lines: L,
-    log: Vec<PortCall>,
+    log: CallLog,
     phase: Phase,
     faults: u64,
 }
 
 impl<L: ByteLines> Model for BitPort<L> {
-    ghost use Rattle.std.specs.Prelude.{vec_capacity};
+    ghost use Rattle.i2c_bits.specs.CallLogs.{calls_of};
     ghost use Rattle.i2c_bits.specs.PortViews.{BitPortView, IsBitPort, port_of};
 
     ghost Value = { BitPortView };
 
-    ghost view = { λ p. port_of (L.board p.lines) (L.bus p.lines) (L.wire p.lines) p.log.items p.phase p.faults };
+    ghost view = { λ p. port_of (L.board p.lines) (L.bus p.lines) (L.wire p.lines) (calls_of p.log) p.phase p.faults };
 
-    ghost invariant = { λ p. IsBitPort L.tells p.phase (L.board p.lines) (L.bus p.lines) (L.wire p.lines) (vec_capacity p.log) };
+    ghost invariant = { λ p. IsBitPort L.tells p.phase (L.board p.lines) (L.bus p.lines) (L.wire p.lines) };
 }
 
 /// What a port was made of.
 #[derive(Drop)]
 pub struct PortParts<L> {
     pub lines: L,
-    /// The calls that were made on it.
-    pub log: Vec<PortCall>,
     /// A message was in progress.
     pub busy: bool,
 }
 
-// Each call of the log takes at most 8 bytes.
-const _: () = prove!(size_of::<PortCall>() <= 8);
-
 impl<L: ByteLines> BitPort<L> {
-    /// A port over free lines, on which nobody is in a message, with the room of its log.
-    pub fn open(alloc: Global, lines: L) -> Result<Self, NoMemory>
+    /// A port over free lines, on which nobody is in a message.
+    pub fn open(lines: L) -> Self
         requires let_go { AreLetGo (L.wire lines) }
         requires free { IsTrue L.tells → IsFree (L.board lines) (L.bus lines) }
-        ensures { IfOk result (λ p. p ≡ port_of (L.board lines) (L.bus lines) (L.wire lines) [] Phase.Idle 0) }
+        ensures { result ≡ port_of (L.board lines) (L.bus lines) (L.wire lines) [] Phase.Idle 0 }
     {
-        let log = Vec::with_capacity(alloc, MOST_CALLS)?;
-        Ok(BitPort {
+        BitPort {
             lines,
-            log,
+            log: CallLog::none(),
             phase: Phase::Idle,
             faults: 0,
-        })
+        }
     }
 
     /// What its wires have come to since the last stop.
@@ -79,23 +73,14 @@ impl<L: ByteLines> BitPort<L> {
         self.phase
     }
 
-    /// The calls that were made on it.
-    pub fn calls(&self) -> &[PortCall]
-        ensures { result.now ≡ self.now.log }
-    {
-        self.log.as_slice()
-    }
-
-    /// Its lines and its log.
+    /// Its lines, and whether a message was in progress on them.
     pub fn into_parts(self) -> PortParts<L>
         ensures world { world_at (L.board result.lines) result.busy (L.bus result.lines) ≡ self.world }
-        ensures log { result.log.items ≡ self.log }
         ensures counts { (L.bus result.lines).counts ≡ self.counts }
     {
         PortParts {
             busy: is_busy(&self.phase),
             lines: self.lines,
-            log: self.log,
         }
     }
 
@@ -107,7 +92,7 @@ impl<L: ByteLines> BitPort<L> {
         ensures faults { self.new.faults ≡ counted self.old.faults }
         ensures wire { self.new.wire ≡ self.old.wire }
     {
-        let _ = self.log.push(PortCall::Fault);
+        self.log.add(PortCall::Fault);
         self.phase = Phase::Idle;
         self.faults = self.faults.saturating_add(1);
         Failed
@@ -148,7 +133,7 @@ impl<L: ByteLines + Send> Port for BitPort<L> {
         let busy = is_busy(&self.phase);
         match start_message(&mut self.lines, busy, byte) {
             Ok(answer) => {
-                let _ = self.log.push(PortCall::Start(addr, reading));
+                self.log.add(PortCall::Start(addr, reading));
                 self.phase = started(reading, &answer);
                 Ok(answer)
             }
@@ -175,7 +160,7 @@ impl<L: ByteLines + Send> Port for BitPort<L> {
     {
         match put_byte(&mut self.lines, byte) {
             Ok(acked) => {
-                let _ = self.log.push(PortCall::Put(byte));
+                self.log.add(PortCall::Put(byte));
                 self.phase = if acked {
                     Phase::Writing
                 } else {
@@ -206,7 +191,7 @@ impl<L: ByteLines + Send> Port for BitPort<L> {
     {
         match get_byte(&mut self.lines, ack) {
             Ok(byte) => {
-                let _ = self.log.push(PortCall::Get(ack));
+                self.log.add(PortCall::Get(ack));
                 self.phase = if ack { Phase::Reading } else { Phase::LastRead };
                 Ok(byte)
             }
@@ -232,7 +217,7 @@ impl<L: ByteLines + Send> Port for BitPort<L> {
         let late = is_late(&self.phase);
         match stop_message(&mut self.lines, late) {
             Ok(()) => {
-                let _ = self.log.push(PortCall::Stop);
+                self.log.add(PortCall::Stop);
                 self.phase = Phase::Idle;
                 Ok(())
             }
@@ -258,7 +243,7 @@ impl<L: ByteLines + Send> Port for BitPort<L> {
         ensures counts { IsTrue L.tells → self.new.counts ≡ self.old.counts }
     {
         set_line(&mut self.lines, mux, level);
-        let _ = self.log.push(PortCall::Line(mux, level));
+        self.log.add(PortCall::Line(mux, level));
         self.phase = Phase::Idle;
         Ok(())
     }

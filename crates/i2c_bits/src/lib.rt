@@ -11,13 +11,14 @@
 //! before a repeated start and once in a stop, and SDA changes while SCL is high once in a start, once in a stop, and never else;
 //! but this is not said of a start that is Slow, nor of the stop after it. Definitions: `specs/Wiring.antt` is what is seen of
 //! every pair of lines; `specs/Counting.antt` how often they change in a start and in a stop; `specs/Stands.antt` how told lines
-//! stand between two calls, the world that they are, and what a call on them is in it; `specs/PortViews.antt` what is seen of the
-//! port. What a controller does, pull by pull and look by look, is `Calls` of `wire_spec`, by UM10204, "I2C-bus specification and
+//! stand between two calls, the world that they are, and what a call on them is in it; `specs/CallLogs.antt` the calls that were
+//! made on a port, which it doesn't keep; `specs/PortViews.antt` what is seen of the port. What a controller does, pull by pull and look by look, is `Calls` of `wire_spec`, by UM10204, "I2C-bus specification and
 //! user manual", sections 3.1.3 to 3.1.6, 3.1.9 and 3.1.10.
 #![tactic(auto)]
 
 mod bit_port;
 mod bytes;
+mod call_log;
 mod clocks;
 mod lines;
 mod messages;

@@ -46,12 +46,9 @@ one_more_parted old now new ps p was more =
     more ∙ ap (λ (l : List PortView). l ++ parted p ∷ []) was
     ∙ append_assoc old (map parted ps) (parted p ∷ []) ∙ ap (λ (l : List PortView). old ++ l) (sym (map-append parted ps (p ∷ [])))
 
--- what is taken apart is the same worlds and logs
+-- what is taken apart is the same worlds
 pub parted_worlds : (ps : List BitPortView) → map (λ p. p.world) (map parted ps) ≡ map (λ (p : BitPortView). p.world) ps
 parted_worlds ps = map_both parted (λ p. p.world) (λ p. p.world) (λ p. refl) ps
-
-pub parted_logs : (ps : List BitPortView) → map (λ p. p.log) (map parted ps) ≡ map (λ (p : BitPortView). p.log) ps
-parted_logs ps = map_both parted (λ p. p.log) (λ p. p.log) (λ p. refl) ps
 
 pub room_enough : (b : BoardView) (ps : List BitPortView) → AreWorldsOf b (map (λ (p : BitPortView). p.world) ps) → length ps ≤ length b.roots
 room_enough b ps of = omega (arith, length-map ps (λ (p : BitPortView). p.world), count_of_worlds b (map (λ p. p.world) ps) of)

@@ -1,6 +1,7 @@
 -- The rig of two wires: its ports as they are opened, and as they are given back.
-use Rattle.std.specs.Prelude.{◌≡◌, ◌≤◌, ℕ, List, length, min, sum_by}
+use Rattle.std.specs.Prelude.{◌≡◌, ◌≤◌, ℕ, List, [], length, min, sum_by}
 use Rattle.i2c_base.specs.declared.port.Phase.TheVariants.{Idle}
+use Rattle.i2c_base.specs.declared.port.PortCall.{PortCall}
 use Rattle.i2c_base.specs.Board.{BoardView}
 use Rattle.ports.specs.Causes.{MOST}
 use Rattle.i2c_bits.specs.PortViews.{BitPortView}
@@ -19,18 +20,19 @@ wired p = record { port = record { world = p.world; log = p.log; phase = p.phase
 abbrev pub opening_wired : BoardView → ℕ → WiredView
 opening_wired b root = record { port = opening_port b root; faults = 0 }
 
--- what is left of a port that was taken apart
+-- what is left of a port that was taken apart: no call is kept
 abbrev pub parted : BitPortView → PortView
-parted p = record { world = p.world; log = p.log; phase = Idle }
+parted p = record { world = p.world; log = []; phase = Idle }
 
 -- how often SCL rose on all of them, up to 2^64 - 1
 abbrev pub edges_of : List BitPortView → ℕ
 edges_of ps = min (sum_by (λ p. p.counts.edges) ps) MOST
 
--- what the rig has in common with the simulated one, the faults of the ports that were last given back, and how often SCL rose
--- on them
+-- what the rig has in common with the simulated one, the calls on the ports that were last given back and their faults, and how
+-- often SCL rose on them
 pub record BitRigView : Type 0 where
   pub sim : SimRig
+  pub logs : List (List PortCall)
   pub port_faults : List ℕ
   pub edges : ℕ
 

@@ -5,12 +5,12 @@ ghost use Rattle.i2c_base.specs.declared.port.Phase.{Phase};
 ghost use Rattle.i2c_spec.specs.World.{AreWorldsOf, openings, devices_of};
 ghost use Rattle.ports.specs.Causes.{Rose, counted};
 ghost use Rattle.i2c_physics.specs.BitRigs.{edges_of, opening_wired, wired};
-ghost use Rattle.i2c_physics.specs.SimRigs.{no_board, kept_states, kept_logs};
+ghost use Rattle.i2c_physics.specs.SimRigs.{no_board, kept_states};
 
 use crate::WirePort;
 use crate::parted_port::PartsBuffer;
 use crate::sim_rig::SimRig;
-use i2c_base::{NoMemory, PortCall, SegId};
+use i2c_base::{NoMemory, SegId};
 use i2c_board::Accepted;
 use i2c_outside::{Rig, RigFail};
 use std::alloc::Global;
@@ -36,7 +36,7 @@ impl Model for BitRig {
 
     ghost Value = { BitRigView };
 
-    ghost view = { λ r. record { sim = r.sim; port_faults = option_map_or (λ ports. map (λ p. p.faults) ports.value.items) r.given []; edges = r.edges } };
+    ghost view = { λ r. record { sim = r.sim; logs = option_map_or (λ ports. map (λ p. p.log) ports.value.items) r.given []; port_faults = option_map_or (λ ports. map (λ p. p.faults) ports.value.items) r.given []; edges = r.edges } };
 
     ghost invariant = { λ r. r.buffer ≡ r.sim.room };
 }
@@ -44,7 +44,7 @@ impl Model for BitRig {
 impl BitRig {
     /// A rig that was never plugged.
     pub fn new() -> Self
-        ensures { result ≡ record { sim = record { faults = 0; plugs = 0; unplugs = 0; room = None; kept = None; given = 0 }; port_faults = []; edges = 0 } }
+        ensures { result ≡ record { sim = record { faults = 0; plugs = 0; unplugs = 0; room = None; kept = None; given = 0 }; logs = []; port_faults = []; edges = 0 } }
     {
         BitRig {
             sim: SimRig::new(),
@@ -66,13 +66,6 @@ impl BitRig {
         ensures { result.now ≡ kept_states self.now.sim.kept }
     {
         self.sim.states()
-    }
-
-    /// The calls on each port that the last unplug was given, in order; none before it.
-    pub fn logs(&self) -> &[Vec<PortCall>]
-        ensures { map (λ log. log.items) result.now ≡ kept_logs self.now.sim.kept }
-    {
-        self.sim.logs()
     }
 
     /// How many faults were counted.
@@ -135,7 +128,7 @@ impl Rig for BitRig {
 
     ghost states = { λ r. kept_states r.sim.kept };
 
-    ghost logs = { λ r. kept_logs r.sim.kept };
+    ghost logs = { λ r. r.logs };
 
     ghost port_faults = { λ r. r.port_faults };
 
@@ -180,7 +173,7 @@ impl Rig for BitRig {
         ensures states { AreWorldsOf (unwrap_or self.old.sim.room no_board) (map (λ p. p.world) ports.items)
             → kept_states self.new.sim.kept ≡ devices_of (unwrap_or self.old.sim.room no_board) (map (λ p. p.world) ports.items) }
         ensures logs { AreWorldsOf (unwrap_or self.old.sim.room no_board) (map (λ p. p.world) ports.items)
-            → kept_logs self.new.sim.kept ≡ map (λ p. p.log) ports.items }
+            → self.new.logs ≡ map (λ p. p.log) ports.items }
 
         // It never counts a fault, and it tells how often SCL rose.
         ensures calm { self.new.sim.faults ≡ self.old.sim.faults }
@@ -190,7 +183,7 @@ impl Rig for BitRig {
         if let Some(buffer) = self.buffer.take() {
             let parted = buffer.fill(ports);
             self.edges = parted.edges;
-            self.sim.take_back(parted.ports);
+            self.sim.take_devices(parted.ports);
         }
     }
 }

@@ -10,7 +10,7 @@ ghost use Rattle.i2c_physics.specs.SimPorts.{called};
 ghost use Rattle.i2c_physics.specs.FailPorts.{fails_next, said, after_next, failed_calls_in, fails_on, opening_fails};
 
 use crate::SimPort;
-use crate::unplug::Returned;
+use crate::unplug::{Logged, Returned};
 use i2c_base::{Addr, Answer, MuxId, PortCall, SegId};
 use i2c_board::Accepted;
 use i2c_outside::is_listed;
@@ -84,7 +84,9 @@ impl Returned for FailPort {
     fn take_device(&mut self, number: usize) -> Option<DeviceState> {
         self.sim.take_device(number)
     }
+}
 
+impl Logged for FailPort {
     fn into_log(self) -> Vec<PortCall> {
         self.sim.into_log()
     }

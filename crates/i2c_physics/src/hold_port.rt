@@ -3,7 +3,7 @@ ghost use Rattle.std.specs.Prelude.{◌≡◌, true, IfOk};
 ghost use Rattle.i2c_physics.specs.SimPorts.{opening_port};
 
 use crate::SimPort;
-use crate::unplug::Returned;
+use crate::unplug::{Logged, Returned};
 use crate::words::Words;
 use i2c_base::{Addr, Answer, MuxId, PortCall, SegId};
 use i2c_board::Accepted;
@@ -69,7 +69,9 @@ impl Returned for HoldPort {
     fn take_device(&mut self, number: usize) -> Option<DeviceState> {
         self.sim.take_device(number)
     }
+}
 
+impl Logged for HoldPort {
     fn into_log(self) -> Vec<PortCall> {
         self.sim.into_log()
     }

@@ -6,29 +6,28 @@ ghost use Rattle.i2c_physics.specs.BitRigs.{edges_of, parted};
 use crate::WirePort;
 use crate::unplug::Returned;
 use bus_lines::Apart;
-use i2c_base::PortCall;
 use i2c_board::Accepted;
 use std::alloc::{AllocError, Global};
 use std::marker::Model;
 use std::snapshot::Snapshot;
 use targets::DeviceState;
 
-/// The targets of a port on two wires, off the lines, and its log. A contract sees the world that they are.
+/// The targets of a port on two wires, off the lines. A contract sees the world that they are, and no calls.
 #[derive(Drop)]
 pub struct PartedPort {
     targets: Apart,
-    log: Vec<PortCall>,
     busy: bool,
 }
 
 impl Model for PartedPort {
+    ghost use Rattle.std.specs.Prelude.{[]};
     ghost use Rattle.i2c_base.specs.declared.port.Phase.TheVariants.{Idle};
     ghost use Rattle.bus_lines.specs.Aparts.{world_apart};
     ghost use Rattle.i2c_physics.specs.SimPorts.{PortView};
 
     ghost Value = { PortView };
 
-    ghost view = { λ p. record { world = world_apart p.busy p.targets; log = p.log.items; phase = Idle } };
+    ghost view = { λ p. record { world = world_apart p.busy p.targets; log = []; phase = Idle } };
 }
 
 impl Returned for PartedPort {
@@ -36,10 +35,6 @@ impl Returned for PartedPort {
 
     fn take_device(&mut self, number: usize) -> Option<DeviceState> {
         self.targets.take_device(number)
-    }
-
-    fn into_log(self) -> Vec<PortCall> {
-        self.log
     }
 }
 
@@ -116,7 +111,6 @@ fn take_one(done: &mut Vec<PartedPort>, port: WirePort) -> u64
     let edges = parts.lines.edges();
     let _ = done.push(PartedPort {
         targets: parts.lines.apart(),
-        log: parts.log,
         busy: parts.busy,
     });
     edges

@@ -9,7 +9,7 @@ ghost use Rattle.i2c_physics.specs.SimPorts.{opening_port, called};
 
 use crate::phase;
 use crate::sim_world::SimWorld;
-use crate::unplug::Returned;
+use crate::unplug::{Logged, Returned};
 use i2c_base::{Addr, Answer, MOST_CALLS, MuxId, Phase, PortCall, SegId};
 use i2c_board::Accepted;
 use ports::{Failed, Port};
@@ -133,7 +133,9 @@ impl Returned for SimPort {
     fn take_device(&mut self, number: usize) -> Option<DeviceState> {
         self.world.take_device(number)
     }
+}
 
+impl Logged for SimPort {
     fn into_log(self) -> Vec<PortCall> {
         self.log
     }

@@ -8,7 +8,7 @@ ghost use Rattle.i2c_physics.specs.SimPorts.{opening_port};
 ghost use Rattle.i2c_physics.specs.SimRigs.{no_board, none_of, kept_states, kept_logs};
 
 use crate::SimPort;
-use crate::unplug::{Returned, UnplugBuffer, Unplugged};
+use crate::unplug::{Logged, Returned, UnplugBuffer, Unplugged};
 use i2c_base::{PortCall, SegId};
 use i2c_board::Accepted;
 use i2c_outside::{Rig, RigFail};
@@ -115,7 +115,7 @@ impl SimRig {
     }
 
     /// Takes the ports back, and keeps the devices as they left them, and their logs.
-    pub(crate) fn take_back<P: Returned>(&mut self, ports: Vec<P>)
+    pub(crate) fn take_back<P: Logged>(&mut self, ports: Vec<P>)
         requires { is_some self.old.room ≡ true }
         ensures plugged { self.new.room ≡ None }
         ensures unplugs { self.new.unplugs ≡ counted self.old.unplugs }
@@ -130,6 +130,22 @@ impl SimRig {
         self.unplugs = self.unplugs.saturating_add(1);
         if let Some(room) = self.room.take() {
             drop(self.kept.replace(room.keep(ports)));
+        }
+    }
+
+    /// Takes the ports back, and keeps the devices as they left them.
+    pub(crate) fn take_devices<P: Returned>(&mut self, ports: Vec<P>)
+        requires { is_some self.old.room ≡ true }
+        ensures plugged { self.new.room ≡ None }
+        ensures unplugs { self.new.unplugs ≡ counted self.old.unplugs }
+        ensures plugs { self.new.plugs ≡ self.old.plugs }
+        ensures faults { self.new.faults ≡ self.old.faults }
+        ensures states { AreWorldsOf (unwrap_or self.old.room no_board) (map (λ p. (P.port p).world) ports.items)
+            → kept_states self.new.kept ≡ devices_of (unwrap_or self.old.room no_board) (map (λ p. (P.port p).world) ports.items) }
+    {
+        self.unplugs = self.unplugs.saturating_add(1);
+        if let Some(room) = self.room.take() {
+            drop(self.kept.replace(room.keep_devices(ports)));
         }
     }
 }

@@ -27,10 +27,13 @@ pub trait Returned: Drop {
         ensures has { owns (port self.old).world number ≡ true → IsSome result }
         ensures world { (port self.new).world ≡ without (port self.old).world number }
         ensures log { (port self.new).log ≡ (port self.old).log };
+}
 
-    /// The calls that were made on it.
+/// A port that is given back with the calls that were made on it.
+pub trait Logged: Returned {
+    /// The calls.
     fn into_log(self) -> Vec<PortCall>
-        ensures { result.items ≡ (port self).log };
+        ensures { result.items ≡ (Self.port self).log };
 }
 
 /// What a rig holds after an unplug.
@@ -78,8 +81,22 @@ impl UnplugBuffer {
         })
     }
 
-    /// Keeps the devices as these ports have them, each as the port of its root has it, and their logs.
-    pub fn keep<P: Returned>(self, mut ports: Vec<P>) -> Unplugged
+    /// Keeps the devices as these ports have them, each as the port of its root has it.
+    pub fn keep_devices<P: Returned>(self, mut ports: Vec<P>) -> Unplugged
+        ensures states { AreWorldsOf self (map (λ p. (P.port p).world) ports.items) → result.states.items ≡ devices_of self (map (λ p. (P.port p).world) ports.items) }
+    {
+        let UnplugBuffer {
+            board: _,
+            homes,
+            mut states,
+            logs,
+        } = self;
+        keep_states(&mut states, &homes, &mut ports);
+        Unplugged { states, logs }
+    }
+
+    /// .. and their logs too.
+    pub fn keep<P: Logged>(self, mut ports: Vec<P>) -> Unplugged
         ensures states { AreWorldsOf self (map (λ p. (P.port p).world) ports.items) → result.states.items ≡ devices_of self (map (λ p. (P.port p).world) ports.items) }
         ensures logs { AreWorldsOf self (map (λ p. (P.port p).world) ports.items) → map (λ log. log.items) result.logs.items ≡ map (λ p. (P.port p).log) ports.items }
     {
@@ -136,7 +153,7 @@ fn take_from<P: Returned>(ports: &mut Vec<P>, home: SegId, number: usize) -> Opt
 }
 
 /// Keeps the logs of these ports, as far as there is room.
-fn keep_logs<P: Returned>(logs: &mut Vec<Vec<PortCall>>, ports: Vec<P>)
+fn keep_logs<P: Logged>(logs: &mut Vec<Vec<PortCall>>, ports: Vec<P>)
     ensures { vec_len logs.old + vec_len ports ≤ vec_capacity logs.old → map (λ log. log.items) logs.new.items ≡ map (λ log. log.items) logs.old.items ++ map (λ p. (P.port p).log) ports.items }
 {
     for port in ports {

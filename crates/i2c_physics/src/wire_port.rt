@@ -32,14 +32,13 @@ impl WirePort {
     {
         let lines = BusLines::open(alloc, board, root)?;
         Ok(WirePort {
-            port: BitPort::open(alloc, lines)?,
+            port: BitPort::open(lines),
         })
     }
 
-    /// Its lines and its log.
+    /// Its lines, and whether a message was in progress on them.
     pub(crate) fn into_parts(self) -> PortParts<BusLines>
         ensures world { world_at result.lines.rooted result.busy result.lines.bus ≡ self.world }
-        ensures log { result.log.items ≡ self.log }
         ensures counts { result.lines.bus.counts ≡ self.counts }
     {
         self.port.into_parts()

@@ -24,6 +24,6 @@ returns c =
           c.in_ok-lines.ensures.world c.clear_cut-high.result.cleared told);
       reply =
           root_reply old.rooted new.rooted c.clear_cut-high.ensures.board old.bus new.bus c.args.addr c.args.cut (block_limit c.args.board.now) w
-          c.in_ok-lines.ensures.world c.clear_cut-high.result.cleared c.receive.result c.in_ok-port.port.world told
-          (ap (λ p. p.world) c.in_ok-port.ensures) (c.receive.ensures.reply refl (block_limit c.args.board.now));
+          c.in_ok-lines.ensures.world c.clear_cut-high.result.cleared c.receive.result c.open-port.result.world told
+          (ap (λ p. p.world) c.open-port.ensures) (c.receive.ensures.reply refl (block_limit c.args.board.now));
     }

@@ -1,8 +1,11 @@
 use denote.Param.Send.{sendable}
 use Rattle.std.proofs.Crossing.{crosses}
-use Rattle.i2c_bits.proofs.SendLemmas.{port-send}
+use Rattle.bus_lines.proofs.SendLemmas.{lines-send}
 use Rattle.bus_cases.proofs.SendLemmas.{watched-send}
 use Rattle.bus_cases.proofs.wires.Wires.put_answer.Goals as goal
 
+pub make-requires-send-L : goal.make-requires-send-L
+make-requires-send-L c κs = search (crosses, sendable, lines-send) depth 20
+
 pub make-requires-then-self-send-L : goal.make-requires-then-self-send-L
-make-requires-then-self-send-L c κs = search (crosses, sendable, port-send, watched-send) depth 20
+make-requires-then-self-send-L c κs = search (crosses, sendable, watched-send) depth 20

@@ -5,29 +5,29 @@ use Rattle.i2c_spec.specs.World.{World, AreWorldsOf, devices_of}
 use Rattle.i2c_physics.specs.BitRigs.{BitRigView, parted}
 use Rattle.i2c_physics.specs.SimPorts.{PortView}
 use Rattle.i2c_physics.specs.SimRigs.{no_board}
-use Rattle.i2c_physics.proofs.WireLemmas.{parted_worlds, parted_logs, room_enough}
+use Rattle.i2c_physics.proofs.WireLemmas.{parted_worlds, room_enough}
 use Rattle.i2c_physics.proofs.bit_rig.BitRigRig.unplug.Goals as goal
 
 -- the board of the room is the rig's
-room_is : (c : goal.After-take_back) → c.self.inside.sim.room ≡ Some c.in-Some.buffer
+room_is : (c : goal.After-take_devices) → c.self.inside.sim.room ≡ Some c.in-Some.buffer
 room_is c = sym c.self.invariant ∙ sym c.take.ensures.value ∙ c.in-Some.is
 
-board_is : (c : goal.After-take_back) → unwrap_or c.args.self.now.sim.room no_board ≡ c.in-Some.buffer
+board_is : (c : goal.After-take_devices) → unwrap_or c.args.self.now.sim.room no_board ≡ c.in-Some.buffer
 board_is c = ap (λ o. unwrap_or o no_board) (sym (ap (λ (r : BitRigView). r.sim.room) c.self.view_is) ∙ room_is c)
 
-same_board : (c : goal.After-take_back) → unwrap_or c.args.self.now.sim.room no_board ≡ unwrap_or c.self.inside.sim.room no_board
+same_board : (c : goal.After-take_devices) → unwrap_or c.args.self.now.sim.room no_board ≡ unwrap_or c.self.inside.sim.room no_board
 same_board c = ap (λ (r : BitRigView). unwrap_or r.sim.room no_board) (sym c.self.view_is)
 
 -- all ports are taken apart
-all_parted : (c : goal.After-take_back) → AreWorldsOf (unwrap_or c.args.self.now.sim.room no_board) (map (λ p. p.world) c.args.ports.items)
+all_parted : (c : goal.After-take_devices) → AreWorldsOf (unwrap_or c.args.self.now.sim.room no_board) (map (λ p. p.world) c.args.ports.items)
     → c.fill-parted.result.ports.items ≡ map parted c.args.ports.items
 all_parted c of = c.fill-parted.ensures.ports (room_enough c.in-Some.buffer c.args.ports.items (subst (λ (b : BoardView). AreWorldsOf b (map (λ p. p.world) c.args.ports.items)) (board_is c) of))
 
-worlds_are : (c : goal.After-take_back) → AreWorldsOf (unwrap_or c.args.self.now.sim.room no_board) (map (λ p. p.world) c.args.ports.items)
+worlds_are : (c : goal.After-take_devices) → AreWorldsOf (unwrap_or c.args.self.now.sim.room no_board) (map (λ p. p.world) c.args.ports.items)
     → map (λ (p : PortView). p.world) c.fill-parted.result.ports.items ≡ map (λ p. p.world) c.args.ports.items
 worlds_are c of = ap (map (λ (p : PortView). p.world)) (all_parted c of) ∙ parted_worlds c.args.ports.items
 
-are_those : (c : goal.After-take_back) → AreWorldsOf (unwrap_or c.args.self.now.sim.room no_board) (map (λ p. p.world) c.args.ports.items)
+are_those : (c : goal.After-take_devices) → AreWorldsOf (unwrap_or c.args.self.now.sim.room no_board) (map (λ p. p.world) c.args.ports.items)
     → AreWorldsOf (unwrap_or c.self.inside.sim.room no_board) (map (λ (p : PortView). p.world) c.fill-parted.result.ports.items)
 are_those c of =
     subst (λ (b : BoardView). AreWorldsOf b (map (λ (p : PortView). p.world) c.fill-parted.result.ports.items)) (same_board c)
@@ -35,10 +35,6 @@ are_those c of =
 
 pub returns-in-Some-clause-states : goal.returns-in-Some-clause-states
 returns-in-Some-clause-states c = λ of.
-    c.take_back.ensures.states (are_those c of)
+    c.take_devices.ensures.states (are_those c of)
     ∙ ap (λ (b : BoardView). devices_of b (map (λ (p : PortView). p.world) c.fill-parted.result.ports.items)) (sym (same_board c))
     ∙ ap (devices_of (unwrap_or c.args.self.now.sim.room no_board)) (worlds_are c of)
-
-pub returns-in-Some-clause-logs : goal.returns-in-Some-clause-logs
-returns-in-Some-clause-logs c = λ of.
-    c.take_back.ensures.logs (are_those c of) ∙ ap (map (λ (p : PortView). p.log)) (all_parted c of) ∙ parted_logs c.args.ports.items
