@@ -17,7 +17,7 @@ use Rattle.bus_lines.specs.Numbers.{is_among}
 use Rattle.bus_lines.specs.Units.{by_number, to_those, shared, addressed, IsCalm, IsUnit, AreUnits}
 use Rattle.bus_lines.proofs.KindLemmas.{addr_kept, joined_kept, doors, doors_kept, states_numbered, joins_kept}
 use Rattle.bus_lines.proofs.NumberedLemmas.{map_numbered}
-use Rattle.bus_lines.proofs.UnitLemmas.{done_none, calm_other, shared_rises, shared_last, shared_falls, shared_ticks, shared_holds, shared_pulls, shared_begins, addressed_all, address_holds, address_pulls}
+use Rattle.bus_lines.proofs.UnitLemmas.{done_none, calm_other, shared_rises, shared_last, shared_falls, shared_ticks, shared_holds, shared_pulls, shared_begins, addressed_all, address_holds}
 use Rattle.bus_lines.proofs.TargetsLemmas.{IsTouched, touched_all, stays_out, stays_calm}
 
 -- ---- all are seen alike
@@ -154,11 +154,6 @@ module _ (left v : ℕ) (level : Bool) (live started live_new started_new : List
 
   pub called_holds : (w : ℕ) → some_one holds_line (map (shared 0 w) (by_number call_to 0 bs)) ≡ false
   called_holds w = ap (some_one holds_line) (called_all w) ∙ some_mapped holds_line (where_joined (seen (Address byte))) bs (address_holds byte)
-
-  pub called_pulls : (w : ℕ) → some_one (pulls_line node_table) (map (shared 0 w) (by_number call_to 0 bs)) ≡ false
-  called_pulls w =
-      ap (some_one (pulls_line node_table)) (called_all w)
-      ∙ some_mapped (pulls_line node_table) (where_joined (seen (Address byte))) bs (address_pulls byte)
 
 -- ---- the start before it
 pub and_both : (a b : Bool) → (a && b) ≡ true → (a ≡ true) × (b ≡ true)

@@ -32,7 +32,7 @@ use Rattle.bus_lines.specs.Numbers.{NumbersView, is_among}
 use Rattle.bus_lines.specs.Units.{RegisterView, by_number, some_by, to_those, of_those, shared, addressed, AreUnits}
 use Rattle.bus_lines.proofs.AddressLemmas.{map_twice, or_false, called_all}
 use Rattle.bus_lines.proofs.AwayLemmas.{units_away, whole_some}
-use Rattle.bus_lines.proofs.InvariantLemmas.{holds_coming, pulls_coming, called_are}
+use Rattle.bus_lines.proofs.InvariantLemmas.{holds_coming, called_are}
 use Rattle.bus_lines.proofs.NumberedLemmas.{some_none, some_of_those, map_same}
 use Rattle.bus_lines.proofs.PutLemmas.{some_kept}
 use Rattle.bus_lines.proofs.StopLemmas.{none_has}
@@ -148,16 +148,15 @@ waits_so zero some b waits joined = absurd (omega (arith, some))
 waits_so (suc n) some b waits joined = waits n refl joined
 
 -- ---- all of them, before
-module _ (fair : IsFairTable node_table) (k : Rooted) (ps : List PlaceView) (held pulled : Bool) (r : RegisterView) (live started_by : NumbersView)
-    (at_it : List (List ℕ)) (bs : List (Bit NodeState)) (are : AreTargets k ps held pulled r live started_by at_it bs) where
+module _ (fair : IsFairTable node_table) (k : Rooted) (ps : List PlaceView) (held : Bool) (r : RegisterView) (live started_by : NumbersView)
+    (at_it : List (List ℕ)) (bs : List (Bit NodeState)) (are : AreTargets k ps held r live started_by at_it bs) where
   -- another bit of an address may be the next
-  pub coming_so : (now : RegisterView) → 0 < r.left → 0 < now.left → AreTargets k ps held pulled now live started_by at_it bs
+  pub coming_so : (now : RegisterView) → 0 < r.left → 0 < now.left → AreTargets k ps held now live started_by at_it bs
   coming_so now some some_now =
       record {
         places = are.places;
         kinds = are.kinds;
         clock = are.clock ∙ holds_coming r.left r.value bs some ∙ sym (holds_coming now.left now.value bs some_now);
-        data_low = are.data_low ∙ pulls_coming r.left r.value bs some ∙ sym (pulls_coming now.left now.value bs some_now);
         units = λ n b is. let u = are.units n b is in
             record { out = u.out; calm = u.calm; waits = λ m e joined. waits_so r.left some b u.waits joined; joined = u.joined; listed = u.listed };
         live_room = are.live_room;
@@ -189,10 +188,10 @@ module _ (fair : IsFairTable node_table) (k : Rooted) (ps : List PlaceView) (hel
       mid_called = subst Has (sym (byte_parts byte)) (has_parts (byte / 2) (is_reading byte)) low live_has started_has is
 
       pub mid_are : 0 < r.left → (now : RegisterView) → now.left ≡ 0 → live_new.room ≡ live.room → started_new.room ≡ started_by.room
-          → AreTargets k ps held pulled now live_new started_new at_it mid
+          → AreTargets k ps held now live_new started_new at_it mid
       mid_are some now over live_room started_room =
           let last : RegisterView = record { left = 1; value = byte / 2 } in
-          called_are k ps held pulled last live started_by at_it bs (coming_so last some (omega arith)) refl (is_reading byte) byte (byte_parts byte)
+          called_are k ps held last live started_by at_it bs (coming_so last some (omega arith)) refl (is_reading byte) byte (byte_parts byte)
           low now over live_new started_new mid live_has started_has is live_room started_room
 
   module _ (byte : ℕ) (low : byte / 2 < NO_ADDRESS) (quick : list_any (slow_at bs) (get_or at_it (byte / 2) []) ≡ false) where

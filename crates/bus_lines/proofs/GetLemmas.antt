@@ -1,6 +1,8 @@
 -- A byte that is read, all nine clocks at once: what it is to each target, to all of them, and on the lines.
 use Rattle.std.proofs.Common.{◌≡◌, ℕ, zero, suc, ◌<◌, Bool, true, false, cond, List, [], ◌∷◌, map, refl, sym, ap, ◌∙◌, arith, bit_and}
 use Rattle.std.specs.Int.Bits.{and_self}
+use Rattle.i2c_base.specs.declared.event.Event.TheVariants as event
+use Rattle.i2c_spec.specs.Targets.{IsFairTable}
 use Rattle.wire_spec.specs.declared.mode.Mode.{Mode}
 use Rattle.wire_spec.specs.declared.mode.Mode.TheVariants.{Out, In, Answered, Give, Gave}
 use Rattle.wire_spec.specs.Wires.{Site, Bit, site_of, stands}
@@ -12,7 +14,7 @@ use Rattle.wire_spec.specs.Sites.{NodeState, node_table, both}
 use Rattle.i2c_bits.specs.Wiring.{Wire, the_table, mask_at}
 use Rattle.i2c_bits.specs.Stands.{StandsIn, chips_on, devices_on}
 use Rattle.bus_lines.specs.declared.edges.Edge.TheVariants.{Get}
-use Rattle.bus_lines.specs.Edges.{seen, gives_in, gives_get}
+use Rattle.bus_lines.specs.Edges.{seen, byte_or_ones, gives_in, gives_get}
 use Rattle.bus_lines.specs.Joins.{PlaceView, states_on, joins_by}
 use Rattle.bus_lines.specs.LinesViews.{TargetsView, LinesView, lines_of, wire_nine}
 use Rattle.bus_lines.specs.Units.{by_number, some_by, and_by, to_those, of_those, given_by, shared, AreUnits}
@@ -22,6 +24,11 @@ use Rattle.bus_lines.proofs.PutLemmas.{some_kept}
 use Rattle.bus_lines.proofs.TargetsLemmas.{seen_alone, all_told, told_holds}
 
 -- ---- one target
+-- its answer to a read is the byte that it sends
+pub byte_sent : IsFairTable node_table → (ack : Bool) (x : NodeState) → byte_or_ones (node_table.answer x (event.Get ack)) ≡ node_table.sends x
+byte_sent fair true x = ap byte_or_ones (fair.sends x)
+byte_sent fair false x = ap byte_or_ones (fair.sends_last x)
+
 holds_so : (ack : Bool) (a : ℕ) (j h : Bool) (x : NodeState) (m : Mode) (k : ℕ)
     → holds_line (where_joined (seen (Get ack)) (stands (site_of a j h x) m k)) ≡ holds_line (stands (site_of a j h x) m k)
 holds_so ack a false h x m k = refl

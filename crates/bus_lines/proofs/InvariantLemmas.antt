@@ -23,8 +23,8 @@ use Rattle.bus_lines.specs.Units.{RegisterView, by_number, some_by, to_those, of
 use Rattle.bus_lines.proofs.KindLemmas.{kinds_doors, kinds_rejoin, kinds_level}
 use Rattle.bus_lines.proofs.NumberedLemmas.{length-numbered}
 use Rattle.bus_lines.proofs.UnitLemmas.{IsWithin}
-use Rattle.bus_lines.proofs.TargetsLemmas.{seen_alone, told_seen, told_doors, told_units, told_holds, told_pulls}
-use Rattle.bus_lines.proofs.AddressLemmas.{coming_falls, coming_ticks, coming_rises, coming_holds, coming_pulls, coming_units, called_seen, called_doors, called_units, called_holds, called_pulls, left_seen, left_doors, left_units}
+use Rattle.bus_lines.proofs.TargetsLemmas.{seen_alone, told_seen, told_doors, told_units, told_holds}
+use Rattle.bus_lines.proofs.AddressLemmas.{coming_falls, coming_ticks, coming_rises, coming_holds, coming_pulls, coming_units, called_seen, called_doors, called_units, called_holds, left_seen, left_doors, left_units}
 use Rattle.bus_lines.proofs.StopLemmas.{AreLoose, rejoined_units, stopped_seen, stopped_kinds, stopped_loose, levelled_loose, spread_loose, spread_states}
 
 -- ---- while an address comes in
@@ -54,13 +54,12 @@ rises_coming n v level left now bs more is =
     ∙ ap (λ m. map (where_joined (λ b. rise node_table b level)) (map (shared m v) bs)) (sym more)
 
 -- a record of targets, with other targets of the same kinds that are as many
-module _ (k : Rooted) (ps : List PlaceView) (held pulled : Bool) (r : RegisterView) (live started : NumbersView) (at : List (List ℕ))
-    (bs : List (Bit NodeState)) (are : AreTargets k ps held pulled r live started at bs) where
+module _ (k : Rooted) (ps : List PlaceView) (held : Bool) (r : RegisterView) (live started : NumbersView) (at : List (List ℕ))
+    (bs : List (Bit NodeState)) (are : AreTargets k ps held r live started at bs) where
   -- an edge within a message
   pub told_are : (e : Edge) → IsWithin e → r.left ≡ 0 → (new : List (Bit NodeState)) → new ≡ by_number (to_those live.items (where_joined (seen e))) 0 bs
-      → (h p : Bool) → h ≡ some_by (of_those live.items holds_line) 0 new → p ≡ some_by (of_those live.items (pulls_line node_table)) 0 new
-      → AreTargets k ps h p r live started at new
-  told_are e within none new is h p holds pulls =
+      → (h : Bool) → h ≡ some_by (of_those live.items holds_line) 0 new → AreTargets k ps h r live started at new
+  told_are e within none new is h holds =
       let f = to_those live.items (where_joined (seen e)) in
       let told = by_number f 0 bs in
       let count : length new ≡ length bs = ap length is ∙ length-numbered f 0 bs in
@@ -71,8 +70,6 @@ module _ (k : Rooted) (ps : List PlaceView) (held pulled : Bool) (r : RegisterVi
             ∙ kinds_doors (states_on told) (states_on bs) (told_doors e within r.left live.items started.items at ps bs none are.units) ∙ are.kinds;
         clock = holds ∙ ap (some_by (of_those live.items holds_line) 0) is
             ∙ told_holds e within r.left live.items started.items at ps bs none are.units ∙ ap (some_one holds_line) (sym is ∙ alone);
-        data_low = pulls ∙ ap (some_by (of_those live.items (pulls_line node_table)) 0) is
-            ∙ told_pulls e within r.left live.items started.items at ps bs none are.units ∙ ap (some_one (pulls_line node_table)) (sym is ∙ alone);
         units = subst (λ (xs : List (Bit NodeState)). AreUnits r.left live.items started.items at (joins_by ps (states_on xs)) xs) (sym is)
             (told_units e within r.left live.items started.items at ps bs none are.units);
         live_room = are.live_room ∙ sym count;
@@ -87,7 +84,7 @@ module _ (k : Rooted) (ps : List PlaceView) (held pulled : Bool) (r : RegisterVi
 
   -- a bit of an address, and not the last
   pub coming_are : (n : ℕ) → r.left ≡ suc (suc n) → (now : RegisterView) (level : Bool) → now ≡ record { left = r.left - 1; value = shifted r.value level }
-      → AreTargets k ps held pulled now live started at bs
+      → AreTargets k ps held now live started at bs
   coming_are n more now level is =
       let less : now.left ≡ suc n = ap (λ (x : RegisterView). x.left) is ∙ omega (arith, more) in
       let some : 0 < r.left = omega (arith, more) in
@@ -96,7 +93,6 @@ module _ (k : Rooted) (ps : List PlaceView) (held pulled : Bool) (r : RegisterVi
         places = are.places;
         kinds = are.kinds;
         clock = are.clock ∙ holds_coming r.left r.value bs some ∙ sym (holds_coming now.left now.value bs some_now);
-        data_low = are.data_low ∙ pulls_coming r.left r.value bs some ∙ sym (pulls_coming now.left now.value bs some_now);
         units = subst (λ (m : ℕ). AreUnits m live.items started.items at (joins_by ps (states_on bs)) bs) (sym less)
             (coming_units n live.items started.items at (joins_by ps (states_on bs)) bs
             (subst (λ (m : ℕ). AreUnits m live.items started.items at (joins_by ps (states_on bs)) bs) more are.units));
@@ -132,7 +128,7 @@ module _ (k : Rooted) (ps : List PlaceView) (held pulled : Bool) (r : RegisterVi
     as_alone : map (shared now.left now.value) new ≡ alone (by_number f 0 bs)
     as_alone = ap (λ m. map (shared m now.value) new) over ∙ ap alone is_f
 
-    pub called_are : live_new.room ≡ live.room → started_new.room ≡ started.room → AreTargets k ps held pulled now live_new started_new at new
+    pub called_are : live_new.room ≡ live.room → started_new.room ≡ started.room → AreTargets k ps held now live_new started_new at new
     called_are live_room started_room =
         let count : length new ≡ length bs = ap length is_f ∙ length-numbered f 0 bs in
         let some : 0 < r.left = omega (arith, last) in
@@ -145,10 +141,6 @@ module _ (k : Rooted) (ps : List PlaceView) (held pulled : Bool) (r : RegisterVi
           clock = are.clock ∙ holds_coming r.left r.value bs some
               ∙ sym (ap (some_one holds_line) as_alone
               ∙ called_holds r.left r.value level live.items started.items live_new.items started_new.items at ps bs low_at are.units live_at started_at
-              now.value);
-          data_low = are.data_low ∙ pulls_coming r.left r.value bs some
-              ∙ sym (ap (some_one (pulls_line node_table)) as_alone
-              ∙ called_pulls r.left r.value level live.items started.items live_new.items started_new.items at ps bs low_at are.units live_at started_at
               now.value);
           units = subst (λ (xs : List (Bit NodeState)). AreUnits now.left live_new.items started_new.items at (joins_by ps (states_on xs)) xs) (sym is_f)
               (subst (λ (m : ℕ). AreUnits m live_new.items started_new.items at (joins_by ps (states_on (by_number f 0 bs))) (by_number f 0 bs)) (sym over)
@@ -166,8 +158,8 @@ module _ (k : Rooted) (ps : List PlaceView) (held pulled : Bool) (r : RegisterVi
   -- a start
   pub left_are : (new : List (Bit NodeState)) (live_new : NumbersView) → live_new ≡ numbers_of live.room (cond (list_all (joined_at bs) live.items) [] live.items)
       → new ≡ by_number (to_those live.items (where_joined (seen Leave))) 0 bs → (now : RegisterView) → now ≡ record { left = 8; value = 0 }
-      → (h p : Bool) → h ≡ false → p ≡ false → AreTargets k ps h p now live_new started at new
-  left_are new live_new lives is now eight h p holds pulls =
+      → (h : Bool) → h ≡ false → AreTargets k ps h now live_new started at new
+  left_are new live_new lives is now eight h holds =
       let f = to_those live.items (where_joined (seen Leave)) in
       let count : length new ≡ length bs = ap length is ∙ length-numbered f 0 bs in
       let some : 0 < now.left = omega (arith, ap (λ (x : RegisterView). x.left) eight) in
@@ -176,7 +168,6 @@ module _ (k : Rooted) (ps : List PlaceView) (held pulled : Bool) (r : RegisterVi
         kinds = ap (λ xs. map is_chip (states_on xs)) is
             ∙ kinds_doors (states_on (by_number f 0 bs)) (states_on bs) (left_doors r.left r.value live.items started.items at ps bs are.units) ∙ are.kinds;
         clock = holds ∙ sym (holds_coming now.left now.value new some);
-        data_low = pulls ∙ sym (pulls_coming now.left now.value new some);
         units = subst (λ (xs : List (Bit NodeState)). AreUnits now.left live_new.items started.items at (joins_by ps (states_on xs)) xs) (sym is)
             (subst (λ (x : RegisterView). AreUnits x.left live_new.items started.items at (joins_by ps (states_on (by_number f 0 bs))) (by_number f 0 bs)) (sym eight)
             (subst (λ (v : NumbersView). AreUnits 8 v.items started.items at (joins_by ps (states_on (by_number f 0 bs))) (by_number f 0 bs)) (sym lives)
@@ -202,15 +193,14 @@ module _ (k : Rooted) (ps : List PlaceView) (places : ps ≡ places_of k.board k
   count_from f n (x ∷ xs) = ap suc (count_from f (n + 1) xs)
 
   pub rejoined_are : AreLoose live.items started.items at bs → live.room ≡ length bs → started.room ≡ length bs → IsIndex (length bs) at
-      → (h p : Bool) → h ≡ some_one holds_line new → p ≡ some_one (pulls_line node_table) new → AreTargets k ps h p now live started at new
-  rejoined_are loose live_room started_room index h p holds pulls =
+      → (h : Bool) → h ≡ some_one holds_line new → AreTargets k ps h now live started at new
+  rejoined_are loose live_room started_room index h holds =
       let joins = joins_by ps (states_on bs) in
       let count : length new ≡ length bs = ap length is ∙ count_from joins 0 bs in
       record {
         places = places;
         kinds = ap (λ xs. map is_chip (states_on xs)) is ∙ kinds_rejoin joins 0 bs ∙ kinds;
         clock = holds ∙ ap (some_one holds_line) (sym (seen_alone now.left now.value new over));
-        data_low = pulls ∙ ap (some_one (pulls_line node_table)) (sym (seen_alone now.left now.value new over));
         units = subst (λ (xs : List (Bit NodeState)). AreUnits now.left live.items started.items at (joins_by ps (states_on xs)) xs) (sym is)
             (rejoined_units now.left live.items started.items at ps bs over loose);
         live_room = live_room ∙ sym count;
@@ -222,8 +212,8 @@ module _ (k : Rooted) (ps : List PlaceView) (places : ps ≡ places_of k.board k
 pub nodes_fair : IsFairTable node_table
 nodes_fair = node_fair (search rules) states_fair
 
-module _ (k : Rooted) (ps : List PlaceView) (held pulled : Bool) (r : RegisterView) (live started : NumbersView) (at : List (List ℕ))
-    (bs : List (Bit NodeState)) (are : AreTargets k ps held pulled r live started at bs) (live_new started_new : NumbersView)
+module _ (k : Rooted) (ps : List PlaceView) (held : Bool) (r : RegisterView) (live started : NumbersView) (at : List (List ℕ))
+    (bs : List (Bit NodeState)) (are : AreTargets k ps held r live started at bs) (live_new started_new : NumbersView)
     (lives : live_new ≡ numbers_of live.room (cond (list_all (joined_at bs) started.items) [] live.items))
     (starts : started_new ≡ numbers_of started.room (cond (list_all (joined_at bs) started.items) [] started.items))
     (new : List (Bit NodeState)) (is : new ≡ by_number (to_those started.items (where_joined (seen Finish))) 0 bs) where
@@ -260,8 +250,8 @@ module _ (k : Rooted) (ps : List PlaceView) (held pulled : Bool) (r : RegisterVi
   stop_seen = is ∙ stopped_seen nodes_fair r.left r.value live.items started.items at ps bs are.units
 
 -- ---- a line is set
-module _ (k : Rooted) (ps : List PlaceView) (held pulled : Bool) (r : RegisterView) (live started : NumbersView) (at : List (List ℕ))
-    (bs : List (Bit NodeState)) (are : AreTargets k ps held pulled r live started at bs) (live_new started_new : NumbersView)
+module _ (k : Rooted) (ps : List PlaceView) (held : Bool) (r : RegisterView) (live started : NumbersView) (at : List (List ℕ))
+    (bs : List (Bit NodeState)) (are : AreTargets k ps held r live started at bs) (live_new started_new : NumbersView)
     (live_is : (j : ℕ) → j < live.room → is_among live_new.items j ≡ false → (r.left ≡ 0) × (is_among live.items j ≡ false))
     (started_is : (j : ℕ) → j < started.room → is_among started_new.items j ≡ false → (r.left ≡ 0) × (is_among started.items j ≡ false))
     (mid new : List (Bit NodeState)) (m level : ℕ) (spread : mid ≡ map (shared r.left r.value) bs) (is : new ≡ levelled_bits m level mid) where

@@ -3,7 +3,7 @@ use Rattle.std.proofs.Common.{◌≡◌, ℕ, Bool, true, false, ◌&&◌, ◌||
 use Rattle.std.specs.Prelude.{slice_get}
 use Rattle.std.specs.List.{list_all}
 use Rattle.wire_spec.specs.Wires.{Bit, begin, finish}
-use Rattle.wire_spec.specs.Roots.{where_joined, some_one, pulls_line}
+use Rattle.wire_spec.specs.Roots.{where_joined, some_one}
 use Rattle.wire_spec.specs.Bus.{holds_line, rejoin_from, rejoined}
 use Rattle.wire_spec.specs.Sites.{NodeState, mask_of, node_table}
 use Rattle.i2c_bits.specs.Wiring.{Rooted}
@@ -23,7 +23,7 @@ use Rattle.bus_lines.proofs.NumberedLemmas.{at_number, numbered_twice, length-nu
 use Rattle.bus_lines.proofs.StopLemmas.{anew_out, calm_after, rejoin_numbered}
 use Rattle.bus_lines.proofs.TargetsLemmas.{within_goes}
 use Rattle.bus_lines.proofs.ToldLemmas.{edge_whole}
-use Rattle.bus_lines.proofs.UnitLemmas.{IsWithin, holds_none, pulls_none}
+use Rattle.bus_lines.proofs.UnitLemmas.{IsWithin, holds_none}
 use Rattle.bus_lines.proofs.AwayLemmas.{units_away, whole_edge, whole_stop, whole_rejoined}
 use Rattle.wire_spec.specs.Calls.{released}
 
@@ -47,8 +47,8 @@ pub known_some : (t : Bool) (ns : List ℕ) (ps : List PlaceView) (bs : List (Bi
 known_some t ns ps bs were k b at among = were k b at (known_none t ns k among)
 
 -- ---- an edge that is told to those in the message
-module _ (k : Rooted) (ps : List PlaceView) (held pulled : Bool) (r : RegisterView) (live started : NumbersView) (at : List (List ℕ))
-    (bs : List (Bit NodeState)) (kept : AreKept k ps held pulled r live started at bs) (e : Edge) (within : IsWithin e) (none : r.left ≡ 0)
+module _ (k : Rooted) (ps : List PlaceView) (held : Bool) (r : RegisterView) (live started : NumbersView) (at : List (List ℕ))
+    (bs : List (Bit NodeState)) (kept : AreKept k ps held r live started at bs) (e : Edge) (within : IsWithin e) (none : r.left ≡ 0)
     (ns : List ℕ) (those : ns ≡ live.items) (new : List (Bit NodeState)) (is : new ≡ by_number (to_those ns (where_joined (seen e))) 0 bs) where
   is_live : new ≡ by_number (to_those live.items (where_joined (seen e))) 0 bs
   is_live = is ∙ ap (λ ms. by_number (to_those ms (where_joined (seen e))) 0 bs) those
@@ -71,11 +71,10 @@ module _ (k : Rooted) (ps : List PlaceView) (held pulled : Bool) (r : RegisterVi
   edge_asked p =
       ap (λ ms. some_by (of_those ms p) 0 new) those ∙ some_known ps live.items p new (edge_stays live.items kept.in_message)
 
-  pub edge_kept : (h p : Bool) → h ≡ some_by (of_those live.items holds_line) 0 (known_on ps new)
-      → p ≡ some_by (of_those live.items (pulls_line node_table)) 0 (known_on ps new) → AreKept k ps h p r live started at new
-  edge_kept h p holds pulls =
+  pub edge_kept : (h : Bool) → h ≡ some_by (of_those live.items holds_line) 0 (known_on ps new) → AreKept k ps h r live started at new
+  edge_kept h holds =
       record {
-        are = told_are k ps held pulled r live started at (known_on ps bs) kept.are e within none (known_on ps new) edge_known h p holds pulls;
+        are = told_are k ps held r live started at (known_on ps bs) kept.are e within none (known_on ps new) edge_known h holds;
         in_message = edge_stays live.items kept.in_message;
         reached = edge_stays started.items kept.reached;
         live_room = kept.live_room ∙ sym new_count;
@@ -83,19 +82,18 @@ module _ (k : Rooted) (ps : List PlaceView) (held pulled : Bool) (r : RegisterVi
         index = subst (λ (n : ℕ). IsIndex n at) (sym new_count) kept.index;
       }
 
-  pub edge_told : (h p : Bool) → h ≡ some_by (of_those ns holds_line) 0 new → p ≡ some_by (of_those ns (pulls_line node_table)) 0 new
-      → AreKept k ps h p r live started at new
-  edge_told h p holds pulls = edge_kept h p (holds ∙ edge_asked holds_line) (pulls ∙ edge_asked (pulls_line node_table))
+  pub edge_told : (h : Bool) → h ≡ some_by (of_those ns holds_line) 0 new → AreKept k ps h r live started at new
+  edge_told h holds = edge_kept h (holds ∙ edge_asked holds_line)
 
-  pub edge_seen : (h p : Bool) → AreKept k ps h p r live started at new
+  pub edge_seen : (h : Bool) → AreKept k ps h r live started at new
       → map (shared r.left r.value) (whole_on k.board ps (known_on ps new))
       ≡ map (where_joined (seen e)) (map (shared r.left r.value) (whole_on k.board ps (known_on ps bs)))
-  edge_seen h p now =
-      edge_whole k ps held pulled r live started at (known_on ps bs) kept.are e within none live.items refl (known_on ps new) edge_known h p now.are
+  edge_seen h now =
+      edge_whole k ps held r live started at (known_on ps bs) kept.are e within none live.items refl (known_on ps new) edge_known h now.are
 
 -- ---- who is joined is read anew of those at an address
-module _ (k : Rooted) (ps : List PlaceView) (held pulled : Bool) (r : RegisterView) (live started : NumbersView) (at : List (List ℕ))
-    (bs : List (Bit NodeState)) (kept : AreKept k ps held pulled r live started at bs)
+module _ (k : Rooted) (ps : List PlaceView) (held : Bool) (r : RegisterView) (live started : NumbersView) (at : List (List ℕ))
+    (bs : List (Bit NodeState)) (kept : AreKept k ps held r live started at bs)
     (ns : List ℕ) (mid : List (Bit NodeState)) (is : mid ≡ by_number (known_of ns (joins_by ps (states_on bs))) 0 bs) where
   pub fresh_known : known_on ps mid ≡ known_on ps bs
   fresh_known = refreshed ps ns bs mid is
@@ -106,10 +104,10 @@ module _ (k : Rooted) (ps : List PlaceView) (held pulled : Bool) (r : RegisterVi
   pub fresh_count : length mid ≡ length bs
   fresh_count = ap length is ∙ length-numbered (known_of ns (joins_by ps (states_on bs))) 0 bs
 
-  pub fresh_kept : AreKept k ps held pulled r live started at mid
+  pub fresh_kept : AreKept k ps held r live started at mid
   fresh_kept =
       record {
-        are = subst (AreTargets k ps held pulled r live started at) (sym fresh_known) kept.are;
+        are = subst (AreTargets k ps held r live started at) (sym fresh_known) kept.are;
         in_message = refreshed_others ps live.items ns bs mid is kept.in_message;
         reached = refreshed_others ps started.items ns bs mid is kept.reached;
         live_room = kept.live_room ∙ sym fresh_count;
@@ -192,8 +190,8 @@ module _ (k : Rooted) (ps : List PlaceView) (held pulled : Bool) (r : RegisterVi
     pub call_known : known_on ps new ≡ by_number (addressed started_new.items ns byte) 0 (known_on ps bs)
     call_known = address_known started_new.items started_known byte new told
 
-    pub call_kept : (now : RegisterView) → AreTargets k ps held pulled now live_new started_new at (known_on ps new) → live_new.room ≡ live.room
-        → started_new.room ≡ started.room → AreKept k ps held pulled now live_new started_new at new
+    pub call_kept : (now : RegisterView) → AreTargets k ps held now live_new started_new at (known_on ps new) → live_new.room ≡ live.room
+        → started_new.room ≡ started.room → AreKept k ps held now live_new started_new at new
     call_kept now are live_room started_room =
         record {
           are = are;
@@ -205,10 +203,10 @@ module _ (k : Rooted) (ps : List PlaceView) (held pulled : Bool) (r : RegisterVi
         }
 
 -- what has come of an address byte is another
-pub kept_with : (k : Rooted) (ps : List PlaceView) (held pulled : Bool) (r now : RegisterView) (live started : NumbersView) (at : List (List ℕ))
-    (bs : List (Bit NodeState)) → AreKept k ps held pulled r live started at bs → AreTargets k ps held pulled now live started at (known_on ps bs)
-    → AreKept k ps held pulled now live started at bs
-kept_with k ps held pulled r now live started at bs kept are =
+pub kept_with : (k : Rooted) (ps : List PlaceView) (held : Bool) (r now : RegisterView) (live started : NumbersView) (at : List (List ℕ))
+    (bs : List (Bit NodeState)) → AreKept k ps held r live started at bs → AreTargets k ps held now live started at (known_on ps bs)
+    → AreKept k ps held now live started at bs
+kept_with k ps held r now live started at bs kept are =
     record {
       are = are;
       in_message = kept.in_message;
@@ -219,11 +217,11 @@ kept_with k ps held pulled r now live started at bs kept are =
     }
 
 -- who is joined has been read anew of all
-pub kept_anew : (k : Rooted) (ps : List PlaceView) (h p : Bool) (r : RegisterView) (live started : NumbersView) (at : List (List ℕ)) (bs : List (Bit NodeState))
-    → AreTargets k ps h p r live started at bs → known_on ps bs ≡ bs → AreKept k ps h p r live started at bs
-kept_anew k ps h p r live started at bs are known =
+pub kept_anew : (k : Rooted) (ps : List PlaceView) (h : Bool) (r : RegisterView) (live started : NumbersView) (at : List (List ℕ)) (bs : List (Bit NodeState))
+    → AreTargets k ps h r live started at bs → known_on ps bs ≡ bs → AreKept k ps h r live started at bs
+kept_anew k ps h r live started at bs are known =
     record {
-      are = subst (AreTargets k ps h p r live started at) (sym known) are;
+      are = subst (AreTargets k ps h r live started at) (sym known) are;
       in_message = are_known live.items ps bs known;
       reached = are_known started.items ps bs known;
       live_room = are.live_room;
@@ -232,8 +230,8 @@ kept_anew k ps h p r live started at bs are known =
     }
 
 -- ---- a start
-module _ (k : Rooted) (ps : List PlaceView) (held pulled : Bool) (r : RegisterView) (live started : NumbersView) (at : List (List ℕ))
-    (bs : List (Bit NodeState)) (kept : AreKept k ps held pulled r live started at bs) (new : List (Bit NodeState)) (live_new : NumbersView)
+module _ (k : Rooted) (ps : List PlaceView) (held : Bool) (r : RegisterView) (live started : NumbersView) (at : List (List ℕ))
+    (bs : List (Bit NodeState)) (kept : AreKept k ps held r live started at bs) (new : List (Bit NodeState)) (live_new : NumbersView)
     (lives : live_new ≡ numbers_of live.room (cond (list_all (joined_at bs) live.items) [] live.items))
     (is : new ≡ by_number (to_those live.items (where_joined (seen Leave))) 0 bs) where
   leave_doors : map doors (states_on new) ≡ map doors (states_on bs)
@@ -253,11 +251,11 @@ module _ (k : Rooted) (ps : List PlaceView) (held pulled : Bool) (r : RegisterVi
   leave_count : length new ≡ length bs
   leave_count = ap length is ∙ length-numbered (to_those live.items (where_joined (seen Leave))) 0 bs
 
-  pub begin_kept : (now : RegisterView) → now ≡ record { left = 8; value = 0 } → (h p : Bool) → h ≡ false → p ≡ false
-      → AreKept k ps h p now live_new started at new
-  begin_kept now eight h p holds pulls =
+  pub begin_kept : (now : RegisterView) → now ≡ record { left = 8; value = 0 } → (h : Bool) → h ≡ false
+      → AreKept k ps h now live_new started at new
+  begin_kept now eight h holds =
       record {
-        are = left_are k ps held pulled r live started at (known_on ps bs) kept.are (known_on ps new) live_new leave_lives leave_known now eight h p holds pulls;
+        are = left_are k ps held r live started at (known_on ps bs) kept.are (known_on ps new) live_new leave_lives leave_known now eight h holds;
         in_message = subst (λ (v : NumbersView). AreKnown v.items ps new) (sym lives)
             (known_some (list_all (joined_at bs) live.items) live.items ps new (leave_keeps live.items kept.in_message));
         reached = leave_keeps started.items kept.reached;
@@ -270,15 +268,15 @@ module _ (k : Rooted) (ps : List PlaceView) (held pulled : Bool) (r : RegisterVi
       → map (shared now.left now.value) (whole_on k.board ps (known_on ps new))
       ≡ map (where_joined begin) (map (shared r.left r.value) (whole_on k.board ps (known_on ps bs)))
   begin_seen now eight =
-      let then_kept = begin_kept now eight false false refl refl in
+      let then_kept = begin_kept now eight false refl in
       whole_edge k.board ps begin r.left r.value now.left now.value (known_on ps bs) (known_on ps new)
       (units_away ps r.left live.items started.items at (known_on ps bs) kept.are.units)
       (units_away ps now.left live_new.items started.items at (known_on ps new) then_kept.are.units)
-      (left_view k ps held pulled r live started at (known_on ps bs) kept.are (known_on ps new) leave_known now eight)
+      (left_view k ps held r live started at (known_on ps bs) kept.are (known_on ps new) leave_known now eight)
 
 -- ---- a stop
-module _ (k : Rooted) (ps : List PlaceView) (held pulled : Bool) (r : RegisterView) (live started : NumbersView) (at : List (List ℕ))
-    (bs : List (Bit NodeState)) (kept : AreKept k ps held pulled r live started at bs) (live_new started_new : NumbersView)
+module _ (k : Rooted) (ps : List PlaceView) (held : Bool) (r : RegisterView) (live started : NumbersView) (at : List (List ℕ))
+    (bs : List (Bit NodeState)) (kept : AreKept k ps held r live started at bs) (live_new started_new : NumbersView)
     (lives : live_new ≡ numbers_of live.room (cond (list_all (joined_at bs) started.items) [] live.items))
     (starts : started_new ≡ numbers_of started.room (cond (list_all (joined_at bs) started.items) [] started.items))
     (new : List (Bit NodeState)) (is : new ≡ by_number (to_those started.items (where_joined (seen Finish))) 0 bs)
@@ -296,18 +294,18 @@ module _ (k : Rooted) (ps : List PlaceView) (held pulled : Bool) (r : RegisterVi
   starts_all = starts ∙ ap (λ t. numbers_of started.room (cond t [] started.items)) same_all
 
   all_kinds : map is_chip (states_on all) ≡ kinds_of k.board
-  all_kinds = stop_kinds k ps held pulled r live started at (known_on ps bs) kept.are live_new started_new lives_all starts_all all refl
+  all_kinds = stop_kinds k ps held r live started at (known_on ps bs) kept.are live_new started_new lives_all starts_all all refl
 
   -- who is joined is read anew of these
-  rejoined_all : (j : List (Bit NodeState)) → j ≡ rejoin_from (joins_by ps (states_on all)) 0 all → (h p : Bool) → h ≡ some_one holds_line j
-      → p ≡ some_one (pulls_line node_table) j → AreTargets k ps h p now live_new started_new at j
-  rejoined_all j anew h p holds pulls =
+  rejoined_all : (j : List (Bit NodeState)) → j ≡ rejoin_from (joins_by ps (states_on all)) 0 all → (h : Bool) → h ≡ some_one holds_line j
+      → AreTargets k ps h now live_new started_new at j
+  rejoined_all j anew h holds =
       rejoined_are k ps kept.are.places live_new started_new at all all_kinds now over j anew
-      (stop_loose k ps held pulled r live started at (known_on ps bs) kept.are live_new started_new lives_all starts_all all refl)
-      (stop_live k ps held pulled r live started at (known_on ps bs) kept.are live_new started_new lives_all starts_all all refl)
-      (stop_started k ps held pulled r live started at (known_on ps bs) kept.are live_new started_new lives_all starts_all all refl)
-      (stop_index k ps held pulled r live started at (known_on ps bs) kept.are live_new started_new lives_all starts_all all refl)
-      h p holds pulls
+      (stop_loose k ps held r live started at (known_on ps bs) kept.are live_new started_new lives_all starts_all all refl)
+      (stop_live k ps held r live started at (known_on ps bs) kept.are live_new started_new lives_all starts_all all refl)
+      (stop_started k ps held r live started at (known_on ps bs) kept.are live_new started_new lives_all starts_all all refl)
+      (stop_index k ps held r live started at (known_on ps bs) kept.are live_new started_new lives_all starts_all all refl)
+      h holds
 
   rejoined_seen : (j : List (Bit NodeState)) → j ≡ rejoin_from (joins_by ps (states_on all)) 0 all
       → map (shared now.left now.value) (whole_on k.board ps j)
@@ -317,7 +315,7 @@ module _ (k : Rooted) (ps : List PlaceView) (held pulled : Bool) (r : RegisterVi
       ∙ ap (λ (xs : List (Bit NodeState)). rejoined (mask_of k.board k.root) xs)
       (whole_stop k.board ps (finish node_table) r.left r.value (known_on ps bs) all
       (units_away ps r.left live.items started.items at (known_on ps bs) kept.are.units)
-      (stop_seen k ps held pulled r live started at (known_on ps bs) kept.are live_new started_new lives_all starts_all all refl))
+      (stop_seen k ps held r live started at (known_on ps bs) kept.are live_new started_new lives_all starts_all all refl))
 
   -- of all, since the stop missed someone
   module _ (j : List (Bit NodeState)) (anew : j ≡ rejoin_from (joins_by ps (states_on new)) 0 new) where
@@ -327,10 +325,9 @@ module _ (k : Rooted) (ps : List PlaceView) (held pulled : Bool) (r : RegisterVi
     anew_known : known_on ps j ≡ j
     anew_known = anew_is_known ps all j anew_all
 
-    pub missed_kept : (h p : Bool) → h ≡ some_one holds_line j → p ≡ some_one (pulls_line node_table) j
-        → AreKept k ps h p now live_new started_new at j
-    missed_kept h p holds pulls =
-        kept_anew k ps h p now live_new started_new at j (rejoined_all j anew_all h p holds pulls) anew_known
+    pub missed_kept : (h : Bool) → h ≡ some_one holds_line j → AreKept k ps h now live_new started_new at j
+    missed_kept h holds =
+        kept_anew k ps h now live_new started_new at j (rejoined_all j anew_all h holds) anew_known
 
     pub missed_seen : map (shared now.left now.value) (whole_on k.board ps (known_on ps j))
         ≡ rejoined (mask_of k.board k.root) (map (where_joined (finish node_table)) (map (shared r.left r.value) (whole_on k.board ps (known_on ps bs))))
@@ -360,12 +357,11 @@ module _ (k : Rooted) (ps : List PlaceView) (held pulled : Bool) (r : RegisterVi
     stop_count : length new ≡ length bs
     stop_count = ap length is ∙ length-numbered (to_those started.items (where_joined (seen Finish))) 0 bs
 
-    pub reached_kept : (h p : Bool) → h ≡ false → p ≡ false → AreKept k ps h p now live_new started_new at new
-    reached_kept h p holds pulls =
+    pub reached_kept : (h : Bool) → h ≡ false → AreKept k ps h now live_new started_new at new
+    reached_kept h holds =
         record {
-          are = rejoined_all (known_on ps new) reached_known h p
-              (holds ∙ sym (some_none holds_line (known_on ps new) (λ n c here. holds_none c (all_out n c here))))
-              (pulls ∙ sym (some_none (pulls_line node_table) (known_on ps new) (λ n c here. pulls_none c (all_out n c here))));
+          are = rejoined_all (known_on ps new) reached_known h
+              (holds ∙ sym (some_none holds_line (known_on ps new) (λ n c here. holds_none c (all_out n c here))));
           in_message = subst (λ (v : NumbersView). AreKnown v.items ps new) (sym (lives ∙ ap (λ t. numbers_of live.room (cond t [] live.items)) reached))
               (λ n b here among. absurd (let e : false ≡ true = among in cc));
           reached = subst (λ (v : NumbersView). AreKnown v.items ps new) (sym (starts ∙ ap (λ t. numbers_of started.room (cond t [] started.items)) reached))

@@ -4,7 +4,7 @@ use Rattle.std.specs.Prelude.{not}
 use Rattle.wire_spec.specs.declared.mode.Mode.{Mode}
 use Rattle.wire_spec.specs.declared.mode.Mode.TheVariants.{Out, In, Answered, Give, Gave}
 use Rattle.wire_spec.specs.Wires.{Site, Bit, site_of, stands, shifted}
-use Rattle.wire_spec.specs.Roots.{where_joined, some_one, pulls_line, at, put_site, acks}
+use Rattle.wire_spec.specs.Roots.{where_joined, some_one, at, put_site, acks}
 use Rattle.wire_spec.specs.Bus.{Bus, bus_of, came_up, holds_line}
 use Rattle.wire_spec.specs.Calls.{released, more_edges, within, sent_byte}
 use Rattle.wire_spec.specs.Laws.{PutsAreEvents}
@@ -18,7 +18,7 @@ use Rattle.bus_lines.specs.LinesViews.{TargetsView, LinesView, lines_of, wire_ni
 use Rattle.bus_lines.specs.Units.{by_number, some_by, to_those, of_those, shared, AreUnits}
 use Rattle.bus_lines.proofs.NumberedLemmas.{some_of_those}
 use Rattle.bus_lines.proofs.AddressLemmas.{seen_each, some_mapped}
-use Rattle.bus_lines.proofs.TargetsLemmas.{seen_alone, all_told, told_holds, told_pulls}
+use Rattle.bus_lines.proofs.TargetsLemmas.{seen_alone, all_told, told_holds}
 
 -- ---- one target
 holds_so : (byte : ℕ) (a : ℕ) (j h : Bool) (x : NodeState) (m : Mode) (k : ℕ)
@@ -30,16 +30,6 @@ holds_so byte a true h x (In false left v) k = refl
 holds_so byte a true h x (Answered begun acked next looks) k = refl
 holds_so byte a true h x (Give left) k = refl
 holds_so byte a true h x (Gave more) k = refl
-
-pulls_so : (byte : ℕ) (a : ℕ) (j h : Bool) (x : NodeState) (m : Mode) (k : ℕ)
-    → pulls_line node_table (where_joined (seen (Put byte)) (stands (site_of a j h x) m k)) ≡ pulls_line node_table (stands (site_of a j h x) m k)
-pulls_so byte a false h x m k = refl
-pulls_so byte a true h x Out k = refl
-pulls_so byte a true h x (In true left v) k = refl
-pulls_so byte a true h x (In false left v) k = refl
-pulls_so byte a true h x (Answered begun acked next looks) k = refl
-pulls_so byte a true h x (Give left) k = refl
-pulls_so byte a true h x (Gave more) k = refl
 
 and_none : (b : Bool) → (b && false) ≡ false
 and_none true = refl
@@ -75,7 +65,7 @@ acks_coming (suc n) v byte bs some =
     some_mapped (acks_put byte) (shared (suc n) v) bs
     (λ b. shared_acks_so n v byte b.site.addr b.site.joined b.site.heard b.site.state b.mode b.hold)
 
--- ---- all of them: who held and pulled before does so still
+-- ---- all of them: who held before does so still
 pub some_kept : (p : Bit NodeState → Bool) (g : Bit NodeState → Bit NodeState) (bs : List (Bit NodeState)) → ((b : Bit NodeState) → p (g b) ≡ p b)
     → some_one p (map g bs) ≡ some_one p bs
 some_kept p g [] same = refl
@@ -92,17 +82,6 @@ module _ (byte : ℕ) (left v : ℕ) (live started : List ℕ) (at : List (List 
       ∙ ap (some_one holds_line) (all_told (Put byte) tt left live started at ps bs none units)
       ∙ some_kept holds_line (where_joined (seen (Put byte))) bs
       (λ b. holds_so byte b.site.addr b.site.joined b.site.heard b.site.state b.mode b.hold))
-
-  pub put_pulls : (new : List (Bit NodeState)) → new ≡ by_number (to_those live (where_joined (seen (Put byte)))) 0 bs
-      → (pulled : Bool) → pulled ≡ some_one (pulls_line node_table) (map (shared left v) bs)
-      → pulled ≡ some_by (of_those live (pulls_line node_table)) 0 new
-  put_pulls new is pulled was =
-      was ∙ ap (some_one (pulls_line node_table)) (seen_alone left v bs none)
-      ∙ sym (ap (some_by (of_those live (pulls_line node_table)) 0) is
-      ∙ told_pulls (Put byte) tt left live started at ps bs none units
-      ∙ ap (some_one (pulls_line node_table)) (all_told (Put byte) tt left live started at ps bs none units)
-      ∙ some_kept (pulls_line node_table) (where_joined (seen (Put byte))) bs
-      (λ b. pulls_so byte b.site.addr b.site.joined b.site.heard b.site.state b.mode b.hold))
 
   -- those that are told are all that acknowledge
   pub put_acks : some_by (of_those live (acks_put byte)) 0 bs ≡ some_one (acks_put byte) (map (shared left v) bs)

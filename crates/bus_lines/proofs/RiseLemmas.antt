@@ -1,13 +1,13 @@
--- Who holds SCL, as the targets are seen. A rise of SCL changes nobody's pull of SDA, and nobody begins to hold SCL at it.
+-- Who holds SCL, as the targets are seen. Nobody begins to hold it at a rise.
 use Rattle.std.proofs.Common.{◌≡◌, ℕ, zero, suc, Bool, true, false, ◌||◌, ◌&&◌, List, [], ◌∷◌, map, refl, sym, ap, ◌∙◌}
 use Rattle.wire_spec.specs.declared.mode.Mode.{Mode}
 use Rattle.wire_spec.specs.declared.mode.Mode.TheVariants.{Out, In, Answered, Give, Gave}
 use Rattle.i2c_base.specs.Board.{BoardView}
 use Rattle.i2c_bits.specs.Wiring.{Rooted}
 use Rattle.wire_spec.specs.Wires.{Bit, site_of, stands, shifted, holds}
-use Rattle.wire_spec.specs.Roots.{where_joined, some_one, pulls_line}
+use Rattle.wire_spec.specs.Roots.{where_joined, some_one}
 use Rattle.wire_spec.specs.Bus.{holds_line}
-use Rattle.wire_spec.specs.Sites.{NodeState, node_table}
+use Rattle.wire_spec.specs.Sites.{NodeState}
 use Rattle.bus_lines.specs.declared.edges.Edge.TheVariants.{Rise}
 use Rattle.bus_lines.specs.Away.{whole_on}
 use Rattle.bus_lines.specs.Edges.{seen}
@@ -16,17 +16,17 @@ use Rattle.bus_lines.specs.LinesViews.{AreTargets}
 use Rattle.bus_lines.specs.Numbers.{NumbersView}
 use Rattle.bus_lines.specs.Units.{RegisterView, by_number, some_by, to_those, of_those, shared, AreUnits}
 use Rattle.bus_lines.proofs.AwayLemmas.{units_away, whole_some}
-use Rattle.bus_lines.proofs.TargetsLemmas.{seen_alone, all_told, told_holds, told_pulls}
-use Rattle.bus_lines.proofs.UnitLemmas.{address_holds, address_pulls}
+use Rattle.bus_lines.proofs.TargetsLemmas.{seen_alone, all_told, told_holds}
+use Rattle.bus_lines.proofs.UnitLemmas.{address_holds}
 
 -- ---- who holds SCL
 nobody : (b : Bit NodeState) → b.site.joined ≡ false → holds_line b ≡ false
 nobody b apart = ap (λ j. j && holds b) apart
 
-pub held_as : (b : BoardView) (k : Rooted) (ps : List PlaceView) (held pulled : Bool) (r : RegisterView) (live started : NumbersView)
-    (at : List (List ℕ)) (bs : List (Bit NodeState)) → AreTargets k ps held pulled r live started at bs
+pub held_as : (b : BoardView) (k : Rooted) (ps : List PlaceView) (held : Bool) (r : RegisterView) (live started : NumbersView)
+    (at : List (List ℕ)) (bs : List (Bit NodeState)) → AreTargets k ps held r live started at bs
     → held ≡ some_one holds_line (map (shared r.left r.value) (whole_on b ps bs))
-held_as b k ps held pulled r live started at bs are =
+held_as b k ps held r live started at bs are =
     are.clock ∙ whole_some b ps holds_line nobody r.left r.value bs (units_away ps r.left live.items started.items at bs are.units)
 
 -- ---- one target
@@ -43,19 +43,6 @@ holds_so level a true h x (Give zero) k free = refl
 holds_so level a true h x (Give (suc n)) k free = free
 holds_so level a true h x (Gave more) k free = free
 
-pulls_so : (level : Bool) (a : ℕ) (j h : Bool) (x : NodeState) (m : Mode) (k : ℕ)
-    → pulls_line node_table (where_joined (seen (Rise level)) (stands (site_of a j h x) m k)) ≡ pulls_line node_table (stands (site_of a j h x) m k)
-pulls_so level a false h x m k = refl
-pulls_so level a true h x Out k = refl
-pulls_so level a true h x (In address zero v) k = refl
-pulls_so level a true h x (In true (suc zero) v) k = address_pulls (shifted v level) (stands (site_of a true h x) Out 0)
-pulls_so level a true h x (In false (suc zero) v) k = refl
-pulls_so level a true h x (In address (suc (suc n)) v) k = refl
-pulls_so level a true h x (Answered begun acked next looks) k = refl
-pulls_so level a true h x (Give zero) k = refl
-pulls_so level a true h x (Give (suc n)) k = refl
-pulls_so level a true h x (Gave more) k = refl
-
 -- ---- all of them
 or_parts : (a b : Bool) → (a || b) ≡ false → (a ≡ false) × (b ≡ false)
 or_parts true b is = cc
@@ -68,13 +55,7 @@ rises_hold level (b ∷ bs) free =
     let parts = or_parts (holds_line b) (some_one holds_line bs) free in
     rw (holds_so level b.site.addr b.site.joined b.site.heard b.site.state b.mode b.hold parts.0, rises_hold level bs parts.1) refl
 
-rises_pull : (level : Bool) (bs : List (Bit NodeState))
-    → some_one (pulls_line node_table) (map (where_joined (seen (Rise level))) bs) ≡ some_one (pulls_line node_table) bs
-rises_pull level [] = refl
-rises_pull level (b ∷ bs) =
-    rw (pulls_so level b.site.addr b.site.joined b.site.heard b.site.state b.mode b.hold, rises_pull level bs) refl
-
--- ---- those that are told: who held and pulled before does so still
+-- ---- those that are told: who held before does so still
 module _ (level : Bool) (left v : ℕ) (live started : List ℕ) (at : List (List ℕ)) (ps : List PlaceView) (bs new : List (Bit NodeState))
     (none : left ≡ 0) (units : AreUnits left live started at (joins_by ps (states_on bs)) bs)
     (is : new ≡ by_number (to_those live (where_joined (seen (Rise level)))) 0 bs) where
@@ -86,12 +67,3 @@ module _ (level : Bool) (left v : ℕ) (live started : List ℕ) (at : List (Lis
       ∙ told_holds (Rise level) tt left live started at ps bs none units
       ∙ ap (some_one holds_line) (all_told (Rise level) tt left live started at ps bs none units)
       ∙ rises_hold level bs (ap (some_one holds_line) (sym (seen_alone left v bs none)) ∙ sym was ∙ free))
-
-  pub risen_pulls : (pulled : Bool) → pulled ≡ some_one (pulls_line node_table) (map (shared left v) bs)
-      → pulled ≡ some_by (of_those live (pulls_line node_table)) 0 new
-  risen_pulls pulled was =
-      was ∙ ap (some_one (pulls_line node_table)) (seen_alone left v bs none)
-      ∙ sym (ap (some_by (of_those live (pulls_line node_table)) 0) is
-      ∙ told_pulls (Rise level) tt left live started at ps bs none units
-      ∙ ap (some_one (pulls_line node_table)) (all_told (Rise level) tt left live started at ps bs none units)
-      ∙ rises_pull level bs)

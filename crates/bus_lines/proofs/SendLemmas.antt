@@ -10,7 +10,6 @@ use Rattle.bus_lines.specs.contracts.place.Place as Place
 use Rattle.bus_lines.specs.contracts.index.Index as Index
 use Rattle.bus_lines.specs.contracts.numbers.Numbers as Numbers
 use Rattle.bus_lines.specs.contracts.register.Register as Register
-use Rattle.bus_lines.specs.contracts.edges.Pulls as Pulls
 use Rattle.bus_lines.specs.contracts.tally.Tally as Tally
 use Rattle.bus_lines.specs.contracts.counter.Counter as Counter
 use Rattle.bus_lines.specs.contracts.wire_state.WireState as WireState
@@ -35,9 +34,6 @@ numbers-send = search (crosses, sendable) depth 20
 register-send : IsSend (Register.the_field).row
 register-send = search (crosses, sendable) depth 20
 
-pulls-send : IsSend (Pulls.the_field).row
-pulls-send = search (crosses, sendable) depth 20
-
 tally-send : IsSend (Tally.the_field).row
 tally-send = search (crosses, sendable) depth 20
 
@@ -49,7 +45,7 @@ wire-send = search (crosses, sendable) depth 20
 
 targets-send : IsSend (RootTargets.the_field).row
 targets-send =
-    search (crosses, sendable, target-send, node-send, place-send, index-send, numbers-send, register-send, pulls-send, counter-send) depth 40 fits 100000
+    search (crosses, sendable, target-send, node-send, place-send, index-send, numbers-send, register-send, counter-send) depth 40 fits 100000
 
 pub lines-send : IsSend (BusLines.the_field).row
 lines-send = search (crosses, sendable, targets-send, wire-send) depth 20

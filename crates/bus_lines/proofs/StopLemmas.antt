@@ -2,6 +2,7 @@
 use Rattle.std.proofs.Common.{◌≡◌, ℕ, zero, suc, ◌+◌, ◌==◌, ◌<◌, Bool, true, false, ◌||◌, cond, List, [], ◌∷◌, length, map, get_or, Option, Some, None, refl, sym, ap, ◌∙◌, subst, ◌⊎◌, inl, inr, arith}
 use Rattle.std.specs.Prelude.{not, slice_get, if◌then◌else◌}
 use Rattle.std.specs.List.{list_all, list_any}
+use Rattle.std.specs.Option.{option_map_or}
 use Rattle.std.proofs.lemmas.Option.{slice_get_within}
 use Rattle.i2c_base.proofs.ListLemmas.{map_from}
 use Rattle.i2c_base.specs.Muxes.{facts_of}
@@ -9,7 +10,7 @@ use Rattle.i2c_spec.specs.Chips.{ChipView, at_level, stopped, arbitrated, is_fre
 use Rattle.i2c_spec.specs.Targets.{IsQuiet, IsFairTable}
 use Rattle.wire_spec.specs.declared.mode.Mode.TheVariants.{In}
 use Rattle.wire_spec.specs.Wires.{Bit, stands, finish}
-use Rattle.wire_spec.specs.Roots.{where_joined}
+use Rattle.wire_spec.specs.Roots.{where_joined, some_one}
 use Rattle.wire_spec.specs.Bus.{rejoin_from}
 use Rattle.wire_spec.specs.Calls.{released}
 use Rattle.wire_spec.specs.Sites.{NodeState, Chip, Device, NO_ADDRESS, node_table}
@@ -20,7 +21,7 @@ use Rattle.bus_lines.specs.Joins.{PlaceView, is_chip, states_on, joins_by, read_
 use Rattle.bus_lines.specs.Numbers.{is_among}
 use Rattle.bus_lines.specs.Units.{by_number, to_those, shared, IsCalm, IsUnit, AreUnits}
 use Rattle.bus_lines.proofs.KindLemmas.{finish_kind, states_numbered}
-use Rattle.bus_lines.proofs.NumberedLemmas.{map_itself, at_number}
+use Rattle.bus_lines.proofs.NumberedLemmas.{map_itself, at_number, some_none}
 use Rattle.bus_lines.proofs.UnitLemmas.{done_all, calm_stops, shared_finishes}
 use Rattle.bus_lines.proofs.TargetsLemmas.{stays_out, stays_calm}
 use Rattle.bus_lines.proofs.AddressLemmas.{seen_numbered, all_have, joined_here, cleared, or_false, same_of}
@@ -97,6 +98,46 @@ none_has p [] none k among = absurd (let e : false ≡ true = among in cc)
 none_has p (n ∷ ns) none k among =
     let both = or_false (p n) (list_any p ns) none in
     none_step p n k ns (k == n) refl both.0 (none_has p ns both.1 k) among
+
+-- what is so of one of some numbers is so of someone, and of nobody else where it is so of no other
+or_left : (a b : Bool) → a ≡ true → (a || b) ≡ true
+or_left true b is = refl
+or_left false b is = absurd (let e : false ≡ true = is in cc)
+
+or_right : (a b : Bool) → b ≡ true → (a || b) ≡ true
+or_right true b is = refl
+or_right false b is = is
+
+some_at : {A : Type 0} (p : A → Bool) (xs : List A) (n : ℕ) → option_map_or p (slice_get xs n) false ≡ true → some_one p xs ≡ true
+some_at p [] zero is = absurd (let e : false ≡ true = is in cc)
+some_at p [] (suc n) is = absurd (let e : false ≡ true = is in cc)
+some_at p (x ∷ xs) zero is = or_left (p x) (some_one p xs) is
+some_at p (x ∷ xs) (suc n) is = or_right (p x) (some_one p xs) (some_at p xs n is)
+
+module _ {A : Type 0} (p : A → Bool) (xs : List A) where
+  abbrev p_at : ℕ → Bool
+  p_at k = option_map_or p (slice_get xs k) false
+
+  any_step : (n : ℕ) (ns : List ℕ) (here : Bool) → p_at n ≡ here → (here || list_any p_at ns) ≡ true
+      → (list_any p_at ns ≡ true → some_one p xs ≡ true) → some_one p xs ≡ true
+  any_step n ns true here is rest = some_at p xs n here
+  any_step n ns false here is rest = rest is
+
+  any_at : (ns : List ℕ) → list_any p_at ns ≡ true → some_one p xs ≡ true
+  any_at [] is = absurd (let e : false ≡ true = is in cc)
+  any_at (n ∷ ns) is = any_step n ns (p_at n) refl is (any_at ns)
+
+  module _ (ns : List ℕ) (out : (i : ℕ) (x : A) → slice_get xs i ≡ Some x → is_among ns i ≡ false → p x ≡ false) where
+    none_at : list_any p_at ns ≡ false → (i : ℕ) (x : A) → slice_get xs i ≡ Some x → (among : Bool) → is_among ns i ≡ among → p x ≡ false
+    none_at none i x here true among = ap (λ o. option_map_or p o false) (sym here) ∙ none_has p_at ns none i among
+    none_at none i x here false among = out i x here among
+
+    any_either : (t : Bool) → list_any p_at ns ≡ t → list_any p_at ns ≡ some_one p xs
+    any_either true is = is ∙ sym (any_at ns is)
+    any_either false is = is ∙ sym (some_none p xs (λ i x here. none_at is i x here (is_among ns i) refl))
+
+    pub any_of_those : list_any p_at ns ≡ some_one p xs
+    any_of_those = any_either (list_any p_at ns) refl
 
 module _ (fair : IsFairTable node_table) (left v : ℕ) (live started : List ℕ) (at : List (List ℕ)) (ps : List PlaceView) (bs : List (Bit NodeState))
     (units : AreUnits left live started at (joins_by ps (states_on bs)) bs) where

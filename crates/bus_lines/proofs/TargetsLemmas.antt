@@ -2,7 +2,7 @@
 use Rattle.std.proofs.Common.{◌≡◌, ℕ, zero, suc, ◌==◌, Bool, true, false, cond, List, map, Some, refl, sym, ap, ◌∙◌, subst, arith}
 use Rattle.std.specs.Prelude.{slice_get}
 use Rattle.wire_spec.specs.Wires.{Bit}
-use Rattle.wire_spec.specs.Roots.{where_joined, some_one, pulls_line}
+use Rattle.wire_spec.specs.Roots.{where_joined, some_one}
 use Rattle.wire_spec.specs.Bus.{holds_line}
 use Rattle.wire_spec.specs.Calls.{released}
 use Rattle.wire_spec.specs.Sites.{NodeState, node_table}
@@ -120,6 +120,3 @@ module _ (e : Edge) (within : IsWithin e) (left : ℕ) (live started : List ℕ)
 
   pub told_holds : some_by (of_those live holds_line) 0 (by_number told_to 0 bs) ≡ some_one holds_line (by_number told_to 0 bs)
   told_holds = some_of_those live holds_line (by_number told_to 0 bs) (λ k b is out. holds_none b ((told_units k b is).out out))
-
-  pub told_pulls : some_by (of_those live (pulls_line node_table)) 0 (by_number told_to 0 bs) ≡ some_one (pulls_line node_table) (by_number told_to 0 bs)
-  told_pulls = some_of_those live (pulls_line node_table) (by_number told_to 0 bs) (λ k b is out. pulls_none b ((told_units k b is).out out))

@@ -177,29 +177,16 @@ and_none : (b : Bool) → (b && false) ≡ false
 and_none true = refl
 and_none false = refl
 
--- what an address byte leaves pulls neither line while SCL is high
+-- what an address byte leaves holds no line while SCL is high
 either_holds : (d : Bool) (byte : ℕ) (s : Site NodeState)
     → holds_line (cond d (called node_table s (is_reading byte)) (stands (other node_table s) Out 0)) ≡ false
 either_holds true byte s = and_none s.joined
 either_holds false byte s = and_none s.joined
-
-either_pulls : (d : Bool) (byte : ℕ) (s : Site NodeState)
-    → pulls_line node_table (cond d (called node_table s (is_reading byte)) (stands (other node_table s) Out 0)) ≡ false
-either_pulls true byte s = and_none s.joined
-either_pulls false byte s = and_none s.joined
 
 address_holds_so : (byte : ℕ) (a : ℕ) (j h : Bool) (x : NodeState) (m : Mode) (k : ℕ)
     → holds_line (where_joined (seen (Address byte)) (stands (site_of a j h x) m k)) ≡ false
 address_holds_so byte a true h x m k = either_holds (is_named byte (site_of a true h x)) byte (site_of a true h x)
 address_holds_so byte a false h x m k = refl
 
-address_pulls_so : (byte : ℕ) (a : ℕ) (j h : Bool) (x : NodeState) (m : Mode) (k : ℕ)
-    → pulls_line node_table (where_joined (seen (Address byte)) (stands (site_of a j h x) m k)) ≡ false
-address_pulls_so byte a true h x m k = either_pulls (is_named byte (site_of a true h x)) byte (site_of a true h x)
-address_pulls_so byte a false h x m k = refl
-
 pub address_holds : (byte : ℕ) (b : Bit NodeState) → holds_line (where_joined (seen (Address byte)) b) ≡ false
 address_holds byte b = address_holds_so byte b.site.addr b.site.joined b.site.heard b.site.state b.mode b.hold
-
-pub address_pulls : (byte : ℕ) (b : Bit NodeState) → pulls_line node_table (where_joined (seen (Address byte)) b) ≡ false
-address_pulls byte b = address_pulls_so byte b.site.addr b.site.joined b.site.heard b.site.state b.mode b.hold

@@ -2,12 +2,14 @@
 use Rattle.std.specs.Prelude.{ℕ, Bool, true, List, cond, slice_get, false, ◌&&◌}
 use Rattle.std.specs.Option.{option_map_or}
 use Rattle.i2c_base.specs.declared.event.Event.TheVariants as event
+use Rattle.i2c_base.specs.declared.event.Answer.{Answer}
+use Rattle.i2c_base.specs.declared.event.Answer.TheVariants as answer
 use Rattle.i2c_spec.specs.World.{is_ack}
 use Rattle.wire_spec.specs.declared.mode.Mode.{Mode}
 use Rattle.wire_spec.specs.declared.mode.Mode.TheVariants as mode
 use Rattle.wire_spec.specs.Wires.{Bit, rise, fall, tick, finish, is_named, named, puts, gets, stands, entered}
 use Rattle.i2c_spec.specs.Regs.{is_too_long}
-use Rattle.wire_spec.specs.Roots.{at}
+use Rattle.wire_spec.specs.Roots.{at, pulls_line}
 use Rattle.wire_spec.specs.Started.{started, entered_by}
 use Rattle.wire_spec.specs.Calls.{released}
 use Rattle.wire_spec.specs.Sites.{NodeState, node_table}
@@ -42,6 +44,14 @@ get_in ack b (mode.In address left v) = b
 get_in ack b (mode.Answered begun acked next looks) = b
 get_in ack b (mode.Give left) = stands (gets node_table b.site ack) (cond ack (mode.Give 8) mode.Out) b.hold
 get_in ack b (mode.Gave more) = b
+
+-- the byte of an answer, and all ones where it has none
+abbrev pub byte_or_ones : Answer → ℕ
+byte_or_ones answer.Ack = 255
+byte_or_ones answer.Nack = 255
+byte_or_ones answer.Slow = 255
+byte_or_ones (answer.Byte byte) = byte
+byte_or_ones answer.Nothing = 255
 
 -- and what such a target gives: all ones where it is none
 abbrev pub gives_in : Bit NodeState → Mode → ℕ
@@ -81,6 +91,10 @@ address_in byte b = at (entered_by byte) (started node_table byte b.site)
 abbrev pub slow_at : List (Bit NodeState) → ℕ → Bool
 slow_at bs k =
     option_map_or (λ (b : Bit NodeState). b.site.joined && is_too_long (node_table.hold b.site.state)) (slice_get bs k) false
+
+-- the target of this number pulls SDA
+abbrev pub pulls_at : List (Bit NodeState) → ℕ → Bool
+pulls_at bs k = option_map_or (pulls_line node_table) (slice_get bs k) false
 
 abbrev pub seen : Edge → Bit NodeState → Bit NodeState
 seen (Rise level) b = rise node_table b level

@@ -32,9 +32,9 @@ AreKnown ns ps bs = (k : ℕ) (b : Bit NodeState) → slice_get bs k ≡ Some b 
 
 -- the targets of a root as they are kept: once it is known of all who is joined they are as the lists of numbers say, and it is
 -- kept of those that are in the message, and of those that it has reached
-pub record AreKept (k : Rooted) (ps : List PlaceView) (held pulled : Bool) (address : RegisterView) (live started : NumbersView)
+pub record AreKept (k : Rooted) (ps : List PlaceView) (held : Bool) (address : RegisterView) (live started : NumbersView)
     (at : List (List ℕ)) (bs : List (Bit NodeState)) : Type 0 where
-  pub are : AreTargets k ps held pulled address live started at (known_on ps bs)
+  pub are : AreTargets k ps held address live started at (known_on ps bs)
   pub in_message : AreKnown live.items ps bs
   pub reached : AreKnown started.items ps bs
   pub live_room : live.room ≡ length bs

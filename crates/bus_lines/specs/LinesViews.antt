@@ -23,14 +23,13 @@ pub record TargetsView : Type 0 where
 abbrev pub targets_of : Rooted → List (Bit NodeState) → Counts → TargetsView
 targets_of k bs c = record { rooted = k; bits = bs; counts = c }
 
--- the chips of all muxes of the board and then its devices, with the places of each, and who of them pulls the lines. Each is as
+-- the chips of all muxes of the board and then its devices, with the places of each, and whether one of them holds SCL. Each is as
 -- the lists of numbers say, and as it is seen with what has come of an address byte
-pub record AreTargets (k : Rooted) (ps : List PlaceView) (held pulled : Bool) (address : RegisterView) (live started : NumbersView)
+pub record AreTargets (k : Rooted) (ps : List PlaceView) (held : Bool) (address : RegisterView) (live started : NumbersView)
     (at : List (List ℕ)) (bs : List (Bit NodeState)) : Type 0 where
   pub places : ps ≡ places_of k.board k.root
   pub kinds : map is_chip (states_on bs) ≡ kinds_of k.board
   pub clock : held ≡ some_one holds_line (map (shared address.left address.value) bs)
-  pub data_low : pulled ≡ some_one (pulls_line node_table) (map (shared address.left address.value) bs)
   pub units : AreUnits address.left live.items started.items at (joins_by ps (states_on bs)) bs
   pub live_room : live.room ≡ length bs
   pub started_room : started.room ≡ length bs

@@ -1,19 +1,18 @@
 //! The edges of the lines, as those targets see them that they are told to.
 ghost use Rattle.std.specs.Prelude.{◌≡◌, ◌||◌, false, length};
 ghost use Rattle.std.specs.List.{list_all, list_any};
-ghost use Rattle.wire_spec.specs.Roots.{pulls_line, where_joined};
+ghost use Rattle.wire_spec.specs.Roots.{where_joined};
 ghost use Rattle.wire_spec.specs.Bus.{holds_line};
 ghost use Rattle.wire_spec.specs.Wires.{entered};
 ghost use Rattle.wire_spec.specs.Calls.{released};
-ghost use Rattle.wire_spec.specs.Sites.{node_table};
-ghost use Rattle.bus_lines.specs.Edges.{seen, acks_in, acks_put, gives_in, gives_get, acked_in, acks_enter, slow_at, joined_at};
+ghost use Rattle.bus_lines.specs.Edges.{seen, acks_in, acks_put, byte_or_ones, gives_in, gives_get, acked_in, acks_enter, pulls_at, slow_at, joined_at};
 ghost use Rattle.bus_lines.specs.Numbers.{AreNumbers};
 ghost use Rattle.bus_lines.specs.Units.{by_number, some_by, and_by, to_those, of_those, given_by};
 ghost use Rattle.bus_lines.specs.declared.edges.Edge.TheVariants as the;
 
 use crate::Node;
 use i2c_base::{Answer, Event, MOST_LOOKS, Target};
-use tgt_bits::{BitTarget, Wired};
+use tgt_bits::{BitTarget, Wired, wired_targets_are_fair};
 use wire_spec::{Mode, Next};
 
 /// A byte has so many bits (UM10204 section 3.1.5).
@@ -42,28 +41,6 @@ pub enum Edge {
     Get(bool),
     /// The acknowledge clock of an address, as a whole.
     Enter,
-}
-
-/// Who pulls the lines.
-#[derive(Clone, Copy)]
-pub struct Pulls {
-    /// Someone holds SCL low.
-    pub clock: bool,
-    /// Someone pulls SDA low.
-    pub data: bool,
-}
-
-impl Pulls {
-    /// Nobody pulls them.
-    pub fn none() -> Self
-        ensures clock { result.clock ≡ false }
-        ensures data { result.data ≡ false }
-    {
-        Pulls {
-            clock: false,
-            data: false,
-        }
-    }
 }
 
 /// A target sees an edge, where it is joined.
@@ -168,48 +145,53 @@ fn see_other(target: &mut BitTarget<Node>, byte: u8)
     }
 }
 
-/// Who pulls the lines: this target, where it is joined, or one of the others.
+/// Someone holds SCL low: this target, where it is joined, or one of the others.
 #[inline(always)]
-pub fn pulls_with(target: &BitTarget<Node>, others: Pulls) -> Pulls
-    ensures clock { result.clock ≡ (holds_line target.now || others.clock) }
-    ensures data { result.data ≡ (pulls_line node_table target.now || others.data) }
+pub fn holds_with(target: &BitTarget<Node>, others: bool) -> bool
+    ensures { result ≡ (holds_line target.now || others) }
 {
-    Pulls {
-        clock: (target.joined && target.holds_clock()) || others.clock,
-        data: (target.joined && target.pulls_data()) || others.data,
-    }
+    (target.joined && target.holds_clock()) || others
 }
 
-/// Those targets see an edge that have these numbers, where they are joined, and no other is touched. Who of them pulls the lines
-/// then.
+/// Those targets see an edge that have these numbers, where they are joined, and no other is touched. Whether one of them holds SCL
+/// low then.
 #[inline(always)]
-pub fn tell(targets: &mut Vec<BitTarget<Node>>, numbers: &[u16], edge: Edge) -> Pulls
+pub fn tell(targets: &mut Vec<BitTarget<Node>>, numbers: &[u16], edge: Edge) -> bool
     requires { AreNumbers (length targets.old.items) numbers.now }
     ensures targets { targets.new.items ≡ by_number (to_those numbers.now (where_joined (seen edge))) 0 targets.old.items }
-    ensures clock { result.clock ≡ some_by (of_those numbers.now holds_line) 0 targets.new.items }
-    ensures data { result.data ≡ some_by (of_those numbers.now (pulls_line node_table)) 0 targets.new.items }
+    ensures held { result ≡ some_by (of_those numbers.now holds_line) 0 targets.new.items }
 {
     tell_each(targets, numbers, edge)
 }
 
 /// The same of a slice.
 #[inline(always)]
-fn tell_each(targets: &mut [BitTarget<Node>], numbers: &[u16], edge: Edge) -> Pulls
+fn tell_each(targets: &mut [BitTarget<Node>], numbers: &[u16], edge: Edge) -> bool
     requires { AreNumbers (length targets.old) numbers.now }
     ensures targets { targets.new ≡ by_number (to_those numbers.now (where_joined (seen edge))) 0 targets.old }
-    ensures clock { result.clock ≡ some_by (of_those numbers.now holds_line) 0 targets.new }
-    ensures data { result.data ≡ some_by (of_those numbers.now (pulls_line node_table)) 0 targets.new }
+    ensures held { result ≡ some_by (of_those numbers.now holds_line) 0 targets.new }
 {
-    let mut pulls = Pulls::none();
+    let mut held = false;
     for number in numbers {
         let number = usize::from(*number);
         let is_there = number < targets.len();
         prove!(is_there);
         let target = &mut targets[number];
         see(target, edge);
-        pulls = pulls_with(target, pulls);
+        held = holds_with(target, held);
     }
-    pulls
+    held
+}
+
+/// The byte of an answer, and all ones where it has none.
+#[inline(always)]
+fn byte_of(answer: Answer) -> u8
+    ensures { result ≡ byte_or_ones answer }
+{
+    match answer {
+        Answer::Byte(byte) => byte,
+        Answer::Ack | Answer::Nack | Answer::Slow | Answer::Nothing => 0xff,
+    }
 }
 
 /// A byte is read with the controller's answer. What the target gives: all ones where it doesn't send.
@@ -220,14 +202,13 @@ fn get_in(target: &mut BitTarget<Node>, ack: bool) -> u8
 {
     match target.mode {
         Mode::Give { .. } => {
-            let byte = target.target.sends();
-            target.target.on(Event::Get { ack });
+            wired_targets_are_fair::<Node>();
             target.mode = if ack {
                 Mode::Give { left: BITS }
             } else {
                 Mode::Out
             };
-            byte
+            byte_of(target.target.on(Event::Get { ack }))
         }
         Mode::In { .. } | Mode::Out | Mode::Answered { .. } | Mode::Gave { .. } => 0xff,
     }
@@ -246,53 +227,33 @@ fn get(target: &mut BitTarget<Node>, ack: bool) -> u8
     }
 }
 
-/// This target pulls SDA, where it is joined, or one of the others.
+/// A byte is read with the controller's answer from those that have these numbers, where they are joined, and from no other. The AND
+/// of what they give.
 #[inline(always)]
-fn pulls_data_with(target: &BitTarget<Node>, others: bool) -> bool
-    ensures { result ≡ (pulls_line node_table target.now || others) }
-{
-    (target.joined && target.pulls_data()) || others
-}
-
-/// What is read of those that send.
-#[derive(Clone, Copy)]
-pub struct Given {
-    /// The AND of their bytes.
-    pub byte: u8,
-    /// Someone pulls SDA low then.
-    pub data: bool,
-}
-
-/// A byte is read with the controller's answer from those that have these numbers, where they are joined, and from no other.
-#[inline(always)]
-pub fn get_all(targets: &mut Vec<BitTarget<Node>>, numbers: &[u16], ack: bool) -> Given
+pub fn get_all(targets: &mut Vec<BitTarget<Node>>, numbers: &[u16], ack: bool) -> u8
     requires { AreNumbers (length targets.old.items) numbers.now }
     ensures targets { targets.new.items ≡ by_number (to_those numbers.now (where_joined (seen (the.Get ack)))) 0 targets.old.items }
-    ensures byte { result.byte ≡ and_by (given_by numbers.now gives_get) 0 targets.old.items }
-    ensures data { result.data ≡ some_by (of_those numbers.now (pulls_line node_table)) 0 targets.new.items }
+    ensures byte { result ≡ and_by (given_by numbers.now gives_get) 0 targets.old.items }
 {
     get_each(targets, numbers, ack)
 }
 
 /// The same of a slice.
 #[inline(always)]
-fn get_each(targets: &mut [BitTarget<Node>], numbers: &[u16], ack: bool) -> Given
+fn get_each(targets: &mut [BitTarget<Node>], numbers: &[u16], ack: bool) -> u8
     requires { AreNumbers (length targets.old) numbers.now }
     ensures targets { targets.new ≡ by_number (to_those numbers.now (where_joined (seen (the.Get ack)))) 0 targets.old }
-    ensures byte { result.byte ≡ and_by (given_by numbers.now gives_get) 0 targets.old }
-    ensures data { result.data ≡ some_by (of_those numbers.now (pulls_line node_table)) 0 targets.new }
+    ensures byte { result ≡ and_by (given_by numbers.now gives_get) 0 targets.old }
 {
     let mut byte: u8 = 0xff;
-    let mut data = false;
     for number in numbers {
         let number = usize::from(*number);
         let is_there = number < targets.len();
         prove!(is_there);
         let target = &mut targets[number];
         byte &= get(target, ack);
-        data = pulls_data_with(target, data);
     }
-    Given { byte, data }
+    byte
 }
 
 // What follows the acknowledge clock.
@@ -336,45 +297,50 @@ fn enter(target: &mut BitTarget<Node>, others: bool) -> bool
     (target.joined && enter_in(target)) || others
 }
 
-/// Who pulls SDA in the acknowledge clock of an address, and behind it.
-#[derive(Clone, Copy)]
-pub struct Entered {
-    /// Someone does so in it.
-    pub acked: bool,
-    /// Someone does so then, for the first bit of a byte.
-    pub data: bool,
-}
-
-/// The acknowledge clock of an address, as a whole, for those that have these numbers, where they are joined, and for no other.
+/// The acknowledge clock of an address, as a whole, for those that have these numbers, where they are joined, and for no other. Whether
+/// one of them pulls SDA in it.
 #[inline(always)]
-pub fn enter_all(targets: &mut Vec<BitTarget<Node>>, numbers: &[u16]) -> Entered
+pub fn enter_all(targets: &mut Vec<BitTarget<Node>>, numbers: &[u16]) -> bool
     requires { AreNumbers (length targets.old.items) numbers.now }
     ensures targets { targets.new.items ≡ by_number (to_those numbers.now (where_joined (seen the.Enter))) 0 targets.old.items }
-    ensures acked { result.acked ≡ some_by (of_those numbers.now acks_enter) 0 targets.old.items }
-    ensures data { result.data ≡ some_by (of_those numbers.now (pulls_line node_table)) 0 targets.new.items }
+    ensures acked { result ≡ some_by (of_those numbers.now acks_enter) 0 targets.old.items }
 {
     enter_each(targets, numbers)
 }
 
 /// The same of a slice.
 #[inline(always)]
-fn enter_each(targets: &mut [BitTarget<Node>], numbers: &[u16]) -> Entered
+fn enter_each(targets: &mut [BitTarget<Node>], numbers: &[u16]) -> bool
     requires { AreNumbers (length targets.old) numbers.now }
     ensures targets { targets.new ≡ by_number (to_those numbers.now (where_joined (seen the.Enter))) 0 targets.old }
-    ensures acked { result.acked ≡ some_by (of_those numbers.now acks_enter) 0 targets.old }
-    ensures data { result.data ≡ some_by (of_those numbers.now (pulls_line node_table)) 0 targets.new }
+    ensures acked { result ≡ some_by (of_those numbers.now acks_enter) 0 targets.old }
 {
     let mut acked = false;
-    let mut data = false;
     for number in numbers {
         let number = usize::from(*number);
         let is_there = number < targets.len();
         prove!(is_there);
         let target = &mut targets[number];
         acked = enter(target, acked);
-        data = pulls_data_with(target, data);
     }
-    Entered { acked, data }
+    acked
+}
+
+/// The target of this number is joined, and pulls SDA low.
+fn pulls_at(targets: &[BitTarget<Node>], number: u16) -> bool
+    ensures { result ≡ pulls_at targets.now number }
+{
+    match targets.get(usize::from(number)) {
+        Some(target) => target.joined && target.pulls_data(),
+        None => false,
+    }
+}
+
+/// One of these does.
+pub fn some_pulls(targets: &[BitTarget<Node>], numbers: &[u16]) -> bool
+    ensures { result ≡ list_any (pulls_at targets.now) numbers.now }
+{
+    numbers.iter().any(|number| pulls_at(targets, *number))
 }
 
 /// The target of this number is joined, and would hold the clock at its address for too long.

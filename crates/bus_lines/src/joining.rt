@@ -1,8 +1,7 @@
 //! Who is joined to the wires.
 ghost use Rattle.std.specs.Prelude.{◌≡◌, length};
-ghost use Rattle.wire_spec.specs.Roots.{some_one, pulls_line};
+ghost use Rattle.wire_spec.specs.Roots.{some_one};
 ghost use Rattle.wire_spec.specs.Bus.{holds_line, rejoin_from};
-ghost use Rattle.wire_spec.specs.Sites.{node_table};
 ghost use Rattle.bus_lines.specs.Joins.{at_node_level, joins_by, read_anew, states_on};
 ghost use Rattle.bus_lines.specs.Known.{known, known_of, known_on};
 ghost use Rattle.bus_lines.specs.Numbers.{AreNumbers};
@@ -10,7 +9,7 @@ ghost use Rattle.bus_lines.specs.Units.{by_number};
 ghost use Rattle.i2c_bits.specs.Wiring.{levelled_bits};
 
 use crate::Node;
-use crate::edges::{Pulls, pulls_with};
+use crate::edges::holds_with;
 use crate::place::Place;
 use i2c_base::MuxId;
 use tgt_bits::BitTarget;
@@ -83,34 +82,29 @@ fn set_joined(target: &mut BitTarget<Node>, joined: bool)
     target.heard = false;
 }
 
-/// Who is joined is read anew from the states of all targets, and nobody is in a message. Who pulls the lines then.
-pub fn rejoin(targets: &mut Vec<BitTarget<Node>>, places: &[Place]) -> Pulls
+/// Who is joined is read anew from the states of all targets, and nobody is in a message. Whether someone holds SCL low then.
+pub fn rejoin(targets: &mut Vec<BitTarget<Node>>, places: &[Place]) -> bool
     ensures targets { targets.new.items ≡ rejoin_from (joins_by places.now (states_on targets.old.items)) 0 targets.old.items }
-    ensures clock { result.clock ≡ some_one holds_line targets.new.items }
-    ensures data { result.data ≡ some_one (pulls_line node_table) targets.new.items }
+    ensures held { result ≡ some_one holds_line targets.new.items }
 {
     rejoin_each(targets, places)
 }
 
 /// The same of a slice. It goes from the last one back.
-fn rejoin_each(targets: &mut [BitTarget<Node>], places: &[Place]) -> Pulls
+fn rejoin_each(targets: &mut [BitTarget<Node>], places: &[Place]) -> bool
     ensures targets { targets.new ≡ rejoin_from (joins_by places.now (states_on targets.old)) 0 targets.old }
-    ensures clock { result.clock ≡ some_one holds_line targets.new }
-    ensures data { result.data ≡ some_one (pulls_line node_table) targets.new }
+    ensures held { result ≡ some_one holds_line targets.new }
 {
-    let mut pulls = Pulls {
-        clock: false,
-        data: false,
-    };
+    let mut held = false;
     let mut left = targets.len();
     while left > 0 {
         left -= 1;
         let joined = joins_by(places, targets, left);
         let target = &mut targets[left];
         set_joined(target, joined);
-        pulls = pulls_with(target, pulls);
+        held = holds_with(target, held);
     }
-    pulls
+    held
 }
 
 /// The line of the mux of this number is set to a level, where it is one.

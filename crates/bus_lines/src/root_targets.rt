@@ -14,7 +14,7 @@ ghost use Rattle.bus_lines.specs.LinesViews.{IsAddressed, edge_if};
 ghost use Rattle.bus_lines.specs.Opens.{opened_targets};
 
 use crate::counter::Counter;
-use crate::edges::{Edge, Pulls, enter_all, get_all, put_all, some_slow, tell};
+use crate::edges::{Edge, enter_all, get_all, put_all, some_pulls, some_slow, tell};
 use crate::index::Index;
 use crate::joining::{refresh, refresh_all, rejoin, set_level};
 use crate::message::{call, leave, spread, stop};
@@ -48,7 +48,8 @@ pub struct RootTargets {
     live: Numbers,
     /// All that a message has reached since their last stop: another's start, and a stop, are nothing to others.
     started: Numbers,
-    pulls: Pulls,
+    /// Someone holds SCL low.
+    held: bool,
     counter: Counter,
 }
 
@@ -63,7 +64,7 @@ impl Model for RootTargets {
 
     ghost view = { λ t. record { rooted = record { board = t.board.value; root = t.root }; bits = map (shared t.address.left t.address.value) (whole_on t.board.value t.places.items (known_on t.places.items t.bits.items)); counts = t.counter } };
 
-    ghost invariant = { λ t. AreKept (record { board = t.board.value; root = t.root }) t.places.items t.pulls.clock t.pulls.data t.address t.live t.started t.at t.bits.items };
+    ghost invariant = { λ t. AreKept (record { board = t.board.value; root = t.root }) t.places.items t.held t.address t.live t.started t.at t.bits.items };
 }
 
 impl RootTargets {
@@ -81,7 +82,7 @@ impl RootTargets {
         let at = Index::of(alloc, bits.as_slice())?;
         let live = Numbers::with_room(alloc, bits.len())?;
         let started = Numbers::with_room(alloc, bits.len())?;
-        let pulls = rejoin(&mut bits, places.as_slice());
+        let held = rejoin(&mut bits, places.as_slice());
         Ok(RootTargets {
             board: Snapshot::of(board),
             root,
@@ -91,7 +92,7 @@ impl RootTargets {
             address: Register::none(),
             live,
             started,
-            pulls,
+            held,
             counter: Counter::none(),
         })
     }
@@ -116,15 +117,17 @@ impl RootTargets {
     pub fn holds_clock(&self) -> bool
         ensures { result ≡ some_one holds_line self.now.bits }
     {
-        self.pulls.clock
+        self.held
     }
 
     /// Someone pulls SDA low.
-    #[inline(always)]
     pub fn pulls_data(&self) -> bool
         ensures { result ≡ some_one (pulls_line node_table) self.now.bits }
     {
-        self.pulls.data
+        if self.address.is_coming() {
+            return false;
+        }
+        some_pulls(self.bits.as_slice(), self.live.as_slice())
     }
 
     /// How often SCL rose, up to 2^64 - 1.
@@ -195,9 +198,8 @@ impl RootTargets {
             &mut self.started,
             byte,
         );
-        let entered = enter_all(&mut self.bits, self.live.as_slice());
-        self.pulls.data = entered.data;
-        Some(entered.acked)
+        let acked = enter_all(&mut self.bits, self.live.as_slice());
+        Some(acked)
     }
 
     /// A byte with its acknowledge clock, all nine clocks at once. Whether it is acknowledged.
@@ -223,9 +225,7 @@ impl RootTargets {
         if self.address.is_coming() {
             return 0xff;
         }
-        let given = get_all(&mut self.bits, self.live.as_slice(), ack);
-        self.pulls.data = given.data;
-        given.byte
+        get_all(&mut self.bits, self.live.as_slice(), ack)
     }
 
     /// SCL falls.
@@ -234,7 +234,7 @@ impl RootTargets {
         ensures { self.new ≡ record self.old { bits = map (where_joined fall) self.old.bits } }
     {
         if !self.address.is_coming() {
-            self.pulls = tell(&mut self.bits, self.live.as_slice(), Edge::Fall);
+            self.held = tell(&mut self.bits, self.live.as_slice(), Edge::Fall);
         }
     }
 
@@ -243,7 +243,7 @@ impl RootTargets {
         ensures { self.new ≡ record self.old { bits = map (where_joined tick) self.old.bits } }
     {
         if !self.address.is_coming() {
-            self.pulls = tell(&mut self.bits, self.live.as_slice(), Edge::Tick);
+            self.held = tell(&mut self.bits, self.live.as_slice(), Edge::Tick);
         }
     }
 
@@ -254,7 +254,7 @@ impl RootTargets {
         self.counter.add_flip();
         leave(&mut self.bits, &mut self.live);
         self.address = Register::whole();
-        self.pulls = Pulls::none();
+        self.held = false;
     }
 
     /// A stop: SDA rises while SCL is high. Who is joined then is read anew of all at once only where it missed someone.
@@ -264,9 +264,9 @@ impl RootTargets {
         self.counter.add_flip();
         self.address = Register::none();
         if stop(&mut self.bits, &mut self.live, &mut self.started) {
-            self.pulls = Pulls::none();
+            self.held = false;
         } else {
-            self.pulls = rejoin(&mut self.bits, self.places.as_slice());
+            self.held = rejoin(&mut self.bits, self.places.as_slice());
         }
     }
 
@@ -282,6 +282,6 @@ impl RootTargets {
             &mut self.address,
         );
         set_level(&mut self.bits, mux, level);
-        self.pulls = rejoin(&mut self.bits, self.places.as_slice());
+        self.held = rejoin(&mut self.bits, self.places.as_slice());
     }
 }

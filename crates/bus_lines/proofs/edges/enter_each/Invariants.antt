@@ -1,9 +1,8 @@
 use Rattle.std.proofs.Common.{◌≡◌, false, length, drop}
-use Rattle.wire_spec.specs.Roots.{where_joined, pulls_line}
-use Rattle.wire_spec.specs.Sites.{node_table}
+use Rattle.wire_spec.specs.Roots.{where_joined}
 use Rattle.bus_lines.specs.declared.edges.Edge.TheVariants.{Enter}
 use Rattle.bus_lines.specs.Edges.{seen, acks_enter}
-use Rattle.bus_lines.proofs.NumberedLemmas.{told, told_was, told_some}
+use Rattle.bus_lines.proofs.NumberedLemmas.{told, told_was}
 use Rattle.bus_lines.proofs.edges.enter_each.Given as goal
 
 -- what is left to be told comes to what all come to
@@ -14,6 +13,4 @@ invariant-loop-number l =
       count : length l.targets ≡ length l.fn.targets;
       targets : told f (drop l.number-index l.numbers) l.targets ≡ told f l.numbers l.fn.targets;
       acked : told_was f acks_enter l.acked (drop l.number-index l.numbers) l.targets ≡ told_was f acks_enter false l.numbers l.fn.targets;
-      data_low : told_some f (pulls_line node_table) l.data (drop l.number-index l.numbers) l.targets
-          ≡ told_some f (pulls_line node_table) false l.numbers l.fn.targets;
     }

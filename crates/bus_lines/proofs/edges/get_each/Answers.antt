@@ -1,11 +1,9 @@
 use Rattle.std.proofs.Common.{length-set, get_or, sym, ap, ◌∙◌, arith, bit_and}
-use Rattle.wire_spec.specs.Roots.{where_joined, pulls_line}
-use Rattle.wire_spec.specs.Sites.{node_table}
+use Rattle.wire_spec.specs.Roots.{where_joined}
 use Rattle.bus_lines.specs.declared.edges.Edge.TheVariants.{Get}
 use Rattle.bus_lines.specs.Edges.{seen, gives_get}
-use Rattle.bus_lines.specs.Units.{some_by, of_those}
 use Rattle.bus_lines.proofs.AndLemmas.{told_and, told_and_each, and_next}
-use Rattle.bus_lines.proofs.NumberedLemmas.{told, told_some, told_each, told_some_each, told_next, some_next, among_at, drop_all}
+use Rattle.bus_lines.proofs.NumberedLemmas.{told, told_each, told_next, among_at, drop_all}
 use Rattle.bus_lines.proofs.edges.get_each.Goals as goal
 
 pub prove-unreachable-requires : goal.prove-unreachable-requires
@@ -32,8 +30,6 @@ loop-number-preserved c =
       targets = told_next f ns i n lt c.from-number.ensures now at new low c.get-byte.ensures.target ∙ was.targets;
       byte = and_next f ns i n lt c.from-number.ensures now at new low c.get-byte.ensures.target gives_get c.loop-number.byte
           (bit_and c.loop-number.byte c.get-byte.result) (c.loop-number.auto.byte-fits.fits) (ap (bit_and c.loop-number.byte) c.get-byte.ensures.byte) ∙ was.byte;
-      data_low = some_next f ns i n lt c.from-number.ensures now at new low c.get-byte.ensures.target (pulls_line node_table) c.loop-number.data
-          c.pulls_data_with-data.result c.pulls_data_with-data.ensures ∙ was.data_low;
     }
 
 pub returns-clause-targets : goal.returns-clause-targets
@@ -50,12 +46,3 @@ returns-clause-byte c =
     let over = drop_all ns c.loop-number.number-index c.loop-number-test.false in
     sym (ap (λ ms. told_and f gives_get c.loop-number.byte ms c.loop-number.targets) over) ∙ c.loop-number.invariant.byte
     ∙ told_and_each f gives_get ns c.args.targets.now c.requires.apart
-
-pub returns-clause-data : goal.returns-clause-data
-returns-clause-data c =
-    let f = where_joined (seen (Get c.args.ack)) in
-    let ns = c.args.numbers.now in
-    let over = drop_all ns c.loop-number.number-index c.loop-number-test.false in
-    sym (ap (λ ms. told_some f (pulls_line node_table) c.loop-number.data ms c.loop-number.targets) over) ∙ c.loop-number.invariant.data_low
-    ∙ told_some_each f (pulls_line node_table) ns c.args.targets.now c.requires.apart
-    ∙ ap (some_by (of_those ns (pulls_line node_table)) 0) (sym (returns-clause-targets c))

@@ -1,10 +1,9 @@
 use Rattle.std.proofs.Common.{◌≡◌, false, length, drop}
-use Rattle.wire_spec.specs.Roots.{where_joined, pulls_line}
-use Rattle.wire_spec.specs.Sites.{node_table}
+use Rattle.wire_spec.specs.Roots.{where_joined}
 use Rattle.bus_lines.specs.declared.edges.Edge.TheVariants.{Get}
 use Rattle.bus_lines.specs.Edges.{seen, gives_get}
 use Rattle.bus_lines.proofs.AndLemmas.{told_and}
-use Rattle.bus_lines.proofs.NumberedLemmas.{told, told_some}
+use Rattle.bus_lines.proofs.NumberedLemmas.{told}
 use Rattle.bus_lines.proofs.edges.get_each.Given as goal
 
 -- what is left to be told comes to what all come to
@@ -15,6 +14,4 @@ invariant-loop-number l =
       count : length l.targets ≡ length l.fn.targets;
       targets : told f (drop l.number-index l.numbers) l.targets ≡ told f l.numbers l.fn.targets;
       byte : told_and f gives_get l.byte (drop l.number-index l.numbers) l.targets ≡ told_and f gives_get 255 l.numbers l.fn.targets;
-      data_low : told_some f (pulls_line node_table) l.data (drop l.number-index l.numbers) l.targets
-          ≡ told_some f (pulls_line node_table) false l.numbers l.fn.targets;
     }

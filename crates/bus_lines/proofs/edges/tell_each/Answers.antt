@@ -1,7 +1,6 @@
-use Rattle.std.proofs.Common.{length-set, get_or, sym, refl, ap, ◌∙◌, arith}
-use Rattle.wire_spec.specs.Roots.{pulls_line, where_joined}
+use Rattle.std.proofs.Common.{length-set, get_or, sym, ap, ◌∙◌, arith}
+use Rattle.wire_spec.specs.Roots.{where_joined}
 use Rattle.wire_spec.specs.Bus.{holds_line}
-use Rattle.wire_spec.specs.Sites.{node_table}
 use Rattle.bus_lines.specs.Edges.{seen}
 use Rattle.bus_lines.specs.Units.{some_by, of_those}
 use Rattle.bus_lines.proofs.NumberedLemmas.{told, told_some, told_each, told_some_each, told_next, some_next, among_at, drop_all}
@@ -13,16 +12,6 @@ prove-unreachable-requires c =
     let i = c.loop-number.number-index in
     let low = c.requires.below (get_or ns i 0) (among_at ns i c.loop-number-test.true) in
     absurd (omega (arith, low, c.from-number.ensures, c.if-prove.true, c.loop-number.invariant.count))
-
-pub loop-number-init : goal.loop-number-init
-loop-number-init c =
-    let f = where_joined (seen c.args.edge) in
-    record {
-      count = refl;
-      targets = refl;
-      clock = ap (λ b. told_some f holds_line b c.args.numbers.now c.args.targets.now) c.none-pulls.ensures.clock;
-      data_low = ap (λ b. told_some f (pulls_line node_table) b c.args.numbers.now c.args.targets.now) c.none-pulls.ensures.data;
-    }
 
 pub loop-number-preserved : goal.loop-number-preserved
 loop-number-preserved c =
@@ -39,10 +28,8 @@ loop-number-preserved c =
     record {
       count = length-set now n new ∙ was.count;
       targets = told_next f ns i n lt c.from-number.ensures now at new low c.see.ensures ∙ was.targets;
-      clock = some_next f ns i n lt c.from-number.ensures now at new low c.see.ensures holds_line c.loop-number.pulls.clock
-          c.pulls_with-pulls.result.clock c.pulls_with-pulls.ensures.clock ∙ was.clock;
-      data_low = some_next f ns i n lt c.from-number.ensures now at new low c.see.ensures (pulls_line node_table) c.loop-number.pulls.data
-          c.pulls_with-pulls.result.data c.pulls_with-pulls.ensures.data ∙ was.data_low;
+      held = some_next f ns i n lt c.from-number.ensures now at new low c.see.ensures holds_line c.loop-number.held
+          c.holds_with-held.result c.holds_with-held.ensures ∙ was.held;
     }
 
 pub returns-clause-targets : goal.returns-clause-targets
@@ -52,20 +39,11 @@ returns-clause-targets c =
     let over = drop_all ns c.loop-number.number-index c.loop-number-test.false in
     sym (ap (λ ms. told f ms c.loop-number.targets) over) ∙ c.loop-number.invariant.targets ∙ told_each f ns c.args.targets.now c.requires.apart
 
-pub returns-clause-clock : goal.returns-clause-clock
-returns-clause-clock c =
+pub returns-clause-held : goal.returns-clause-held
+returns-clause-held c =
     let f = where_joined (seen c.args.edge) in
     let ns = c.args.numbers.now in
     let over = drop_all ns c.loop-number.number-index c.loop-number-test.false in
-    sym (ap (λ ms. told_some f holds_line c.loop-number.pulls.clock ms c.loop-number.targets) over) ∙ c.loop-number.invariant.clock
+    sym (ap (λ ms. told_some f holds_line c.loop-number.held ms c.loop-number.targets) over) ∙ c.loop-number.invariant.held
     ∙ told_some_each f holds_line ns c.args.targets.now c.requires.apart
     ∙ ap (some_by (of_those ns holds_line) 0) (sym (returns-clause-targets c))
-
-pub returns-clause-data : goal.returns-clause-data
-returns-clause-data c =
-    let f = where_joined (seen c.args.edge) in
-    let ns = c.args.numbers.now in
-    let over = drop_all ns c.loop-number.number-index c.loop-number-test.false in
-    sym (ap (λ ms. told_some f (pulls_line node_table) c.loop-number.pulls.data ms c.loop-number.targets) over) ∙ c.loop-number.invariant.data_low
-    ∙ told_some_each f (pulls_line node_table) ns c.args.targets.now c.requires.apart
-    ∙ ap (some_by (of_those ns (pulls_line node_table)) 0) (sym (returns-clause-targets c))

@@ -1,7 +1,6 @@
 use Rattle.std.proofs.Common.{◌≡◌, false, length, drop}
-use Rattle.wire_spec.specs.Roots.{pulls_line, where_joined}
+use Rattle.wire_spec.specs.Roots.{where_joined}
 use Rattle.wire_spec.specs.Bus.{holds_line}
-use Rattle.wire_spec.specs.Sites.{node_table}
 use Rattle.bus_lines.specs.Edges.{seen}
 use Rattle.bus_lines.proofs.NumberedLemmas.{told, told_some}
 use Rattle.bus_lines.proofs.edges.tell_each.Given as goal
@@ -13,7 +12,5 @@ invariant-loop-number l =
     record {
       count : length l.targets ≡ length l.fn.targets;
       targets : told f (drop l.number-index l.numbers) l.targets ≡ told f l.numbers l.fn.targets;
-      clock : told_some f holds_line l.pulls.clock (drop l.number-index l.numbers) l.targets ≡ told_some f holds_line false l.numbers l.fn.targets;
-      data_low : told_some f (pulls_line node_table) l.pulls.data (drop l.number-index l.numbers) l.targets
-          ≡ told_some f (pulls_line node_table) false l.numbers l.fn.targets;
+      held : told_some f holds_line l.held (drop l.number-index l.numbers) l.targets ≡ told_some f holds_line false l.numbers l.fn.targets;
     }

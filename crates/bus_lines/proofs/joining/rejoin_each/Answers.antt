@@ -1,7 +1,5 @@
 use Rattle.std.proofs.Common.{◌≡◌, ◌-◌, ◌<◌, ◌||◌, suc, length, length-set, get_or, refl, ap, ◌∙◌, arith}
-use Rattle.wire_spec.specs.Roots.{pulls_line}
 use Rattle.wire_spec.specs.Bus.{holds_line}
-use Rattle.wire_spec.specs.Sites.{node_table}
 use Rattle.bus_lines.specs.Joins.{joins_by, read_anew, states_on}
 use Rattle.bus_lines.proofs.BackLemmas.{some_back, some_none}
 use Rattle.bus_lines.proofs.JoinLemmas.{joined_by, rejoin_all, next_back, states_set}
@@ -13,8 +11,7 @@ loop-left-init c =
       few = omega arith;
       states = refl;
       targets = rejoin_all (joins_by c.args.places.now (states_on c.args.targets.now)) 0 c.args.targets.now;
-      clock = some_none holds_line c.args.targets.now;
-      data_low = some_none (pulls_line node_table) c.args.targets.now;
+      held = some_none holds_line c.args.targets.now;
     }
 
 pub loop-left-preserved : goal.loop-left-preserved
@@ -36,7 +33,5 @@ loop-left-preserved c =
       targets = next_back (joined_by joins) left (left - 1) now at new next lt
           (c.set_joined.ensures ∙ ap (λ j. read_anew j (get_or now (left - 1) at)) read)
           ∙ i.targets;
-      clock = c.pulls_with-pulls.ensures.clock ∙ ap (λ b. holds_line new || b) i.clock ∙ some_back holds_line left (left - 1) now new next lt;
-      data_low = c.pulls_with-pulls.ensures.data ∙ ap (λ b. pulls_line node_table new || b) i.data_low
-          ∙ some_back (pulls_line node_table) left (left - 1) now new next lt;
+      held = c.holds_with-held.ensures ∙ ap (λ b. holds_line new || b) i.held ∙ some_back holds_line left (left - 1) now new next lt;
     }

@@ -1,12 +1,11 @@
 use Rattle.std.proofs.Common.{◌≡◌, ◌≤◌, length, drop}
-use Rattle.wire_spec.specs.Roots.{some_one, pulls_line}
+use Rattle.wire_spec.specs.Roots.{some_one}
 use Rattle.wire_spec.specs.Bus.{holds_line, rejoin_from}
-use Rattle.wire_spec.specs.Sites.{node_table}
 use Rattle.bus_lines.specs.Joins.{joins_by, states_on}
 use Rattle.bus_lines.proofs.JoinLemmas.{first_from, joined_by}
 use Rattle.bus_lines.proofs.joining.rejoin_each.Given as goal
 
--- those from `left` on are read anew, and are among who pulls
+-- those from `left` on are read anew, and are among who holds SCL
 abbrev pub invariant-loop-left : goal.invariant-loop-left
 invariant-loop-left l =
     let joins = joins_by l.places (states_on l.fn.targets) in
@@ -14,8 +13,7 @@ invariant-loop-left l =
       few : l.left ≤ length l.targets;
       states : states_on l.targets ≡ states_on l.fn.targets;
       targets : first_from (joined_by joins) 0 l.left l.targets ≡ rejoin_from joins 0 l.fn.targets;
-      clock : l.pulls.clock ≡ some_one holds_line (drop l.left l.targets);
-      data_low : l.pulls.data ≡ some_one (pulls_line node_table) (drop l.left l.targets);
+      held : l.held ≡ some_one holds_line (drop l.left l.targets);
     }
 
 abbrev pub decreases-loop-left : goal.decreases-loop-left

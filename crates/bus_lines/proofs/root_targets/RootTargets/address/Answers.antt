@@ -2,7 +2,7 @@ use Rattle.std.proofs.Common.{◌≡◌, ℕ, false, ◌&&◌, ◌/◌, ◌<◌,
 use Rattle.std.specs.List.{list_any}
 use Rattle.i2c_spec.specs.Regs.{is_too_long}
 use Rattle.wire_spec.specs.Wires.{Bit}
-use Rattle.wire_spec.specs.Roots.{where_joined, some_one, pulls_line}
+use Rattle.wire_spec.specs.Roots.{where_joined, some_one}
 use Rattle.wire_spec.specs.Calls.{more_edges}
 use Rattle.wire_spec.specs.Sites.{NodeState, NO_ADDRESS, node_table}
 use Rattle.i2c_bits.specs.Wiring.{Rooted}
@@ -17,7 +17,7 @@ use Rattle.bus_lines.specs.Units.{RegisterView, by_number, shared, some_by, of_t
 use Rattle.bus_lines.proofs.AwayLemmas.{units_away, whole_edge}
 use Rattle.bus_lines.proofs.EnterLemmas.{mid_are, mid_called, held_none, would_be_slow, would_ack, quick_all, entered_is, acks_is, enter_holds, enter_acks}
 use Rattle.bus_lines.proofs.InvariantLemmas.{nodes_fair, seen_as, some_comes}
-use Rattle.bus_lines.proofs.KeptLemmas.{edge_known, edge_asked, edge_kept, fresh_known, fresh_those, fresh_kept, fresh_joined, call_known, call_kept}
+use Rattle.bus_lines.proofs.KeptLemmas.{edge_known, edge_kept, fresh_known, fresh_those, fresh_kept, fresh_joined, call_known, call_kept}
 use Rattle.bus_lines.proofs.KnownLemmas.{some_known, any_known}
 use Rattle.bus_lines.proofs.TargetsLemmas.{seen_alone, all_told}
 use Rattle.bus_lines.proofs.root_targets.RootTargets.address.Goals as goal
@@ -34,7 +34,7 @@ invariant_of-self c =
     let fresh = c.refresh.ensures
     ∙ ap (λ qs. by_number (known_of c.at.result.now (joins_by qs (states_on i.bits.items))) 0 i.bits.items) c.as_slice.ensures.value
     ∙ ap (λ ms. by_number (known_of ms (joins_by ps (states_on i.bits.items))) 0 i.bits.items) c.at.ensures in
-    fresh_kept k ps i.pulls.clock i.pulls.data i.address i.live i.started i.at i.bits.items kept ns mid fresh
+    fresh_kept k ps i.held i.address i.live i.started i.at i.bits.items kept ns mid fresh
 
 pub returns-then-some_slow : goal.returns-then-some_slow
 returns-then-some_slow c =
@@ -49,7 +49,7 @@ returns-then-some_slow c =
     ∙ ap (λ qs. by_number (known_of c.at.result.now (joins_by qs (states_on i.bits.items))) 0 i.bits.items) c.as_slice.ensures.value
     ∙ ap (λ ms. by_number (known_of ms (joins_by ps (states_on i.bits.items))) 0 i.bits.items) c.at.ensures in
     ap (λ (xs : List (Bit NodeState)). targets_of k (map (shared i.address.left i.address.value) (whole_on i.board.value ps xs)) i.counter)
-    (fresh_known k ps i.pulls.clock i.pulls.data i.address i.live i.started i.at i.bits.items kept ns mid fresh)
+    (fresh_known k ps i.held i.address i.live i.started i.at i.bits.items kept ns mid fresh)
     ∙ c.self.view_is
 
 pub call-requires-clause-index : goal.call-requires-clause-index
@@ -64,7 +64,7 @@ call-requires-clause-index c =
     let fresh = c.refresh.ensures
     ∙ ap (λ qs. by_number (known_of c.at.result.now (joins_by qs (states_on i.bits.items))) 0 i.bits.items) c.as_slice.ensures.value
     ∙ ap (λ ms. by_number (known_of ms (joins_by ps (states_on i.bits.items))) 0 i.bits.items) c.at.ensures in
-    let now = fresh_kept k ps i.pulls.clock i.pulls.data i.address i.live i.started i.at i.bits.items kept ns mid fresh in
+    let now = fresh_kept k ps i.held i.address i.live i.started i.at i.bits.items kept ns mid fresh in
     now.index
 
 pub call-requires-clause-live : goal.call-requires-clause-live
@@ -79,7 +79,7 @@ call-requires-clause-live c =
     let fresh = c.refresh.ensures
     ∙ ap (λ qs. by_number (known_of c.at.result.now (joins_by qs (states_on i.bits.items))) 0 i.bits.items) c.as_slice.ensures.value
     ∙ ap (λ ms. by_number (known_of ms (joins_by ps (states_on i.bits.items))) 0 i.bits.items) c.at.ensures in
-    let now = fresh_kept k ps i.pulls.clock i.pulls.data i.address i.live i.started i.at i.bits.items kept ns mid fresh in
+    let now = fresh_kept k ps i.held i.address i.live i.started i.at i.bits.items kept ns mid fresh in
     now.live_room
 
 pub call-requires-clause-started : goal.call-requires-clause-started
@@ -94,11 +94,11 @@ call-requires-clause-started c =
     let fresh = c.refresh.ensures
     ∙ ap (λ qs. by_number (known_of c.at.result.now (joins_by qs (states_on i.bits.items))) 0 i.bits.items) c.as_slice.ensures.value
     ∙ ap (λ ms. by_number (known_of ms (joins_by ps (states_on i.bits.items))) 0 i.bits.items) c.at.ensures in
-    let now = fresh_kept k ps i.pulls.clock i.pulls.data i.address i.live i.started i.at i.bits.items kept ns mid fresh in
+    let now = fresh_kept k ps i.held i.address i.live i.started i.at i.bits.items kept ns mid fresh in
     now.started_room
 
-pub enter_all-entered-requires : goal.enter_all-entered-requires
-enter_all-entered-requires c =
+pub enter_all-acked-requires : goal.enter_all-acked-requires
+enter_all-acked-requires c =
     let i = c.self.inside in
     let k : Rooted = record { board = i.board.value; root = i.root } in
     let kept = c.self.invariant in
@@ -116,15 +116,15 @@ enter_all-entered-requires c =
     let over : now.left ≡ 0 = ap (λ (r : RegisterView). r.left) c.none-self-inside.ensures in
     let call = c.call in
     let told = call.new.bits.items in
-    let live_has = fresh_joined k ps i.pulls.clock i.pulls.data i.address i.live i.started i.at i.bits.items kept ns mid fresh
+    let live_has = fresh_joined k ps i.held i.address i.live i.started i.at i.bits.items kept ns mid fresh
     i.live.items call.new.live.items call.ensures.live in
-    let started_has = fresh_joined k ps i.pulls.clock i.pulls.data i.address i.live i.started i.at i.bits.items kept ns mid fresh
+    let started_has = fresh_joined k ps i.held i.address i.live i.started i.at i.bits.items kept ns mid fresh
     i.started.items call.new.started.items call.ensures.started in
-    let known = call_known k ps i.pulls.clock i.pulls.data i.address i.live i.started i.at i.bits.items kept ns mid fresh call.new.live call.new.started
+    let known = call_known k ps i.held i.address i.live i.started i.at i.bits.items kept ns mid fresh call.new.live call.new.started
     call.ensures.live call.ensures.started byte told call.ensures.bits in
-    let between = call_kept k ps i.pulls.clock i.pulls.data i.address i.live i.started i.at i.bits.items kept ns mid fresh call.new.live call.new.started
+    let between = call_kept k ps i.held i.address i.live i.started i.at i.bits.items kept ns mid fresh call.new.live call.new.started
     call.ensures.live call.ensures.started byte told call.ensures.bits now
-    (mid_are nodes_fair k ps i.pulls.clock i.pulls.data i.address i.live i.started i.at bs kept.are byte low call.new.live call.new.started (known_on ps told)
+    (mid_are nodes_fair k ps i.held i.address i.live i.started i.at bs kept.are byte low call.new.live call.new.started (known_on ps told)
     live_has started_has known some now over call.ensures.live_room call.ensures.started_room)
     call.ensures.live_room call.ensures.started_room in
     subst (λ (n : ℕ). AreNumbers n c.as_slice-3.result.now) between.live_room c.as_slice-3.ensures.numbers
@@ -148,29 +148,26 @@ invariant_of-self-2 c =
     let over : now.left ≡ 0 = ap (λ (r : RegisterView). r.left) c.none-self-inside.ensures in
     let call = c.call in
     let told = call.new.bits.items in
-    let live_has = fresh_joined k ps i.pulls.clock i.pulls.data i.address i.live i.started i.at i.bits.items kept ns mid fresh
+    let live_has = fresh_joined k ps i.held i.address i.live i.started i.at i.bits.items kept ns mid fresh
     i.live.items call.new.live.items call.ensures.live in
-    let started_has = fresh_joined k ps i.pulls.clock i.pulls.data i.address i.live i.started i.at i.bits.items kept ns mid fresh
+    let started_has = fresh_joined k ps i.held i.address i.live i.started i.at i.bits.items kept ns mid fresh
     i.started.items call.new.started.items call.ensures.started in
-    let known = call_known k ps i.pulls.clock i.pulls.data i.address i.live i.started i.at i.bits.items kept ns mid fresh call.new.live call.new.started
+    let known = call_known k ps i.held i.address i.live i.started i.at i.bits.items kept ns mid fresh call.new.live call.new.started
     call.ensures.live call.ensures.started byte told call.ensures.bits in
-    let between = call_kept k ps i.pulls.clock i.pulls.data i.address i.live i.started i.at i.bits.items kept ns mid fresh call.new.live call.new.started
+    let between = call_kept k ps i.held i.address i.live i.started i.at i.bits.items kept ns mid fresh call.new.live call.new.started
     call.ensures.live call.ensures.started byte told call.ensures.bits now
-    (mid_are nodes_fair k ps i.pulls.clock i.pulls.data i.address i.live i.started i.at bs kept.are byte low call.new.live call.new.started (known_on ps told)
+    (mid_are nodes_fair k ps i.held i.address i.live i.started i.at bs kept.are byte low call.new.live call.new.started (known_on ps told)
     live_has started_has known some now over call.ensures.live_room call.ensures.started_room)
     call.ensures.live_room call.ensures.started_room in
-    let e = c.enter_all-entered in
+    let e = c.enter_all-acked in
     let new = e.new.targets.items in
-    let entered = edge_known k ps i.pulls.clock i.pulls.data now call.new.live call.new.started i.at told between Enter tt over _ c.as_slice-3.ensures.value
+    let entered = edge_known k ps i.held now call.new.live call.new.started i.at told between Enter tt over _ c.as_slice-3.ensures.value
     new e.ensures.targets in
-    edge_kept k ps i.pulls.clock i.pulls.data now call.new.live call.new.started i.at told between Enter tt over _ c.as_slice-3.ensures.value
-    new e.ensures.targets i.pulls.clock e.result.data
+    edge_kept k ps i.held now call.new.live call.new.started i.at told between Enter tt over _ c.as_slice-3.ensures.value
+    new e.ensures.targets i.held
     (enter_holds now.left now.value call.new.live.items call.new.started.items i.at ps (known_on ps told) over between.are.units (known_on ps new) entered
-    i.pulls.clock between.are.clock
-    (held_none nodes_fair k ps i.pulls.clock i.pulls.data i.address i.live i.started i.at bs kept.are some))
-    (e.ensures.data
-    ∙ edge_asked k ps i.pulls.clock i.pulls.data now call.new.live call.new.started i.at told between Enter tt over _ c.as_slice-3.ensures.value
-    new e.ensures.targets (pulls_line node_table))
+    i.held between.are.clock
+    (held_none nodes_fair k ps i.held i.address i.live i.started i.at bs kept.are some))
 
 pub returns : goal.returns
 returns c =
@@ -191,44 +188,44 @@ returns c =
     let over : now.left ≡ 0 = ap (λ (r : RegisterView). r.left) c.none-self-inside.ensures in
     let call = c.call in
     let told = call.new.bits.items in
-    let live_has = fresh_joined k ps i.pulls.clock i.pulls.data i.address i.live i.started i.at i.bits.items kept ns mid fresh
+    let live_has = fresh_joined k ps i.held i.address i.live i.started i.at i.bits.items kept ns mid fresh
     i.live.items call.new.live.items call.ensures.live in
-    let started_has = fresh_joined k ps i.pulls.clock i.pulls.data i.address i.live i.started i.at i.bits.items kept ns mid fresh
+    let started_has = fresh_joined k ps i.held i.address i.live i.started i.at i.bits.items kept ns mid fresh
     i.started.items call.new.started.items call.ensures.started in
-    let known = call_known k ps i.pulls.clock i.pulls.data i.address i.live i.started i.at i.bits.items kept ns mid fresh call.new.live call.new.started
+    let known = call_known k ps i.held i.address i.live i.started i.at i.bits.items kept ns mid fresh call.new.live call.new.started
     call.ensures.live call.ensures.started byte told call.ensures.bits in
-    let between = call_kept k ps i.pulls.clock i.pulls.data i.address i.live i.started i.at i.bits.items kept ns mid fresh call.new.live call.new.started
+    let between = call_kept k ps i.held i.address i.live i.started i.at i.bits.items kept ns mid fresh call.new.live call.new.started
     call.ensures.live call.ensures.started byte told call.ensures.bits now
-    (mid_are nodes_fair k ps i.pulls.clock i.pulls.data i.address i.live i.started i.at bs kept.are byte low call.new.live call.new.started (known_on ps told)
+    (mid_are nodes_fair k ps i.held i.address i.live i.started i.at bs kept.are byte low call.new.live call.new.started (known_on ps told)
     live_has started_has known some now over call.ensures.live_room call.ensures.started_room)
     call.ensures.live_room call.ensures.started_room in
-    let e = c.enter_all-entered in
+    let e = c.enter_all-acked in
     let new = e.new.targets.items in
-    let entered = edge_known k ps i.pulls.clock i.pulls.data now call.new.live call.new.started i.at told between Enter tt over _ c.as_slice-3.ensures.value
+    let entered = edge_known k ps i.held now call.new.live call.new.started i.at told between Enter tt over _ c.as_slice-3.ensures.value
     new e.ensures.targets in
-    let called = mid_called nodes_fair k ps i.pulls.clock i.pulls.data i.address i.live i.started i.at bs kept.are byte low call.new.live call.new.started
+    let called = mid_called nodes_fair k ps i.held i.address i.live i.started i.at bs kept.are byte low call.new.live call.new.started
     (known_on ps told) live_has started_has known in
     let quick : list_any (slow_at bs) ns ≡ false =
     sym (c.some_slow.ensures ∙ ap (λ (xs : List (Bit NodeState)). list_any (slow_at xs) c.at-2.result.now) c.as_slice-2.ensures.value
     ∙ ap (list_any (slow_at mid)) c.at-2.ensures
     ∙ any_known (λ (b : Bit NodeState). b.site.joined && is_too_long (node_table.hold b.site.state)) ps mid ns
-    (fresh_those k ps i.pulls.clock i.pulls.data i.address i.live i.started i.at i.bits.items kept ns mid fresh)
+    (fresh_those k ps i.held i.address i.live i.started i.at i.bits.items kept ns mid fresh)
     ∙ ap (λ (xs : List (Bit NodeState)). list_any (slow_at xs) ns)
-    (fresh_known k ps i.pulls.clock i.pulls.data i.address i.live i.started i.at i.bits.items kept ns mid fresh)) ∙ c.if-some_slow.false in
+    (fresh_known k ps i.held i.address i.live i.started i.at i.bits.items kept ns mid fresh)) ∙ c.if-some_slow.false in
     let then_kept = invariant_of-self-2 c in
     let old = units_away ps i.address.left i.live.items i.started.items i.at bs kept.are.units in
     let gone = units_away ps now.left call.new.live.items call.new.started.items i.at (known_on ps new) then_kept.are.units in
     let view = whole_edge i.board.value ps (address_in byte) i.address.left i.address.value now.left now.value bs (known_on ps new) old gone
     (seen_alone now.left now.value (known_on ps new) over ∙ entered
     ∙ all_told Enter tt now.left call.new.live.items call.new.started.items i.at ps (known_on ps told) over between.are.units
-    ∙ entered_is nodes_fair k ps i.pulls.clock i.pulls.data i.address i.live i.started i.at bs kept.are byte low quick (known_on ps told) called) in
+    ∙ entered_is nodes_fair k ps i.held i.address i.live i.started i.at bs kept.are byte low quick (known_on ps told) called) in
     record {
       in_time = sym (ap (λ (v : TargetsView). some_one (would_be_slow byte) v.bits) c.self.view_is)
-          ∙ quick_all nodes_fair k ps i.pulls.clock i.pulls.data i.address i.live i.started i.at bs kept.are byte low quick;
+          ∙ quick_all nodes_fair k ps i.held i.address i.live i.started i.at bs kept.are byte low quick;
       answer = e.ensures.acked ∙ ap (λ ms. some_by (of_those ms acks_enter) 0 told) c.as_slice-3.ensures.value
           ∙ some_known ps call.new.live.items acks_enter told between.in_message
           ∙ enter_acks now.left now.value call.new.live.items call.new.started.items i.at ps (known_on ps told) over between.are.units
-          ∙ acks_is nodes_fair k ps i.pulls.clock i.pulls.data i.address i.live i.started i.at bs kept.are byte low quick (known_on ps told) called
+          ∙ acks_is nodes_fair k ps i.held i.address i.live i.started i.at bs kept.are byte low quick (known_on ps told) called
           ∙ ap (λ (v : TargetsView). some_one (would_ack byte) v.bits) c.self.view_is;
       after = seen_as k view c.add_nine.ensures
           ∙ ap (λ (v : TargetsView). record v { bits = map (where_joined (address_in byte)) v.bits; counts = more_edges 9 v.counts }) c.self.view_is;

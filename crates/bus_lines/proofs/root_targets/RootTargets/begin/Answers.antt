@@ -1,4 +1,4 @@
-use Rattle.std.proofs.Common.{map, ap, ◌∙◌}
+use Rattle.std.proofs.Common.{false, map, refl, ap, ◌∙◌}
 use Rattle.wire_spec.specs.Wires.{begin}
 use Rattle.wire_spec.specs.Roots.{where_joined}
 use Rattle.wire_spec.specs.Bus.{one_flip}
@@ -12,10 +12,8 @@ pub invariant_of-self : goal.invariant_of-self
 invariant_of-self c =
     let i = c.self.inside in
     let l = c.leave in
-    let none = c.none-self-inside in
-    begin_kept (record { board = i.board.value; root = i.root }) i.places.items i.pulls.clock i.pulls.data i.address i.live i.started i.at i.bits.items
-    c.self.invariant l.new.bits.items l.new.live l.ensures.live l.ensures.bits c.whole-self-inside.result c.whole-self-inside.ensures
-    none.result.clock none.result.data none.ensures.clock none.ensures.data
+    begin_kept (record { board = i.board.value; root = i.root }) i.places.items i.held i.address i.live i.started i.at i.bits.items
+    c.self.invariant l.new.bits.items l.new.live l.ensures.live l.ensures.bits c.whole-self-inside.result c.whole-self-inside.ensures false refl
 
 pub returns : goal.returns
 returns c =
@@ -23,7 +21,7 @@ returns c =
     let l = c.leave in
     let k : Rooted = record { board = i.board.value; root = i.root } in
     seen_as k
-    (begin_seen k i.places.items i.pulls.clock i.pulls.data i.address i.live i.started i.at i.bits.items
+    (begin_seen k i.places.items i.held i.address i.live i.started i.at i.bits.items
     c.self.invariant l.new.bits.items l.new.live l.ensures.live l.ensures.bits c.whole-self-inside.result c.whole-self-inside.ensures)
     c.add_flip.ensures
     ∙ ap (λ (v : TargetsView). record v { bits = map (where_joined begin) v.bits; counts = one_flip v.counts }) c.self.view_is

@@ -16,9 +16,9 @@ invariant_of-self c =
     let i = c.self.inside in
     let t = c.tell-self-inside in
     let k : Rooted = record { board = i.board.value; root = i.root } in
-    edge_told k i.places.items i.pulls.clock i.pulls.data i.address i.live i.started i.at i.bits.items c.self.invariant Fall tt
+    edge_told k i.places.items i.held i.address i.live i.started i.at i.bits.items c.self.invariant Fall tt
     (none_comes c.is_coming.result i.address.left c.is_coming.ensures c.if-not-is_coming.true) _ c.as_slice.ensures.value
-    t.new.targets.items t.ensures.targets t.result.clock t.result.data t.ensures.clock t.ensures.data
+    t.new.targets.items t.ensures.targets t.result t.ensures.held
 
 pub returns-then-not-is_coming : goal.returns-then-not-is_coming
 returns-then-not-is_coming c =
@@ -26,9 +26,9 @@ returns-then-not-is_coming c =
     let t = c.tell-self-inside in
     let k : Rooted = record { board = i.board.value; root = i.root } in
     ap (λ (xs : List (Bit NodeState)). targets_of k xs i.counter)
-    (edge_seen k i.places.items i.pulls.clock i.pulls.data i.address i.live i.started i.at i.bits.items c.self.invariant Fall tt
+    (edge_seen k i.places.items i.held i.address i.live i.started i.at i.bits.items c.self.invariant Fall tt
     (none_comes c.is_coming.result i.address.left c.is_coming.ensures c.if-not-is_coming.true) _ c.as_slice.ensures.value
-    t.new.targets.items t.ensures.targets t.result.clock t.result.data (invariant_of-self c))
+    t.new.targets.items t.ensures.targets t.result (invariant_of-self c))
     ∙ ap (λ (v : TargetsView). record v { bits = map (where_joined fall) v.bits }) c.self.view_is
 
 pub returns-else-not-is_coming : goal.returns-else-not-is_coming

@@ -1,4 +1,4 @@
-use Rattle.std.proofs.Common.{map, sym, ap, ◌∙◌}
+use Rattle.std.proofs.Common.{false, map, refl, sym, ap, ◌∙◌}
 use Rattle.wire_spec.specs.Wires.{finish}
 use Rattle.wire_spec.specs.Roots.{where_joined}
 use Rattle.wire_spec.specs.Bus.{one_flip, rejoin_from, rejoined}
@@ -16,11 +16,9 @@ invariant_of-self c =
     let i = c.self.inside in
     let s = c.stop in
     let k : Rooted = record { board = i.board.value; root = i.root } in
-    let none = c.none-self-inside-then-stop in
-    reached_kept k i.places.items i.pulls.clock i.pulls.data i.address i.live i.started i.at i.bits.items c.self.invariant
+    reached_kept k i.places.items i.held i.address i.live i.started i.at i.bits.items c.self.invariant
     s.new.live s.new.started s.ensures.live s.ensures.started s.new.bits.items s.ensures.bits
-    c.none-self-inside.result (ap (λ (r : RegisterView). r.left) c.none-self-inside.ensures) (sym s.ensures.result ∙ c.if-stop.true)
-    none.result.clock none.result.data none.ensures.clock none.ensures.data
+    c.none-self-inside.result (ap (λ (r : RegisterView). r.left) c.none-self-inside.ensures) (sym s.ensures.result ∙ c.if-stop.true) false refl
 
 pub invariant_of-self-else-stop : goal.invariant_of-self-else-stop
 invariant_of-self-else-stop c =
@@ -28,11 +26,11 @@ invariant_of-self-else-stop c =
     let s = c.stop in
     let j = c.rejoin-self-inside in
     let k : Rooted = record { board = i.board.value; root = i.root } in
-    missed_kept k i.places.items i.pulls.clock i.pulls.data i.address i.live i.started i.at i.bits.items c.self.invariant
+    missed_kept k i.places.items i.held i.address i.live i.started i.at i.bits.items c.self.invariant
     s.new.live s.new.started s.ensures.live s.ensures.started s.new.bits.items s.ensures.bits
     c.none-self-inside.result (ap (λ (r : RegisterView). r.left) c.none-self-inside.ensures) j.new.targets.items
     (j.ensures.targets ∙ ap (λ qs. rejoin_from (joins_by qs (states_on s.new.bits.items)) 0 s.new.bits.items) c.as_slice.ensures.value)
-    j.result.clock j.result.data j.ensures.clock j.ensures.data
+    j.result j.ensures.held
 
 pub returns-then-stop : goal.returns-then-stop
 returns-then-stop c =
@@ -40,7 +38,7 @@ returns-then-stop c =
     let s = c.stop in
     let k : Rooted = record { board = i.board.value; root = i.root } in
     seen_as k
-    (reached_seen k i.places.items i.pulls.clock i.pulls.data i.address i.live i.started i.at i.bits.items c.self.invariant
+    (reached_seen k i.places.items i.held i.address i.live i.started i.at i.bits.items c.self.invariant
     s.new.live s.new.started s.ensures.live s.ensures.started s.new.bits.items s.ensures.bits
     c.none-self-inside.result (ap (λ (r : RegisterView). r.left) c.none-self-inside.ensures) (sym s.ensures.result ∙ c.if-stop.true))
     c.add_flip.ensures
@@ -56,7 +54,7 @@ returns-else-stop c =
     let j = c.rejoin-self-inside in
     let k : Rooted = record { board = i.board.value; root = i.root } in
     seen_as k
-    (missed_seen k i.places.items i.pulls.clock i.pulls.data i.address i.live i.started i.at i.bits.items c.self.invariant
+    (missed_seen k i.places.items i.held i.address i.live i.started i.at i.bits.items c.self.invariant
     s.new.live s.new.started s.ensures.live s.ensures.started s.new.bits.items s.ensures.bits
     c.none-self-inside.result (ap (λ (r : RegisterView). r.left) c.none-self-inside.ensures) j.new.targets.items
     (j.ensures.targets ∙ ap (λ qs. rejoin_from (joins_by qs (states_on s.new.bits.items)) 0 s.new.bits.items) c.as_slice.ensures.value))

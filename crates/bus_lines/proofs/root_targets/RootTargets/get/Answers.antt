@@ -1,7 +1,6 @@
 use Rattle.std.proofs.Common.{map, sym, ap, ◌∙◌}
-use Rattle.wire_spec.specs.Roots.{where_joined, and_all, pulls_line}
+use Rattle.wire_spec.specs.Roots.{where_joined, and_all}
 use Rattle.wire_spec.specs.Calls.{more_edges}
-use Rattle.wire_spec.specs.Sites.{node_table}
 use Rattle.i2c_bits.specs.Wiring.{Rooted}
 use Rattle.bus_lines.specs.declared.edges.Edge.TheVariants.{Get}
 use Rattle.bus_lines.specs.Away.{whole_on}
@@ -11,7 +10,7 @@ use Rattle.bus_lines.specs.LinesViews.{TargetsView}
 use Rattle.bus_lines.specs.Units.{and_by, given_by}
 use Rattle.bus_lines.proofs.AwayLemmas.{units_away, whole_given}
 use Rattle.bus_lines.proofs.InvariantLemmas.{seen_as, none_comes, some_comes}
-use Rattle.bus_lines.proofs.KeptLemmas.{edge_known, edge_asked, edge_kept, edge_seen}
+use Rattle.bus_lines.proofs.KeptLemmas.{edge_known, edge_kept, edge_seen}
 use Rattle.bus_lines.proofs.KnownLemmas.{given_known}
 use Rattle.bus_lines.proofs.GetLemmas.{gives_nobody, gets_coming, gives_coming, get_holds, get_gives}
 use Rattle.bus_lines.proofs.root_targets.RootTargets.get.Goals as goal
@@ -34,21 +33,18 @@ returns-then-is_coming-clause-after c =
 pub invariant_of-self-2 : goal.invariant_of-self-2
 invariant_of-self-2 c =
     let i = c.self.inside in
-    let given = c.get_all-given in
+    let given = c.get_all in
     let new = given.new.targets.items in
     let k : Rooted = record { board = i.board.value; root = i.root } in
     let none = none_comes c.is_coming.result i.address.left c.is_coming.ensures c.if-is_coming.false in
     let kept = c.self.invariant in
     let ps = i.places.items in
-    let told = edge_known k ps i.pulls.clock i.pulls.data i.address i.live i.started i.at i.bits.items kept (Get c.args.ack) tt none
+    let told = edge_known k ps i.held i.address i.live i.started i.at i.bits.items kept (Get c.args.ack) tt none
     _ c.as_slice.ensures.value new given.ensures.targets in
-    edge_kept k ps i.pulls.clock i.pulls.data i.address i.live i.started i.at i.bits.items kept (Get c.args.ack) tt none
-    _ c.as_slice.ensures.value new given.ensures.targets i.pulls.clock given.result.data
+    edge_kept k ps i.held i.address i.live i.started i.at i.bits.items kept (Get c.args.ack) tt none
+    _ c.as_slice.ensures.value new given.ensures.targets i.held
     (get_holds c.args.ack i.address.left i.address.value i.live.items i.started.items i.at ps (known_on ps i.bits.items) none
-    kept.are.units (known_on ps new) told i.pulls.clock kept.are.clock)
-    (given.ensures.data
-    ∙ edge_asked k ps i.pulls.clock i.pulls.data i.address i.live i.started i.at i.bits.items kept (Get c.args.ack) tt none
-    _ c.as_slice.ensures.value new given.ensures.targets (pulls_line node_table))
+    kept.are.units (known_on ps new) told i.held kept.are.clock)
 
 pub returns-clause-byte : goal.returns-clause-byte
 returns-clause-byte c =
@@ -58,7 +54,7 @@ returns-clause-byte c =
     let ps = i.places.items in
     let bs = known_on ps i.bits.items in
     let away = units_away ps i.address.left i.live.items i.started.items i.at bs kept.are.units in
-    c.get_all-given.ensures.byte
+    c.get_all.ensures.byte
     ∙ ap (λ ns. and_by (given_by ns gives_get) 0 i.bits.items) c.as_slice.ensures.value
     ∙ given_known ps i.live.items gives_get i.bits.items kept.in_message
     ∙ get_gives c.args.ack i.address.left i.address.value i.live.items i.started.items i.at ps bs none kept.are.units
@@ -68,11 +64,11 @@ returns-clause-byte c =
 pub returns-clause-after : goal.returns-clause-after
 returns-clause-after c =
     let i = c.self.inside in
-    let given = c.get_all-given in
+    let given = c.get_all in
     let k : Rooted = record { board = i.board.value; root = i.root } in
     seen_as k
-    (edge_seen k i.places.items i.pulls.clock i.pulls.data i.address i.live i.started i.at i.bits.items c.self.invariant (Get c.args.ack) tt
+    (edge_seen k i.places.items i.held i.address i.live i.started i.at i.bits.items c.self.invariant (Get c.args.ack) tt
     (none_comes c.is_coming.result i.address.left c.is_coming.ensures c.if-is_coming.false) _ c.as_slice.ensures.value
-    given.new.targets.items given.ensures.targets i.pulls.clock given.result.data (invariant_of-self-2 c))
+    given.new.targets.items given.ensures.targets i.held (invariant_of-self-2 c))
     c.add_nine.ensures
     ∙ ap (λ (v : TargetsView). record v { bits = map (where_joined (seen (Get c.args.ack))) v.bits; counts = more_edges 9 v.counts }) c.self.view_is

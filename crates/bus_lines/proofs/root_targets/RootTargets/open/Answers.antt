@@ -34,19 +34,19 @@ invariant_of-result c =
     let count = ap length slice in
     let len = sym c.as_slice.ensures.len ∙ count in
     let ps = c.add_device_places.new.places.items in
-    let anew = c.rejoin-pulls.ensures.targets ∙ ap (λ ps. rejoin_from (joins_by ps (states_on bs)) 0 bs) c.as_slice-2.ensures.value in
-    kept_anew k ps c.rejoin-pulls.result.clock c.rejoin-pulls.result.data c.none.result c.in_ok-live.live c.in_ok-started.started c.in_ok-at.at
-    c.rejoin-pulls.new.targets.items
+    let anew = c.rejoin-held.ensures.targets ∙ ap (λ ps. rejoin_from (joins_by ps (states_on bs)) 0 bs) c.as_slice-2.ensures.value in
+    kept_anew k ps c.rejoin-held.result c.none.result c.in_ok-live.live c.in_ok-started.started c.in_ok-at.at
+    c.rejoin-held.new.targets.items
     (rejoined_are k ps (places ∙ ap (λ (x : BoardView). places_of x r) same) c.in_ok-live.live c.in_ok-started.started
     c.in_ok-at.at bs (ap (λ xs. map is_chip (states_on xs)) bits ∙ kept_kinds b r ∙ ap kinds_of same) c.none.result
-    (ap (λ (x : RegisterView). x.left) c.none.ensures) c.rejoin-pulls.new.targets.items anew
+    (ap (λ (x : RegisterView). x.left) c.none.ensures) c.rejoin-held.new.targets.items anew
     (opened_loose b r bs c.in_ok-at.at c.in_ok-live.live.items c.in_ok-started.started.items bits
     (λ j x is. c.in_ok-at.ensures.listed j x (ap (λ xs. slice_get xs j) slice ∙ is)))
     (ap (λ (v : NumbersView). v.room) c.in_ok-live.ensures ∙ c.len.ensures ∙ len)
     (ap (λ (v : NumbersView). v.room) c.in_ok-started.ensures ∙ c.len-2.ensures ∙ len)
     (subst (λ n. IsIndex n c.in_ok-at.at) count c.in_ok-at.ensures.index)
-    c.rejoin-pulls.result.clock c.rejoin-pulls.result.data c.rejoin-pulls.ensures.clock c.rejoin-pulls.ensures.data)
-    (anew_is_known ps bs c.rejoin-pulls.new.targets.items anew)
+    c.rejoin-held.result c.rejoin-held.ensures.held)
+    (anew_is_known ps bs c.rejoin-held.new.targets.items anew)
 
 pub returns : goal.returns
 returns c =
@@ -62,11 +62,11 @@ returns c =
     let k : Rooted = record { board = c.of-2.result.value; root = r } in
     let ps = c.add_device_places.new.places.items in
     let at_it = places ∙ ap (λ (x : BoardView). places_of x r) same in
-    let anew = c.rejoin-pulls.ensures.targets ∙ ap (λ ps. rejoin_from (joins_by ps (states_on bs)) 0 bs) c.as_slice-2.ensures.value in
+    let anew = c.rejoin-held.ensures.targets ∙ ap (λ ps. rejoin_from (joins_by ps (states_on bs)) 0 bs) c.as_slice-2.ensures.value in
     let view = ap (λ xs. map (shared c.none.result.left c.none.result.value) (whole_on c.of-2.result.value ps xs))
-    (anew_is_known ps bs c.rejoin-pulls.new.targets.items anew)
+    (anew_is_known ps bs c.rejoin-held.new.targets.items anew)
     ∙ whole_rejoined k ps at_it bs (ap (λ xs. map is_chip (states_on xs)) bits ∙ kept_kinds b r ∙ ap kinds_of same) c.none.result
-    (ap (λ (x : RegisterView). x.left) c.none.ensures) c.rejoin-pulls.new.targets.items anew
+    (ap (λ (x : RegisterView). x.left) c.none.ensures) c.rejoin-held.new.targets.items anew
     ∙ ap (λ xs. rejoined (mask_of c.of-2.result.value r) xs)
     (ap (λ qs. whole_on c.of-2.result.value qs bs) at_it ∙ ap (whole_on c.of-2.result.value (places_of c.of-2.result.value r)) (bits ∙ ap (λ (x : BoardView). kept_bits x r) same)
     ∙ kept_whole c.of-2.result.value r) in

@@ -12,7 +12,7 @@ use Rattle.bus_lines.proofs.AwayLemmas.{units_away, whole_some}
 use Rattle.bus_lines.proofs.InvariantLemmas.{seen_as, none_comes, some_comes}
 use Rattle.bus_lines.proofs.KeptLemmas.{edge_known, edge_kept, edge_seen}
 use Rattle.bus_lines.proofs.KnownLemmas.{some_known}
-use Rattle.bus_lines.proofs.PutLemmas.{acks_nobody, puts_coming, acks_coming, put_holds, put_pulls, put_acks}
+use Rattle.bus_lines.proofs.PutLemmas.{acks_nobody, puts_coming, acks_coming, put_holds, put_acks}
 use Rattle.bus_lines.proofs.root_targets.RootTargets.put.Goals as goal
 
 pub returns-then-is_coming-clause-acked : goal.returns-then-is_coming-clause-acked
@@ -39,14 +39,12 @@ invariant_of-self-2 c =
     let kept = c.self.invariant in
     let ps = i.places.items in
     let bs = known_on ps i.bits.items in
-    let told = edge_known k ps i.pulls.clock i.pulls.data i.address i.live i.started i.at i.bits.items kept (Put c.args.byte) tt none
+    let told = edge_known k ps i.held i.address i.live i.started i.at i.bits.items kept (Put c.args.byte) tt none
     _ c.as_slice.ensures.value new c.put_all.ensures.targets in
-    edge_kept k ps i.pulls.clock i.pulls.data i.address i.live i.started i.at i.bits.items kept (Put c.args.byte) tt none
-    _ c.as_slice.ensures.value new c.put_all.ensures.targets i.pulls.clock i.pulls.data
+    edge_kept k ps i.held i.address i.live i.started i.at i.bits.items kept (Put c.args.byte) tt none
+    _ c.as_slice.ensures.value new c.put_all.ensures.targets i.held
     (put_holds c.args.byte i.address.left i.address.value i.live.items i.started.items i.at ps bs none kept.are.units (known_on ps new) told
-    i.pulls.clock kept.are.clock)
-    (put_pulls c.args.byte i.address.left i.address.value i.live.items i.started.items i.at ps bs none kept.are.units (known_on ps new) told
-    i.pulls.data kept.are.data_low)
+    i.held kept.are.clock)
 
 pub returns-clause-acked : goal.returns-clause-acked
 returns-clause-acked c =
@@ -68,8 +66,8 @@ returns-clause-after c =
     let i = c.self.inside in
     let k : Rooted = record { board = i.board.value; root = i.root } in
     seen_as k
-    (edge_seen k i.places.items i.pulls.clock i.pulls.data i.address i.live i.started i.at i.bits.items c.self.invariant (Put c.args.byte) tt
+    (edge_seen k i.places.items i.held i.address i.live i.started i.at i.bits.items c.self.invariant (Put c.args.byte) tt
     (none_comes c.is_coming.result i.address.left c.is_coming.ensures c.if-is_coming.false) _ c.as_slice.ensures.value
-    c.put_all.new.targets.items c.put_all.ensures.targets i.pulls.clock i.pulls.data (invariant_of-self-2 c))
+    c.put_all.new.targets.items c.put_all.ensures.targets i.held (invariant_of-self-2 c))
     c.add_nine.ensures
     ∙ ap (λ (v : TargetsView). record v { bits = map (where_joined (seen (Put c.args.byte))) v.bits; counts = more_edges 9 v.counts }) c.self.view_is

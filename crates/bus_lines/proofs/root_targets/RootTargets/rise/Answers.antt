@@ -13,7 +13,7 @@ use Rattle.bus_lines.specs.Units.{RegisterView, by_number}
 use Rattle.bus_lines.proofs.AwayLemmas.{units_away, whole_edge}
 use Rattle.bus_lines.proofs.InvariantLemmas.{seen_as, coming_are, rises_coming, called_are, called_view, none_comes, some_comes, last_comes, more_comes}
 use Rattle.bus_lines.proofs.KeptLemmas.{edge_known, edge_kept, edge_seen, fresh_kept, fresh_joined, call_known, call_kept, kept_with}
-use Rattle.bus_lines.proofs.RiseLemmas.{held_as, risen_holds, risen_pulls}
+use Rattle.bus_lines.proofs.RiseLemmas.{held_as, risen_holds}
 use Rattle.bus_lines.proofs.root_targets.RootTargets.rise.Goals as goal
 
 some_none : (x : ℕ) → Some x ≡ None → ⊥
@@ -32,25 +32,23 @@ invariant_of-self c =
     let kept = c.self.invariant in
     let ps = i.places.items in
     let bs = known_on ps i.bits.items in
-    let told = edge_known k ps i.pulls.clock i.pulls.data i.address i.live i.started i.at i.bits.items kept e tt none
+    let told = edge_known k ps i.held i.address i.live i.started i.at i.bits.items kept e tt none
     _ c.as_slice.ensures.value new c.tell.ensures.targets in
-    let free = held_as i.board.value k ps i.pulls.clock i.pulls.data i.address i.live i.started i.at bs kept.are
+    let free = held_as i.board.value k ps i.held i.address i.live i.started i.at bs kept.are
     ∙ ap (λ (v : TargetsView). some_one holds_line v.bits) c.self.view_is ∙ c.requires in
-    edge_kept k ps i.pulls.clock i.pulls.data i.address i.live i.started i.at i.bits.items kept e tt none
-    _ c.as_slice.ensures.value new c.tell.ensures.targets i.pulls.clock i.pulls.data
+    edge_kept k ps i.held i.address i.live i.started i.at i.bits.items kept e tt none
+    _ c.as_slice.ensures.value new c.tell.ensures.targets i.held
     (risen_holds c.args.level i.address.left i.address.value i.live.items i.started.items i.at ps bs (known_on ps new) none
-    kept.are.units told i.pulls.clock kept.are.clock free)
-    (risen_pulls c.args.level i.address.left i.address.value i.live.items i.started.items i.at ps bs (known_on ps new) none
-    kept.are.units told i.pulls.data kept.are.data_low)
+    kept.are.units told i.held kept.are.clock free)
 
 pub returns-then-not-is_coming : goal.returns-then-not-is_coming
 returns-then-not-is_coming c =
     let i = c.self.inside in
     let k : Rooted = record { board = i.board.value; root = i.root } in
     seen_as k
-    (edge_seen k i.places.items i.pulls.clock i.pulls.data i.address i.live i.started i.at i.bits.items c.self.invariant (Rise c.args.level) tt
+    (edge_seen k i.places.items i.held i.address i.live i.started i.at i.bits.items c.self.invariant (Rise c.args.level) tt
     (none_comes c.is_coming.result i.address.left c.is_coming.ensures c.if-not-is_coming.true) _ c.as_slice.ensures.value
-    c.tell.new.targets.items c.tell.ensures.targets i.pulls.clock i.pulls.data (invariant_of-self c))
+    c.tell.new.targets.items c.tell.ensures.targets i.held (invariant_of-self c))
     c.add_edge.ensures
     ∙ ap (λ (v : TargetsView). record v { bits = map (where_joined (λ b. rise node_table b c.args.level)) v.bits; counts = one_edge v.counts })
     c.self.view_is
@@ -59,7 +57,7 @@ pub call-requires-clause-index : goal.call-requires-clause-index
 call-requires-clause-index c =
     let i = c.self.inside in
     let k : Rooted = record { board = i.board.value; root = i.root } in
-    let kept = fresh_kept k i.places.items i.pulls.clock i.pulls.data i.address i.live i.started i.at i.bits.items c.self.invariant c.at.result.now
+    let kept = fresh_kept k i.places.items i.held i.address i.live i.started i.at i.bits.items c.self.invariant c.at.result.now
     c.refresh.new.targets.items
     (c.refresh.ensures
     ∙ ap (λ qs. by_number (known_of c.at.result.now (joins_by qs (states_on i.bits.items))) 0 i.bits.items) c.as_slice-in-Some.ensures.value) in
@@ -69,7 +67,7 @@ pub call-requires-clause-live : goal.call-requires-clause-live
 call-requires-clause-live c =
     let i = c.self.inside in
     let k : Rooted = record { board = i.board.value; root = i.root } in
-    let kept = fresh_kept k i.places.items i.pulls.clock i.pulls.data i.address i.live i.started i.at i.bits.items c.self.invariant c.at.result.now
+    let kept = fresh_kept k i.places.items i.held i.address i.live i.started i.at i.bits.items c.self.invariant c.at.result.now
     c.refresh.new.targets.items
     (c.refresh.ensures
     ∙ ap (λ qs. by_number (known_of c.at.result.now (joins_by qs (states_on i.bits.items))) 0 i.bits.items) c.as_slice-in-Some.ensures.value) in
@@ -79,7 +77,7 @@ pub call-requires-clause-started : goal.call-requires-clause-started
 call-requires-clause-started c =
     let i = c.self.inside in
     let k : Rooted = record { board = i.board.value; root = i.root } in
-    let kept = fresh_kept k i.places.items i.pulls.clock i.pulls.data i.address i.live i.started i.at i.bits.items c.self.invariant c.at.result.now
+    let kept = fresh_kept k i.places.items i.held i.address i.live i.started i.at i.bits.items c.self.invariant c.at.result.now
     c.refresh.new.targets.items
     (c.refresh.ensures
     ∙ ap (λ qs. by_number (known_of c.at.result.now (joins_by qs (states_on i.bits.items))) 0 i.bits.items) c.as_slice-in-Some.ensures.value) in
@@ -105,13 +103,13 @@ invariant_of-self-in-Some c =
     ∙ ap (λ ms. by_number (known_of ms (joins_by ps (states_on i.bits.items))) 0 i.bits.items) c.at.ensures in
     let call = c.call in
     let new = call.new.bits.items in
-    call_kept k ps i.pulls.clock i.pulls.data i.address i.live i.started i.at i.bits.items kept ns mid fresh call.new.live call.new.started
+    call_kept k ps i.held i.address i.live i.started i.at i.bits.items kept ns mid fresh call.new.live call.new.started
     call.ensures.live call.ensures.started c.in-Some.byte new call.ensures.bits c.take.new.self
-    (called_are k ps i.pulls.clock i.pulls.data i.address i.live i.started i.at (known_on ps i.bits.items) kept.are last c.args.level c.in-Some.byte byte low
+    (called_are k ps i.held i.address i.live i.started i.at (known_on ps i.bits.items) kept.are last c.args.level c.in-Some.byte byte low
     c.take.new.self over call.new.live call.new.started (known_on ps new)
-    (fresh_joined k ps i.pulls.clock i.pulls.data i.address i.live i.started i.at i.bits.items kept ns mid fresh i.live.items call.new.live.items call.ensures.live)
-    (fresh_joined k ps i.pulls.clock i.pulls.data i.address i.live i.started i.at i.bits.items kept ns mid fresh i.started.items call.new.started.items call.ensures.started)
-    (call_known k ps i.pulls.clock i.pulls.data i.address i.live i.started i.at i.bits.items kept ns mid fresh call.new.live call.new.started
+    (fresh_joined k ps i.held i.address i.live i.started i.at i.bits.items kept ns mid fresh i.live.items call.new.live.items call.ensures.live)
+    (fresh_joined k ps i.held i.address i.live i.started i.at i.bits.items kept ns mid fresh i.started.items call.new.started.items call.ensures.started)
+    (call_known k ps i.held i.address i.live i.started i.at i.bits.items kept ns mid fresh call.new.live call.new.started
     call.ensures.live call.ensures.started c.in-Some.byte new call.ensures.bits)
     call.ensures.live_room call.ensures.started_room)
     call.ensures.live_room call.ensures.started_room
@@ -142,11 +140,11 @@ returns-in-Some c =
     let then_kept = invariant_of-self-in-Some c in
     let gone = units_away ps now.left call.new.live.items call.new.started.items i.at (known_on ps new) then_kept.are.units in
     let view = whole_edge i.board.value ps (λ b. rise node_table b c.args.level) i.address.left i.address.value now.left now.value bs (known_on ps new) old gone
-    (called_view k ps i.pulls.clock i.pulls.data i.address i.live i.started i.at bs kept.are last c.args.level c.in-Some.byte byte low now over
+    (called_view k ps i.held i.address i.live i.started i.at bs kept.are last c.args.level c.in-Some.byte byte low now over
     call.new.live call.new.started (known_on ps new)
-    (fresh_joined k ps i.pulls.clock i.pulls.data i.address i.live i.started i.at i.bits.items kept ns mid fresh i.live.items call.new.live.items call.ensures.live)
-    (fresh_joined k ps i.pulls.clock i.pulls.data i.address i.live i.started i.at i.bits.items kept ns mid fresh i.started.items call.new.started.items call.ensures.started)
-    (call_known k ps i.pulls.clock i.pulls.data i.address i.live i.started i.at i.bits.items kept ns mid fresh call.new.live call.new.started
+    (fresh_joined k ps i.held i.address i.live i.started i.at i.bits.items kept ns mid fresh i.live.items call.new.live.items call.ensures.live)
+    (fresh_joined k ps i.held i.address i.live i.started i.at i.bits.items kept ns mid fresh i.started.items call.new.started.items call.ensures.started)
+    (call_known k ps i.held i.address i.live i.started i.at i.bits.items kept ns mid fresh call.new.live call.new.started
     call.ensures.live call.ensures.started c.in-Some.byte new call.ensures.bits)) in
     seen_as k view c.add_edge.ensures
     ∙ ap (λ (v : TargetsView). record v { bits = map (where_joined (λ b. rise node_table b c.args.level)) v.bits; counts = one_edge v.counts })
@@ -160,8 +158,8 @@ invariant_of-self-in_default c =
     let more = more_comes i.address.left some (λ last. c.in_default.not-Some _ (c.take.ensures.last last)) in
     let kept = c.self.invariant in
     let ps = i.places.items in
-    kept_with k ps i.pulls.clock i.pulls.data i.address c.take.new.self i.live i.started i.at i.bits.items kept
-    (coming_are k ps i.pulls.clock i.pulls.data i.address i.live i.started i.at (known_on ps i.bits.items)
+    kept_with k ps i.held i.address c.take.new.self i.live i.started i.at i.bits.items kept
+    (coming_are k ps i.held i.address i.live i.started i.at (known_on ps i.bits.items)
     kept.are more.0 more.1 c.take.new.self c.args.level c.take.ensures.value)
 
 pub returns-in_default : goal.returns-in_default

@@ -24,23 +24,23 @@ invariant_of-self c =
     let all = c.refresh_all.new.targets.items in
     let known : all ≡ known_on ps i.bits.items = c.refresh_all.ensures ∙ ap (λ qs. known_on qs i.bits.items) c.as_slice.ensures.value in
     let kept = c.self.invariant in
-    let are = subst (AreTargets k ps i.pulls.clock i.pulls.data i.address i.live i.started i.at) (sym known) kept.are in
+    let are = subst (AreTargets k ps i.held i.address i.live i.started i.at) (sym known) kept.are in
     let mid = s.new.bits.items in
     let bs = c.set_level.new.targets.items in
     let anew = j.ensures.targets ∙ ap (λ qs. rejoin_from (joins_by qs (states_on bs)) 0 bs) c.as_slice-2.ensures.value in
-    let kinds = line_kinds k ps i.pulls.clock i.pulls.data i.address i.live i.started i.at all are s.new.live s.new.started
+    let kinds = line_kinds k ps i.held i.address i.live i.started i.at all are s.new.live s.new.started
     s.ensures.live s.ensures.started mid bs c.args.mux c.args.level s.ensures.bits c.set_level.ensures in
-    let count = line_count k ps i.pulls.clock i.pulls.data i.address i.live i.started i.at all are s.new.live s.new.started
+    let count = line_count k ps i.held i.address i.live i.started i.at all are s.new.live s.new.started
     s.ensures.live s.ensures.started mid bs c.args.mux c.args.level s.ensures.bits c.set_level.ensures in
-    kept_anew k ps j.result.clock j.result.data s.new.address s.new.live s.new.started i.at j.new.targets.items
+    kept_anew k ps j.result s.new.address s.new.live s.new.started i.at j.new.targets.items
     (rejoined_are k ps kept.are.places s.new.live s.new.started i.at bs kinds s.new.address s.ensures.address j.new.targets.items anew
-    (line_loose k ps i.pulls.clock i.pulls.data i.address i.live i.started i.at all are s.new.live s.new.started
+    (line_loose k ps i.held i.address i.live i.started i.at all are s.new.live s.new.started
     s.ensures.live s.ensures.started mid bs c.args.mux c.args.level s.ensures.bits c.set_level.ensures)
     (s.ensures.live_room ∙ are.live_room ∙ sym count)
     (s.ensures.started_room ∙ are.started_room ∙ sym count)
-    (line_index k ps i.pulls.clock i.pulls.data i.address i.live i.started i.at all are s.new.live s.new.started
+    (line_index k ps i.held i.address i.live i.started i.at all are s.new.live s.new.started
     s.ensures.live s.ensures.started mid bs c.args.mux c.args.level s.ensures.bits c.set_level.ensures)
-    j.result.clock j.result.data j.ensures.clock j.ensures.data)
+    j.result j.ensures.held)
     (anew_is_known ps bs j.new.targets.items anew)
 
 pub returns : goal.returns
@@ -53,18 +53,18 @@ returns c =
     let all = c.refresh_all.new.targets.items in
     let known : all ≡ known_on ps i.bits.items = c.refresh_all.ensures ∙ ap (λ qs. known_on qs i.bits.items) c.as_slice.ensures.value in
     let kept = c.self.invariant in
-    let are = subst (AreTargets k ps i.pulls.clock i.pulls.data i.address i.live i.started i.at) (sym known) kept.are in
+    let are = subst (AreTargets k ps i.held i.address i.live i.started i.at) (sym known) kept.are in
     let mid = s.new.bits.items in
     let bs = c.set_level.new.targets.items in
     let anew = j.ensures.targets ∙ ap (λ qs. rejoin_from (joins_by qs (states_on bs)) 0 bs) c.as_slice-2.ensures.value in
-    let kinds = line_kinds k ps i.pulls.clock i.pulls.data i.address i.live i.started i.at all are s.new.live s.new.started
+    let kinds = line_kinds k ps i.held i.address i.live i.started i.at all are s.new.live s.new.started
     s.ensures.live s.ensures.started mid bs c.args.mux c.args.level s.ensures.bits c.set_level.ensures in
     let old = units_away ps i.address.left i.live.items i.started.items i.at all are.units in
     let view = ap (λ xs. map (shared s.new.address.left s.new.address.value) (whole_on i.board.value ps xs)) (anew_is_known ps bs j.new.targets.items anew)
     ∙ whole_rejoined k ps kept.are.places bs kinds s.new.address s.ensures.address j.new.targets.items anew
     ∙ ap (λ (xs : List (Bit NodeState)). rejoined (mask_of i.board.value i.root) xs)
     (whole_line i.board.value ps c.args.mux c.args.level i.address.left i.address.value all bs old
-    (line_seen k ps i.pulls.clock i.pulls.data i.address i.live i.started i.at all are s.new.live s.new.started
+    (line_seen k ps i.held i.address i.live i.started i.at all are s.new.live s.new.started
     s.ensures.live s.ensures.started mid bs c.args.mux c.args.level s.ensures.bits c.set_level.ensures))
     ∙ ap (λ (xs : List (Bit NodeState)). rejoined (mask_of i.board.value i.root)
     (levelled_bits c.args.mux c.args.level (map (shared i.address.left i.address.value) (whole_on i.board.value ps xs)))) known in
