@@ -19,6 +19,7 @@ pub mod AndLemmas
 pub mod GetLemmas
 pub mod AddressLemmas
 pub mod StopLemmas
+pub mod CalledLemmas
 -- Who is joined, of targets of which that isn't kept.
 pub mod KnownLemmas
 -- What each call leaves; the devices of other roots.

@@ -5,7 +5,7 @@ use Rattle.wire_spec.specs.Wires.{Bit}
 use Rattle.wire_spec.specs.Roots.{where_joined, some_one}
 use Rattle.wire_spec.specs.Bus.{holds_line}
 use Rattle.wire_spec.specs.Calls.{released}
-use Rattle.wire_spec.specs.Sites.{NodeState, node_table}
+use Rattle.wire_spec.specs.Sites.{NodeState}
 use Rattle.bus_lines.specs.declared.edges.Edge.{Edge}
 use Rattle.bus_lines.specs.declared.edges.Edge.TheVariants.{Rise, Fall, Tick, Finish, Leave, Other, Address, Put, Get, Enter}
 use Rattle.bus_lines.specs.Edges.{seen}
@@ -14,7 +14,7 @@ use Rattle.bus_lines.specs.Numbers.{is_among}
 use Rattle.bus_lines.specs.Units.{by_number, some_by, to_those, of_those, shared, IsCalm, IsUnit, AreUnits}
 use Rattle.bus_lines.proofs.KindLemmas.{NoFinish, addr_kept, joined_kept, doors, doors_kept, states_numbered, joins_kept}
 use Rattle.bus_lines.proofs.NumberedLemmas.{map_numbered, map_itself, at_number, some_of_those}
-use Rattle.bus_lines.proofs.UnitLemmas.{done_all, done_none, IsWithin, out_sees, holds_none, pulls_none}
+use Rattle.bus_lines.proofs.UnitLemmas.{done_all, done_none, IsWithin, out_sees, holds_none}
 
 -- ---- where no address comes in, each is seen as it is
 pub seen_alone : (left v : ℕ) (bs : List (Bit NodeState)) → left ≡ 0 → map (shared left v) bs ≡ bs

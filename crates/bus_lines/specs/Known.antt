@@ -1,9 +1,10 @@
 -- Who is joined, of targets of which that isn't kept: it is read from the board's tree and the chips, and kept of those alone that a
 -- message reaches.
-use Rattle.std.specs.Prelude.{◌≡◌, ℕ, Bool, true, List, cond, length, slice_get, Some}
+use Rattle.std.specs.Prelude.{◌≡◌, ◌&&◌, ℕ, Bool, true, List, cond, length, slice_get, Some}
 use Rattle.wire_spec.specs.Wires.{Bit}
 use Rattle.wire_spec.specs.Sites.{NodeState}
 use Rattle.i2c_bits.specs.Wiring.{Rooted}
+use Rattle.bus_lines.specs.Edges.{joined_at}
 use Rattle.bus_lines.specs.Joins.{PlaceView, states_on, joins_by}
 use Rattle.bus_lines.specs.LinesViews.{AreTargets}
 use Rattle.bus_lines.specs.Numbers.{NumbersView, is_among}
@@ -30,6 +31,10 @@ abbrev pub AreKnown : List ℕ → List PlaceView → List (Bit NodeState) → T
 AreKnown ns ps bs = (k : ℕ) (b : Bit NodeState) → slice_get bs k ≡ Some b → is_among ns k ≡ true
     → b.site.joined ≡ joins_by ps (states_on bs) k
 
+-- the list has those of these numbers whose targets are joined
+abbrev pub ListsJoined : List ℕ → List ℕ → List (Bit NodeState) → Type 0
+ListsJoined ns list bs = (k : ℕ) → is_among list k ≡ (is_among ns k && joined_at bs k)
+
 -- the targets of a root as they are kept: once it is known of all who is joined they are as the lists of numbers say, and it is
 -- kept of those that are in the message, and of those that it has reached
 pub record AreKept (k : Rooted) (ps : List PlaceView) (held : Bool) (address : RegisterView) (live started : NumbersView)
@@ -40,3 +45,9 @@ pub record AreKept (k : Rooted) (ps : List PlaceView) (held : Bool) (address : R
   pub live_room : live.room ≡ length bs
   pub started_room : started.room ≡ length bs
   pub index : IsIndex (length bs) at
+
+-- and there is room to list all of them once more
+pub record AreListed (k : Rooted) (ps : List PlaceView) (held : Bool) (address : RegisterView) (live started called : NumbersView)
+    (at : List (List ℕ)) (bs : List (Bit NodeState)) : Type 0 where
+  pub kept : AreKept k ps held address live started at bs
+  pub called_room : called.room ≡ length bs

@@ -3,7 +3,7 @@ use Rattle.std.specs.Prelude.{◌≡◌, ℕ, ◌+◌, ◌/◌, ◌||◌, cond, 
 use Rattle.ports.specs.Causes.{MOST, counted}
 use Rattle.i2c_spec.specs.World.{is_ack, is_slow}
 use Rattle.wire_spec.specs.Wires.{Bit, is_reading}
-use Rattle.wire_spec.specs.Roots.{some_one, pulls_line, where_joined}
+use Rattle.wire_spec.specs.Roots.{some_one, where_joined}
 use Rattle.wire_spec.specs.Started.{answers_so}
 use Rattle.wire_spec.specs.Calls.{more_edges}
 use Rattle.wire_spec.specs.Bus.{Counts, one_edge, Bus, bus_of, holds_line}

@@ -6,28 +6,54 @@ ghost use Rattle.wire_spec.specs.declared.mode.Mode.TheVariants as mode;
 ghost use Rattle.wire_spec.specs.Roots.{where_joined};
 ghost use Rattle.bus_lines.specs.declared.edges.Edge.TheVariants as the;
 ghost use Rattle.bus_lines.specs.Edges.{seen, joined_at};
+ghost use Rattle.bus_lines.specs.Joins.{joins_by, states_on};
+ghost use Rattle.bus_lines.specs.Known.{known_of, ListsJoined};
 ghost use Rattle.bus_lines.specs.Numbers.{is_among, AreNumbers, numbers_of};
 ghost use Rattle.bus_lines.specs.Units.{by_number, to_those, shared, addressed, IsIndex};
 
 use crate::Node;
 use crate::edges::{Edge, all_joined, joined_at, tell};
 use crate::index::Index;
+use crate::joining::refresh;
 use crate::numbers::Numbers;
+use crate::place::Place;
 use crate::register::Register;
 use tgt_bits::BitTarget;
 use wire_spec::Mode;
 
-/// An address byte has come in: those that are joined at its address are in the message, and were reached by it. It is told to
-/// them, and as another's start to those that a message has reached before; all else is quiet.
-#[inline(never)]
+/// Of the targets that have these numbers it is read anew whether they are joined. Lists those that are.
+#[inline(always)]
+pub fn list_joined(
+    bits: &mut Vec<BitTarget<Node>>,
+    places: &[Place],
+    numbers: &[u16],
+    list: &mut Numbers,
+)
+    requires numbers { AreNumbers (length bits.old.items) numbers.now }
+    requires room { list.old.room ≡ length bits.old.items }
+    ensures room { list.new.room ≡ list.old.room }
+    ensures bits { bits.new.items ≡ by_number (known_of numbers.now (joins_by places.now (states_on bits.old.items))) 0 bits.old.items }
+    ensures listed { ListsJoined numbers.now list.new.items bits.new.items }
+{
+    refresh(bits, places, numbers);
+    list.clear();
+    add_joined(bits, numbers, list);
+}
+
+/// An address byte has come in, with these numbers of who is joined at its address: they are in the message, and were reached by it. It
+/// is told to them, and as another's start to those that a message has reached before; all else is quiet.
+#[inline(always)]
 pub fn call(
     bits: &mut Vec<BitTarget<Node>>,
     at: &Index,
+    called: &[u16],
     live: &mut Numbers,
     started: &mut Numbers,
     byte: u8,
 )
     requires index { IsIndex (length bits.old.items) at.now }
+    requires numbers { AreNumbers (length bits.old.items) called.now }
+    requires called { ListsJoined (get_or at.now (byte / 2) []) called.now bits.old.items }
     requires live { live.old.room ≡ length bits.old.items }
     requires started { started.old.room ≡ length bits.old.items }
     ensures live_room { live.new.room ≡ live.old.room }
@@ -36,11 +62,10 @@ pub fn call(
     ensures started { (k : ℕ) → is_among started.new.items k ≡ (is_among started.old.items k || (is_among (get_or at.now (byte / 2) []) k && joined_at bits.old.items k)) }
     ensures bits { bits.new.items ≡ by_number (addressed started.new.items (get_or at.now (byte / 2) []) byte) 0 bits.old.items }
 {
-    let named = at.at(byte / 2);
-    add_joined(bits, named, live);
-    add_joined(bits, named, started);
+    add_joined(bits, called, live);
+    add_joined(bits, called, started);
     tell(bits, started.as_slice(), Edge::Other(byte));
-    tell(bits, named, Edge::Address(byte));
+    tell(bits, called, Edge::Address(byte));
 }
 
 /// Adds those of these numbers whose targets are joined.
@@ -76,7 +101,7 @@ fn clear_if(list: &mut Numbers, condition: bool)
 }
 
 /// A start: who is joined is out of the message that was.
-#[inline(never)]
+#[inline(always)]
 pub fn leave(bits: &mut Vec<BitTarget<Node>>, live: &mut Numbers)
     requires { live.old.room ≡ length bits.old.items }
     ensures live { live.new ≡ numbers_of live.old.room (cond (list_all (joined_at bits.old.items) live.old.items) [] live.old.items) }
@@ -88,7 +113,7 @@ pub fn leave(bits: &mut Vec<BitTarget<Node>>, live: &mut Numbers)
 }
 
 /// A stop: it reaches who is joined. Whether it reached all that a message had reached.
-#[inline(never)]
+#[inline(always)]
 pub fn stop(bits: &mut Vec<BitTarget<Node>>, live: &mut Numbers, started: &mut Numbers) -> bool
     requires { started.old.room ≡ length bits.old.items }
     ensures live { live.new ≡ numbers_of live.old.room (cond (list_all (joined_at bits.old.items) started.old.items) [] live.old.items) }

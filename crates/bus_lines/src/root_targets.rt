@@ -16,8 +16,8 @@ ghost use Rattle.bus_lines.specs.Opens.{opened_targets};
 use crate::counter::Counter;
 use crate::edges::{Edge, enter_all, get_all, put_all, some_pulls, some_slow, tell};
 use crate::index::Index;
-use crate::joining::{refresh, refresh_all, rejoin, set_level};
-use crate::message::{call, leave, spread, stop};
+use crate::joining::{refresh_all, rejoin, set_level};
+use crate::message::{call, leave, list_joined, spread, stop};
 use crate::numbers::Numbers;
 use crate::opening::{add_chips, add_device_places, add_devices, add_mux_places};
 use crate::place::Place;
@@ -48,6 +48,8 @@ pub struct RootTargets {
     live: Numbers,
     /// All that a message has reached since their last stop: another's start, and a stop, are nothing to others.
     started: Numbers,
+    /// Those that the last address byte named, of who is joined.
+    called: Numbers,
     /// Someone holds SCL low.
     held: bool,
     counter: Counter,
@@ -57,14 +59,14 @@ impl Model for RootTargets {
     ghost use Rattle.std.specs.Prelude.{map};
     ghost use Rattle.bus_lines.specs.LinesViews.{TargetsView};
     ghost use Rattle.bus_lines.specs.Away.{whole_on};
-    ghost use Rattle.bus_lines.specs.Known.{AreKept, known_on};
+    ghost use Rattle.bus_lines.specs.Known.{AreListed, known_on};
     ghost use Rattle.bus_lines.specs.Units.{shared};
 
     ghost Value = { TargetsView };
 
     ghost view = { λ t. record { rooted = record { board = t.board.value; root = t.root }; bits = map (shared t.address.left t.address.value) (whole_on t.board.value t.places.items (known_on t.places.items t.bits.items)); counts = t.counter } };
 
-    ghost invariant = { λ t. AreKept (record { board = t.board.value; root = t.root }) t.places.items t.held t.address t.live t.started t.at t.bits.items };
+    ghost invariant = { λ t. AreListed (record { board = t.board.value; root = t.root }) t.places.items t.held t.address t.live t.started t.called t.at t.bits.items };
 }
 
 impl RootTargets {
@@ -82,6 +84,7 @@ impl RootTargets {
         let at = Index::of(alloc, bits.as_slice())?;
         let live = Numbers::with_room(alloc, bits.len())?;
         let started = Numbers::with_room(alloc, bits.len())?;
+        let called = Numbers::with_room(alloc, bits.len())?;
         let held = rejoin(&mut bits, places.as_slice());
         Ok(RootTargets {
             board: Snapshot::of(board),
@@ -92,6 +95,7 @@ impl RootTargets {
             address: Register::none(),
             live,
             started,
+            called,
             held,
             counter: Counter::none(),
         })
@@ -155,10 +159,16 @@ impl RootTargets {
         if !self.address.is_coming() {
             tell(&mut self.bits, self.live.as_slice(), Edge::Rise(level));
         } else if let Some(byte) = self.address.take(level) {
-            refresh(&mut self.bits, self.places.as_slice(), self.at.at(byte / 2));
+            list_joined(
+                &mut self.bits,
+                self.places.as_slice(),
+                self.at.at(byte / 2),
+                &mut self.called,
+            );
             call(
                 &mut self.bits,
                 &self.at,
+                self.called.as_slice(),
                 &mut self.live,
                 &mut self.started,
                 byte,
@@ -185,8 +195,13 @@ impl RootTargets {
         if !self.address.is_coming() {
             return None;
         }
-        refresh(&mut self.bits, self.places.as_slice(), self.at.at(byte / 2));
-        if some_slow(self.bits.as_slice(), self.at.at(byte / 2)) {
+        list_joined(
+            &mut self.bits,
+            self.places.as_slice(),
+            self.at.at(byte / 2),
+            &mut self.called,
+        );
+        if some_slow(self.bits.as_slice(), self.called.as_slice()) {
             return None;
         }
         self.counter.add_nine();
@@ -194,6 +209,7 @@ impl RootTargets {
         call(
             &mut self.bits,
             &self.at,
+            self.called.as_slice(),
             &mut self.live,
             &mut self.started,
             byte,

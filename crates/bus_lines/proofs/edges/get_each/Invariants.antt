@@ -1,4 +1,4 @@
-use Rattle.std.proofs.Common.{◌≡◌, false, length, drop}
+use Rattle.std.proofs.Common.{◌≡◌, length, drop}
 use Rattle.wire_spec.specs.Roots.{where_joined}
 use Rattle.bus_lines.specs.declared.edges.Edge.TheVariants.{Get}
 use Rattle.bus_lines.specs.Edges.{seen, gives_get}

@@ -1,11 +1,12 @@
-use Rattle.std.proofs.Common.{◌≡◌, ◌/◌, ℕ, List, [], length, get_or, sym, ap, ◌∙◌, subst, arith}
+use Rattle.std.proofs.Common.{◌≡◌, ◌/◌, ◌&&◌, ◌||◌, ℕ, List, [], length, get_or, sym, ap, ◌∙◌, subst}
 use Rattle.wire_spec.specs.Wires.{Bit}
 use Rattle.wire_spec.specs.Roots.{where_joined}
 use Rattle.wire_spec.specs.Sites.{NodeState}
 use Rattle.bus_lines.specs.declared.edges.Edge.TheVariants.{Other, Address}
-use Rattle.bus_lines.specs.Edges.{seen}
-use Rattle.bus_lines.specs.Numbers.{AreNumbers}
+use Rattle.bus_lines.specs.Edges.{seen, joined_at}
+use Rattle.bus_lines.specs.Numbers.{AreNumbers, is_among}
 use Rattle.bus_lines.specs.Units.{by_number, to_those}
+use Rattle.bus_lines.proofs.CalledLemmas.{and_again, told_to_joined}
 use Rattle.bus_lines.proofs.NumberedLemmas.{numbered_twice, length-numbered}
 use Rattle.bus_lines.proofs.message.call.Goals as goal
 
@@ -15,20 +16,35 @@ tell-requires-2 c =
     let byte = c.args.byte in
     let count : length c.tell.new.targets.items ≡ length bs =
     ap length c.tell.ensures.targets ∙ length-numbered (to_those c.as_slice.result.now (where_joined (seen (Other byte)))) 0 bs in
-    let are = c.requires.index.numbers (byte / 2) (omega (arith, c.ranges.byte.fits)) in
-    subst (λ (ns : List ℕ). AreNumbers (length c.tell.new.targets.items) ns) (sym c.at-named.ensures)
-    (subst (λ (n : ℕ). AreNumbers n (get_or c.args.at.now (byte / 2) [])) (sym count) are)
+    subst (λ (n : ℕ). AreNumbers n c.args.called.now) (sym count) c.requires.numbers
+
+pub returns-clause-live : goal.returns-clause-live
+returns-clause-live c = λ k.
+    let named = is_among (get_or c.args.at.now (c.args.byte / 2) []) k in
+    let joined = joined_at c.args.bits.now.items k in
+    c.add_joined.ensures.among k
+    ∙ ap (λ xs. is_among c.args.live.now.items k || (is_among c.args.called.now k && joined_at xs k)) c.deref.ensures.value
+    ∙ ap (λ t. is_among c.args.live.now.items k || t) (ap (λ t. t && joined) (c.requires.called k) ∙ and_again named joined)
+
+pub returns-clause-started : goal.returns-clause-started
+returns-clause-started c = λ k.
+    let named = is_among (get_or c.args.at.now (c.args.byte / 2) []) k in
+    let joined = joined_at c.args.bits.now.items k in
+    c.add_joined-2.ensures.among k
+    ∙ ap (λ xs. is_among c.args.started.now.items k || (is_among c.args.called.now k && joined_at xs k)) c.deref-2.ensures.value
+    ∙ ap (λ t. is_among c.args.started.now.items k || t) (ap (λ t. t && joined) (c.requires.called k) ∙ and_again named joined)
 
 pub returns-clause-bits : goal.returns-clause-bits
 returns-clause-bits c =
     let bs = c.args.bits.now.items in
     let byte = c.args.byte in
+    let called = c.args.called.now in
     let named = get_or c.args.at.now (byte / 2) [] in
     let started = c.add_joined-2.new.list.items in
     let other = where_joined (seen (Other byte)) in
     let address = where_joined (seen (Address byte)) in
     c.tell-2.ensures.targets
-    ∙ ap (λ ns. by_number (to_those ns address) 0 c.tell.new.targets.items) c.at-named.ensures
-    ∙ ap (λ (cs : List (Bit NodeState)). by_number (to_those named address) 0 cs)
+    ∙ ap (λ (cs : List (Bit NodeState)). by_number (to_those called address) 0 cs)
     (c.tell.ensures.targets ∙ ap (λ ns. by_number (to_those ns other) 0 bs) c.as_slice.ensures.value)
+    ∙ told_to_joined (seen (Address byte)) bs named called c.requires.called (Other byte) tt started
     ∙ numbered_twice (to_those started other) (to_those named address) 0 bs

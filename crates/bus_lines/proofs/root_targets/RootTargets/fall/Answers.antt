@@ -16,9 +16,11 @@ invariant_of-self c =
     let i = c.self.inside in
     let t = c.tell-self-inside in
     let k : Rooted = record { board = i.board.value; root = i.root } in
-    edge_told k i.places.items i.held i.address i.live i.started i.at i.bits.items c.self.invariant Fall tt
+    let kept =
+    edge_told k i.places.items i.held i.address i.live i.started i.at i.bits.items c.self.invariant.kept Fall tt
     (none_comes c.is_coming.result i.address.left c.is_coming.ensures c.if-not-is_coming.true) _ c.as_slice.ensures.value
-    t.new.targets.items t.ensures.targets t.result t.ensures.held
+    t.new.targets.items t.ensures.targets t.result t.ensures.held in
+    record { kept = kept; called_room = c.self.invariant.called_room ∙ sym c.self.invariant.kept.live_room ∙ kept.live_room }
 
 pub returns-then-not-is_coming : goal.returns-then-not-is_coming
 returns-then-not-is_coming c =
@@ -26,9 +28,9 @@ returns-then-not-is_coming c =
     let t = c.tell-self-inside in
     let k : Rooted = record { board = i.board.value; root = i.root } in
     ap (λ (xs : List (Bit NodeState)). targets_of k xs i.counter)
-    (edge_seen k i.places.items i.held i.address i.live i.started i.at i.bits.items c.self.invariant Fall tt
+    (edge_seen k i.places.items i.held i.address i.live i.started i.at i.bits.items c.self.invariant.kept Fall tt
     (none_comes c.is_coming.result i.address.left c.is_coming.ensures c.if-not-is_coming.true) _ c.as_slice.ensures.value
-    t.new.targets.items t.ensures.targets t.result (invariant_of-self c))
+    t.new.targets.items t.ensures.targets t.result (invariant_of-self c).kept)
     ∙ ap (λ (v : TargetsView). record v { bits = map (where_joined fall) v.bits }) c.self.view_is
 
 pub returns-else-not-is_coming : goal.returns-else-not-is_coming

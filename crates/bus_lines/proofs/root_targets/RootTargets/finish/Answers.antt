@@ -6,6 +6,7 @@ use Rattle.wire_spec.specs.Sites.{node_table, mask_of}
 use Rattle.i2c_bits.specs.Wiring.{Rooted}
 use Rattle.bus_lines.specs.Joins.{joins_by, states_on}
 use Rattle.bus_lines.specs.LinesViews.{TargetsView}
+use Rattle.bus_lines.specs.Numbers.{NumbersView}
 use Rattle.bus_lines.specs.Units.{RegisterView}
 use Rattle.bus_lines.proofs.InvariantLemmas.{seen_as}
 use Rattle.bus_lines.proofs.KeptLemmas.{missed_kept, missed_seen, reached_kept, reached_seen}
@@ -16,9 +17,11 @@ invariant_of-self c =
     let i = c.self.inside in
     let s = c.stop in
     let k : Rooted = record { board = i.board.value; root = i.root } in
-    reached_kept k i.places.items i.held i.address i.live i.started i.at i.bits.items c.self.invariant
+    let kept =
+    reached_kept k i.places.items i.held i.address i.live i.started i.at i.bits.items c.self.invariant.kept
     s.new.live s.new.started s.ensures.live s.ensures.started s.new.bits.items s.ensures.bits
-    c.none-self-inside.result (ap (λ (r : RegisterView). r.left) c.none-self-inside.ensures) (sym s.ensures.result ∙ c.if-stop.true) false refl
+    c.none-self-inside.result (ap (λ (r : RegisterView). r.left) c.none-self-inside.ensures) (sym s.ensures.result ∙ c.if-stop.true) false refl in
+    record { kept = kept; called_room = c.self.invariant.called_room ∙ sym c.self.invariant.kept.live_room ∙ sym (ap (λ (v : NumbersView). v.room) s.ensures.live) ∙ kept.live_room }
 
 pub invariant_of-self-else-stop : goal.invariant_of-self-else-stop
 invariant_of-self-else-stop c =
@@ -26,11 +29,13 @@ invariant_of-self-else-stop c =
     let s = c.stop in
     let j = c.rejoin-self-inside in
     let k : Rooted = record { board = i.board.value; root = i.root } in
-    missed_kept k i.places.items i.held i.address i.live i.started i.at i.bits.items c.self.invariant
+    let kept =
+    missed_kept k i.places.items i.held i.address i.live i.started i.at i.bits.items c.self.invariant.kept
     s.new.live s.new.started s.ensures.live s.ensures.started s.new.bits.items s.ensures.bits
     c.none-self-inside.result (ap (λ (r : RegisterView). r.left) c.none-self-inside.ensures) j.new.targets.items
     (j.ensures.targets ∙ ap (λ qs. rejoin_from (joins_by qs (states_on s.new.bits.items)) 0 s.new.bits.items) c.as_slice.ensures.value)
-    j.result j.ensures.held
+    j.result j.ensures.held in
+    record { kept = kept; called_room = c.self.invariant.called_room ∙ sym c.self.invariant.kept.live_room ∙ sym (ap (λ (v : NumbersView). v.room) s.ensures.live) ∙ kept.live_room }
 
 pub returns-then-stop : goal.returns-then-stop
 returns-then-stop c =
@@ -38,7 +43,7 @@ returns-then-stop c =
     let s = c.stop in
     let k : Rooted = record { board = i.board.value; root = i.root } in
     seen_as k
-    (reached_seen k i.places.items i.held i.address i.live i.started i.at i.bits.items c.self.invariant
+    (reached_seen k i.places.items i.held i.address i.live i.started i.at i.bits.items c.self.invariant.kept
     s.new.live s.new.started s.ensures.live s.ensures.started s.new.bits.items s.ensures.bits
     c.none-self-inside.result (ap (λ (r : RegisterView). r.left) c.none-self-inside.ensures) (sym s.ensures.result ∙ c.if-stop.true))
     c.add_flip.ensures
@@ -54,7 +59,7 @@ returns-else-stop c =
     let j = c.rejoin-self-inside in
     let k : Rooted = record { board = i.board.value; root = i.root } in
     seen_as k
-    (missed_seen k i.places.items i.held i.address i.live i.started i.at i.bits.items c.self.invariant
+    (missed_seen k i.places.items i.held i.address i.live i.started i.at i.bits.items c.self.invariant.kept
     s.new.live s.new.started s.ensures.live s.ensures.started s.new.bits.items s.ensures.bits
     c.none-self-inside.result (ap (λ (r : RegisterView). r.left) c.none-self-inside.ensures) j.new.targets.items
     (j.ensures.targets ∙ ap (λ qs. rejoin_from (joins_by qs (states_on s.new.bits.items)) 0 s.new.bits.items) c.as_slice.ensures.value))

@@ -37,20 +37,22 @@ invariant_of-self-2 c =
     let new = given.new.targets.items in
     let k : Rooted = record { board = i.board.value; root = i.root } in
     let none = none_comes c.is_coming.result i.address.left c.is_coming.ensures c.if-is_coming.false in
-    let kept = c.self.invariant in
+    let was = c.self.invariant.kept in
     let ps = i.places.items in
-    let told = edge_known k ps i.held i.address i.live i.started i.at i.bits.items kept (Get c.args.ack) tt none
+    let told = edge_known k ps i.held i.address i.live i.started i.at i.bits.items was (Get c.args.ack) tt none
     _ c.as_slice.ensures.value new given.ensures.targets in
-    edge_kept k ps i.held i.address i.live i.started i.at i.bits.items kept (Get c.args.ack) tt none
+    let kept =
+    edge_kept k ps i.held i.address i.live i.started i.at i.bits.items was (Get c.args.ack) tt none
     _ c.as_slice.ensures.value new given.ensures.targets i.held
     (get_holds c.args.ack i.address.left i.address.value i.live.items i.started.items i.at ps (known_on ps i.bits.items) none
-    kept.are.units (known_on ps new) told i.held kept.are.clock)
+    was.are.units (known_on ps new) told i.held was.are.clock) in
+    record { kept = kept; called_room = c.self.invariant.called_room ∙ sym c.self.invariant.kept.live_room ∙ kept.live_room }
 
 pub returns-clause-byte : goal.returns-clause-byte
 returns-clause-byte c =
     let i = c.self.inside in
     let none = none_comes c.is_coming.result i.address.left c.is_coming.ensures c.if-is_coming.false in
-    let kept = c.self.invariant in
+    let kept = c.self.invariant.kept in
     let ps = i.places.items in
     let bs = known_on ps i.bits.items in
     let away = units_away ps i.address.left i.live.items i.started.items i.at bs kept.are.units in
@@ -67,8 +69,8 @@ returns-clause-after c =
     let given = c.get_all in
     let k : Rooted = record { board = i.board.value; root = i.root } in
     seen_as k
-    (edge_seen k i.places.items i.held i.address i.live i.started i.at i.bits.items c.self.invariant (Get c.args.ack) tt
+    (edge_seen k i.places.items i.held i.address i.live i.started i.at i.bits.items c.self.invariant.kept (Get c.args.ack) tt
     (none_comes c.is_coming.result i.address.left c.is_coming.ensures c.if-is_coming.false) _ c.as_slice.ensures.value
-    given.new.targets.items given.ensures.targets i.held (invariant_of-self-2 c))
+    given.new.targets.items given.ensures.targets i.held (invariant_of-self-2 c).kept)
     c.add_nine.ensures
     ∙ ap (λ (v : TargetsView). record v { bits = map (where_joined (seen (Get c.args.ack))) v.bits; counts = more_edges 9 v.counts }) c.self.view_is

@@ -35,6 +35,7 @@ invariant_of-result c =
     let len = sym c.as_slice.ensures.len ∙ count in
     let ps = c.add_device_places.new.places.items in
     let anew = c.rejoin-held.ensures.targets ∙ ap (λ ps. rejoin_from (joins_by ps (states_on bs)) 0 bs) c.as_slice-2.ensures.value in
+    let kept =
     kept_anew k ps c.rejoin-held.result c.none.result c.in_ok-live.live c.in_ok-started.started c.in_ok-at.at
     c.rejoin-held.new.targets.items
     (rejoined_are k ps (places ∙ ap (λ (x : BoardView). places_of x r) same) c.in_ok-live.live c.in_ok-started.started
@@ -46,7 +47,12 @@ invariant_of-result c =
     (ap (λ (v : NumbersView). v.room) c.in_ok-started.ensures ∙ c.len-2.ensures ∙ len)
     (subst (λ n. IsIndex n c.in_ok-at.at) count c.in_ok-at.ensures.index)
     c.rejoin-held.result c.rejoin-held.ensures.held)
-    (anew_is_known ps bs c.rejoin-held.new.targets.items anew)
+    (anew_is_known ps bs c.rejoin-held.new.targets.items anew) in
+    record {
+      kept = kept;
+      called_room = ap (λ (v : NumbersView). v.room) c.in_ok-called.ensures ∙ c.len-3.ensures
+          ∙ sym (ap (λ (v : NumbersView). v.room) c.in_ok-live.ensures ∙ c.len.ensures) ∙ kept.live_room;
+    }
 
 pub returns : goal.returns
 returns c =

@@ -31,7 +31,7 @@ returns c =
     let i = c.self.inside in
     let ps = i.places.items in
     let bs = known_on ps i.bits.items in
-    let kept = c.self.invariant in
+    let kept = c.self.invariant.kept in
     let none = none_comes c.is_coming.result i.address.left c.is_coming.ensures c.if-is_coming.false in
     let away = units_away ps i.address.left i.live.items i.started.items i.at bs kept.are.units in
     c.some_pulls.ensures

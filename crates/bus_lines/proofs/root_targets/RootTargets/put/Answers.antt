@@ -36,21 +36,23 @@ invariant_of-self-2 c =
     let new = c.put_all.new.targets.items in
     let k : Rooted = record { board = i.board.value; root = i.root } in
     let none = none_comes c.is_coming.result i.address.left c.is_coming.ensures c.if-is_coming.false in
-    let kept = c.self.invariant in
+    let was = c.self.invariant.kept in
     let ps = i.places.items in
     let bs = known_on ps i.bits.items in
-    let told = edge_known k ps i.held i.address i.live i.started i.at i.bits.items kept (Put c.args.byte) tt none
+    let told = edge_known k ps i.held i.address i.live i.started i.at i.bits.items was (Put c.args.byte) tt none
     _ c.as_slice.ensures.value new c.put_all.ensures.targets in
-    edge_kept k ps i.held i.address i.live i.started i.at i.bits.items kept (Put c.args.byte) tt none
+    let kept =
+    edge_kept k ps i.held i.address i.live i.started i.at i.bits.items was (Put c.args.byte) tt none
     _ c.as_slice.ensures.value new c.put_all.ensures.targets i.held
-    (put_holds c.args.byte i.address.left i.address.value i.live.items i.started.items i.at ps bs none kept.are.units (known_on ps new) told
-    i.held kept.are.clock)
+    (put_holds c.args.byte i.address.left i.address.value i.live.items i.started.items i.at ps bs none was.are.units (known_on ps new) told
+    i.held was.are.clock) in
+    record { kept = kept; called_room = c.self.invariant.called_room ∙ sym c.self.invariant.kept.live_room ∙ kept.live_room }
 
 pub returns-clause-acked : goal.returns-clause-acked
 returns-clause-acked c =
     let i = c.self.inside in
     let none = none_comes c.is_coming.result i.address.left c.is_coming.ensures c.if-is_coming.false in
-    let kept = c.self.invariant in
+    let kept = c.self.invariant.kept in
     let ps = i.places.items in
     let bs = known_on ps i.bits.items in
     let away = units_away ps i.address.left i.live.items i.started.items i.at bs kept.are.units in
@@ -66,8 +68,8 @@ returns-clause-after c =
     let i = c.self.inside in
     let k : Rooted = record { board = i.board.value; root = i.root } in
     seen_as k
-    (edge_seen k i.places.items i.held i.address i.live i.started i.at i.bits.items c.self.invariant (Put c.args.byte) tt
+    (edge_seen k i.places.items i.held i.address i.live i.started i.at i.bits.items c.self.invariant.kept (Put c.args.byte) tt
     (none_comes c.is_coming.result i.address.left c.is_coming.ensures c.if-is_coming.false) _ c.as_slice.ensures.value
-    c.put_all.new.targets.items c.put_all.ensures.targets i.held (invariant_of-self-2 c))
+    c.put_all.new.targets.items c.put_all.ensures.targets i.held (invariant_of-self-2 c).kept)
     c.add_nine.ensures
     ∙ ap (λ (v : TargetsView). record v { bits = map (where_joined (seen (Put c.args.byte))) v.bits; counts = more_edges 9 v.counts }) c.self.view_is

@@ -23,8 +23,8 @@ invariant_of-self c =
     let ps = i.places.items in
     let all = c.refresh_all.new.targets.items in
     let known : all ≡ known_on ps i.bits.items = c.refresh_all.ensures ∙ ap (λ qs. known_on qs i.bits.items) c.as_slice.ensures.value in
-    let kept = c.self.invariant in
-    let are = subst (AreTargets k ps i.held i.address i.live i.started i.at) (sym known) kept.are in
+    let was = c.self.invariant.kept in
+    let are = subst (AreTargets k ps i.held i.address i.live i.started i.at) (sym known) was.are in
     let mid = s.new.bits.items in
     let bs = c.set_level.new.targets.items in
     let anew = j.ensures.targets ∙ ap (λ qs. rejoin_from (joins_by qs (states_on bs)) 0 bs) c.as_slice-2.ensures.value in
@@ -32,8 +32,9 @@ invariant_of-self c =
     s.ensures.live s.ensures.started mid bs c.args.mux c.args.level s.ensures.bits c.set_level.ensures in
     let count = line_count k ps i.held i.address i.live i.started i.at all are s.new.live s.new.started
     s.ensures.live s.ensures.started mid bs c.args.mux c.args.level s.ensures.bits c.set_level.ensures in
+    let kept =
     kept_anew k ps j.result s.new.address s.new.live s.new.started i.at j.new.targets.items
-    (rejoined_are k ps kept.are.places s.new.live s.new.started i.at bs kinds s.new.address s.ensures.address j.new.targets.items anew
+    (rejoined_are k ps was.are.places s.new.live s.new.started i.at bs kinds s.new.address s.ensures.address j.new.targets.items anew
     (line_loose k ps i.held i.address i.live i.started i.at all are s.new.live s.new.started
     s.ensures.live s.ensures.started mid bs c.args.mux c.args.level s.ensures.bits c.set_level.ensures)
     (s.ensures.live_room ∙ are.live_room ∙ sym count)
@@ -41,7 +42,8 @@ invariant_of-self c =
     (line_index k ps i.held i.address i.live i.started i.at all are s.new.live s.new.started
     s.ensures.live s.ensures.started mid bs c.args.mux c.args.level s.ensures.bits c.set_level.ensures)
     j.result j.ensures.held)
-    (anew_is_known ps bs j.new.targets.items anew)
+    (anew_is_known ps bs j.new.targets.items anew) in
+    record { kept = kept; called_room = c.self.invariant.called_room ∙ sym c.self.invariant.kept.live_room ∙ sym s.ensures.live_room ∙ kept.live_room }
 
 pub returns : goal.returns
 returns c =
@@ -52,7 +54,7 @@ returns c =
     let ps = i.places.items in
     let all = c.refresh_all.new.targets.items in
     let known : all ≡ known_on ps i.bits.items = c.refresh_all.ensures ∙ ap (λ qs. known_on qs i.bits.items) c.as_slice.ensures.value in
-    let kept = c.self.invariant in
+    let kept = c.self.invariant.kept in
     let are = subst (AreTargets k ps i.held i.address i.live i.started i.at) (sym known) kept.are in
     let mid = s.new.bits.items in
     let bs = c.set_level.new.targets.items in
