@@ -245,6 +245,24 @@ impl Call {
         Some(())
     }
 
+    /// The word at a place, empty where there is none.
+    pub fn word(&self, place: usize) -> &str {
+        match self.words.as_slice().get(place) {
+            Some(word) => word.as_str(),
+            None => "",
+        }
+    }
+
+    /// The place of the first script among the words, of `run` or else of `replay`.
+    pub fn first_script(&self) -> usize {
+        if self.word(0) == "run" { 2 } else { 3 }
+    }
+
+    /// It was one of `run` or `replay`, and wrote a report to the end.
+    pub fn has_reported(&self) -> bool {
+        matches!(self.status, Status::Ok) && (self.word(0) == "run" || self.word(0) == "replay")
+    }
+
     /// The report that was written: the sections of the callers, and the lines of the journal.
     pub fn report(&self) -> Option<(&str, &str)> {
         let report = str::from_utf8(self.outside.sink.bytes()).ok()?;

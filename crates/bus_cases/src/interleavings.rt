@@ -7,6 +7,7 @@ use crate::case::{Call, Case, Files};
 use crate::devices::same_devices;
 use crate::on_wires::WiredCall;
 use crate::page::Page;
+use crate::verified::is_verified;
 use bus_journal::{entry_text, read_entry};
 use flat_world::Flat;
 use i2c_base::{Cut, Entry, Reply};
@@ -21,7 +22,7 @@ use std::thread::Threads;
 /// their first one.
 const SCHEDULES: u16 = 8192;
 
-/// Those of 1 to 9 words are below this one: by these the callers run over two wires too.
+/// Those of 1 to 9 words are below this one: by these the callers run over two wires too, and `verify` is asked of the reports.
 const WIRED_SCHEDULES: u16 = 1024;
 
 /// How many binary digits such a number has at most.
@@ -49,14 +50,8 @@ struct Tally {
     replies: u64,
     /// How many of the runs aren't those of the flat world, or differ over two wires.
     differ: u64,
-}
-
-/// The word at a place of a call.
-fn word_at(words: &[String], place: usize) -> &str {
-    match words.get(place) {
-        Some(word) => word.as_str(),
-        None => "",
-    }
+    /// Of how many of the runs `verify` says that their reports are verified, of those that it was asked of.
+    verified: u64,
 }
 
 /// The text of a file, empty where there is none.
@@ -149,9 +144,8 @@ fn are_over(alloc: Global, askers: &[Asker<'_>]) -> bool {
 impl Race {
     /// A race over these files, on the board of a call. None where memory is wanting, as in each of these.
     fn open(alloc: Global, files: &Files, call: &Call) -> Option<Self> {
-        let words = call.words.as_slice();
         Some(Race {
-            board: boards::accepted(alloc, text_of(files, word_at(words, 1)).as_bytes())?,
+            board: boards::accepted(alloc, text_of(files, call.word(1)).as_bytes())?,
             files: files.clone().ok()?,
             case: Case::new(alloc),
             call: Call::new(alloc)?,
@@ -170,6 +164,11 @@ impl Race {
         Some(wired.is_as(alloc, &self.call))
     }
 
+    /// Whether `verify` says that the report is verified.
+    fn is_verified<H: Threads + Wait + Sync>(&self, rt: &H, alloc: Global) -> Option<bool> {
+        is_verified(rt, alloc, &self.files, &self.call)
+    }
+
     /// Makes the call by the schedule of a number.
     fn run_schedule<H: Threads + Wait + Sync>(
         &mut self,
@@ -177,8 +176,7 @@ impl Race {
         alloc: Global,
         number: u16,
     ) -> Option<()> {
-        let name = word_at(self.call.words.as_slice(), 2);
-        put_schedule(self.files.get_mut(name)?, number)?;
+        put_schedule(self.files.get_mut(self.call.word(2))?, number)?;
         self.run(rt, alloc)
     }
 
@@ -203,19 +201,10 @@ impl Race {
         journal
     }
 
-    /// The place of the first script among the words.
-    fn first_script(&self) -> usize {
-        if word_at(self.call.words.as_slice(), 0) == "run" {
-            2
-        } else {
-            3
-        }
-    }
-
     /// A script of the two, which was asked for nothing yet.
     fn asker(&self, caller: usize) -> Asker<'_> {
-        let place = self.first_script().saturating_add(caller);
-        let script = text_of(&self.files, word_at(self.call.words.as_slice(), place));
+        let place = self.call.first_script().saturating_add(caller);
+        let script = text_of(&self.files, self.call.word(place));
         Asker::of(script, &self.board)
     }
 
@@ -245,6 +234,7 @@ impl Tally {
             journals: BTreeSet::new(alloc),
             replies: 0,
             differ: 0,
+            verified: 0,
         }
     }
 
@@ -273,13 +263,27 @@ impl Tally {
         }
     }
 
+    /// Asks `verify` of the report of a run, and counts whether it is verified.
+    fn verify<H: Threads + Wait + Sync>(
+        &mut self,
+        rt: &H,
+        alloc: Global,
+        race: &Race,
+    ) -> Option<()> {
+        if race.is_verified(rt, alloc)? {
+            self.verified = self.verified.saturating_add(1);
+        }
+        Some(())
+    }
+
     fn put(&self, page: &mut Page, what: &str) {
         page.put_number("", self.runs);
         page.put(what);
         page.put_number(": ", self.journals.len() as u64);
         page.put_number(" journals, ", self.replies);
         page.put_number(" replies, ", self.differ);
-        page.put(" differ");
+        page.put_number(" differ, ", self.verified);
+        page.put(" verified");
     }
 
     /// The runs in a line; of callers that share no device with the number of kinds of their sections.
@@ -295,7 +299,7 @@ impl Tally {
     }
 }
 
-/// Runs the callers by each short schedule, by the shortest over two wires too.
+/// Runs the callers by each short schedule; by the shortest over two wires too, with `verify` asked of each report.
 fn each_schedule<H: Threads + Wait + Sync>(
     rt: &H,
     alloc: Global,
@@ -304,14 +308,18 @@ fn each_schedule<H: Threads + Wait + Sync>(
 ) -> Option<()> {
     for number in 2..SCHEDULES {
         race.run_schedule(rt, alloc, number)?;
-        let is_same = number >= WIRED_SCHEDULES || race.is_same_on_wires(rt, alloc)?;
-        tally.add(alloc, race, is_same)?;
+        if number < WIRED_SCHEDULES {
+            tally.add(alloc, race, race.is_same_on_wires(rt, alloc)?)?;
+            tally.verify(rt, alloc, race)?;
+        } else {
+            tally.add(alloc, race, true)?;
+        }
     }
     Some(())
 }
 
 /// Runs the callers with each call on the first port failing in turn, up to the first that isn't made: of a call that was,
-/// an entry tells.
+/// an entry tells. `verify` is asked of each report.
 fn each_failing_call<H: Threads + Wait + Sync>(
     rt: &H,
     alloc: Global,
@@ -324,6 +332,7 @@ fn each_failing_call<H: Threads + Wait + Sync>(
             break;
         }
         tally.add(alloc, race, true)?;
+        tally.verify(rt, alloc, race)?;
     }
     Some(())
 }

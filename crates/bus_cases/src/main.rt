@@ -9,6 +9,7 @@
 //! - `fails ROOT.NUMBER..`: the calls on the ports that fail, from 0 on each root
 //! - `call WORD..`: calls the top with these words, and prints the status, what was written, each count of faults that
 //!   isn't 0, and how often the rig was plugged and unplugged
+//!   Where it wrote a report, `verify` is asked of it with the same board and scripts, and a line says so where it isn't verified.
 //!   Where no call on a port fails and no plug, the same call is made over ports that drive two wires, and a line says so where
 //!   the status, the output or a device is another then
 //! - `edges`: prints how often SCL rose in that call, on all roots
@@ -19,9 +20,10 @@
 //! - `mute`: what the program's own output answers where what is behind it takes nothing
 //! - `entry LINE`: reads a line of a journal back, and prints the line of its entry, or that it tells none
 //! - `interleavings`: replays the two scripts of the last call by each schedule of 1 to 12 words, and by their own with each
-//!   call on the first port failing in turn; those by a schedule of 1 to 9 words over two wires too. Prints of both, in a line, how many runs there were, how many of their journals
-//!   are different, how many replies they have, and how many of the runs aren't those of the flat world, or are another over
-//!   two wires
+//!   call on the first port failing in turn; those by a schedule of 1 to 9 words over two wires too. `verify` is asked of the reports
+//!   of the latter and of those with a failing call. Prints of both, in a line, how many runs there were, how many of their
+//!   journals are different, how many replies they have, how many of the runs aren't those of the flat world, or are another over
+//!   two wires, and how many of the reports are verified
 //! - `words WORD..`: the words of a call that isn't made yet, for those that follow
 //! - `again N`: makes the call of two callers so many times, and prints how many replies the runs have, and how many of them
 //!   aren't those of the flat world
@@ -70,6 +72,7 @@ mod table;
 mod transfers;
 mod trees;
 mod turns;
+mod verified;
 mod watched;
 mod wires;
 mod words;

@@ -10,6 +10,7 @@ use crate::on_wires::WiredCall;
 use crate::page::Page;
 use crate::show::{put_answers, put_call, put_calls};
 use crate::turns::put_turns;
+use crate::verified::is_verified;
 use crate::words::parted;
 use std::alloc::Global;
 use std::collections::BTreeMap;
@@ -133,10 +134,27 @@ impl Table {
         self.is_called = self.has_called(rt, alloc, words).is_some();
         page.require(self.is_called);
         put_call(page, &self.call);
+        if self.call.has_reported() {
+            let put = self.put_verified(rt, page, alloc);
+            page.require(put.is_some());
+        }
         if self.case.has_sound_ports() {
             let put = self.put_wired(rt, page, alloc);
             page.require(put.is_some());
         }
+    }
+
+    // Asks `verify` of the report that was written, and says so where it isn't verified.
+    fn put_verified<H: Threads + Wait + Sync>(
+        &self,
+        rt: &H,
+        page: &mut Page,
+        alloc: Global,
+    ) -> Option<()> {
+        if !is_verified(rt, alloc, &self.files, &self.call)? {
+            page.put_line("its report isn't verified");
+        }
+        Some(())
     }
 
     // Makes the same call over two wires, and says so where it leaves anything else.
