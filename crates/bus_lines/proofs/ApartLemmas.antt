@@ -16,7 +16,7 @@ use Rattle.wire_spec.specs.Sites.{NodeState, Chip, Device, site_with, both, chip
 use Rattle.wire_spec.specs.WorldLaws.{PartsOfBoth}
 use Rattle.i2c_bits.specs.Wiring.{Rooted}
 use Rattle.bus_lines.specs.Joins.{PlaceView, mux_place, device_place, places_of, is_chip, kinds_of, states_on}
-use Rattle.bus_lines.specs.Away.{is_wired, opened_at, whole_at, whole_on}
+use Rattle.bus_lines.specs.Away.{is_wired, opened_at, rested, whole_at, whole_on}
 use Rattle.bus_lines.specs.Units.{by_number}
 use Rattle.bus_lines.specs.Owned.{is_of, is_own, own_device, without}
 use Rattle.bus_lines.specs.Aparts.{apart_of, world_apart, device_of, emptied}
@@ -151,7 +151,7 @@ set_numbered f k (suc i) (x ∷ xs) y =
     ap (λ ys. f k x ∷ ys) (set_numbered f (k + 1) i xs y ∙ ap (λ n. set (by_number f (k + 1) xs) i (f n y)) e)
 
 there_whole : (b : BoardView) (ps : List PlaceView) (i : ℕ) (c : Bit NodeState) → is_wired ps i ≡ true → whole_at b ps i c ≡ c
-there_whole b ps i c wired = ap (λ t. cond t c (record c { site = record c.site { state = opened_at b i c.site.state } })) wired
+there_whole b ps i c wired = ap (λ t. cond t c (rested b i c)) wired
 
 pub get_whole : (b : BoardView) (ps : List PlaceView) (i : ℕ) (bs : List (Bit NodeState)) (d : Bit NodeState) → is_wired ps i ≡ true → i < length bs
     → get_or (whole_on b ps bs) i d ≡ get_or bs i d
@@ -176,7 +176,7 @@ kind_opened b k (Device x) = kind_or (slice_get b.devices (k - length b.muxes))
     kind_or (Some d) = refl
 
 kind_whole : (b : BoardView) (k : ℕ) (t : Bool) (c : Bit NodeState)
-    → is_chip (cond t c (record c { site = record c.site { state = opened_at b k c.site.state } })).site.state ≡ is_chip c.site.state
+    → is_chip (cond t c (rested b k c)).site.state ≡ is_chip c.site.state
 kind_whole b k true c = refl
 kind_whole b k false c = kind_opened b k c.site.state
 

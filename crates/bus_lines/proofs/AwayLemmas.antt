@@ -12,9 +12,9 @@ use Rattle.i2c_spec.specs.Tree.{root_of}
 use Rattle.wire_spec.specs.Wires.{Bit, site_of, stands}
 use Rattle.wire_spec.specs.Roots.{where_joined, some_one}
 use Rattle.wire_spec.specs.Bus.{rejoin_from, rejoined}
-use Rattle.wire_spec.specs.Sites.{NodeState, Chip, Device, mask_of}
+use Rattle.wire_spec.specs.Sites.{NodeState, Chip, Device, NO_ADDRESS, mask_of}
 use Rattle.i2c_bits.specs.Wiring.{node_level, levelled_bits}
-use Rattle.bus_lines.specs.Away.{is_wired, opened_at, whole_at, whole_on, kept_device, kept_bits}
+use Rattle.bus_lines.specs.Away.{is_wired, opened_at, addr_at, rested, whole_at, whole_on, kept_device, kept_bits}
 use Rattle.bus_lines.specs.Joins.{PlaceView, is_chip, kinds_of, states_on, opens_at, joins, joins_by, places_of, mux_place, device_place, read_anew, at_node_level}
 use Rattle.bus_lines.specs.Opens.{chip_bit, device_bit, bits_of}
 use Rattle.bus_lines.specs.Units.{by_number, shared, AreUnits}
@@ -44,13 +44,10 @@ unfolding AreAway
 units_away ps left live started at bs units k c is away = (units k c is).joined ∙ away_place (states_on bs) (slice_get ps k) away
 
 module _ (b : BoardView) (ps : List PlaceView) where
-  abbrev rested : ℕ → Bit NodeState → Bit NodeState
-  rested k c = record c { site = record c.site { state = opened_at b k c.site.state } }
-
   whole_goes : (w : Bool) (k : ℕ) (c : Bit NodeState) (g : Bit NodeState → Bit NodeState) → ((d : Bit NodeState) → d.site.joined ≡ false → g d ≡ d)
-      → (w ≡ false → c.site.joined ≡ false) → g (cond w c (rested k c)) ≡ cond w (g c) (rested k (g c))
+      → (w ≡ false → c.site.joined ≡ false) → g (cond w c (rested b k c)) ≡ cond w (g c) (rested b k (g c))
   whole_goes true k c g stays away = refl
-  whole_goes false k c g stays away = stays (rested k c) (away refl) ∙ ap (rested k) (sym (stays c (away refl)))
+  whole_goes false k c g stays away = stays (rested b k c) (away refl) ∙ ap (rested b k) (sym (stays c (away refl)))
 
   pub whole_map : (g : Bit NodeState → Bit NodeState) → ((d : Bit NodeState) → d.site.joined ≡ false → g d ≡ d) → (xs : List (Bit NodeState))
       → AreAway ps xs → map g (whole_on b ps xs) ≡ whole_on b ps (map g xs)
@@ -95,7 +92,7 @@ module _ (b : BoardView) (ps : List PlaceView) where
   opened_doors k (Chip x) = refl
   opened_doors k (Device x) = device_doors x (slice_get b.devices (k - length b.muxes))
 
-  whole_either : (w : Bool) (k : ℕ) (c : Bit NodeState) → doors (cond w c (rested k c)).site.state ≡ doors c.site.state
+  whole_either : (w : Bool) (k : ℕ) (c : Bit NodeState) → doors (cond w c (rested b k c)).site.state ≡ doors c.site.state
   whole_either true k c = refl
   whole_either false k c = opened_doors k c.site.state
 
@@ -107,7 +104,7 @@ module _ (b : BoardView) (ps : List PlaceView) where
   rejoin_ext f g k (x ∷ xs) same =
       ap (λ j. read_anew j x ∷ rejoin_from f (k + 1) xs) (same k) ∙ ap (λ ys. read_anew (g k) x ∷ ys) (rejoin_ext f g (k + 1) xs same)
 
-  anew_either : (w j : Bool) (k : ℕ) (c : Bit NodeState) → cond w (read_anew j c) (rested k (read_anew j c)) ≡ read_anew j (cond w c (rested k c))
+  anew_either : (w j : Bool) (k : ℕ) (c : Bit NodeState) → cond w (read_anew j c) (rested b k (read_anew j c)) ≡ read_anew j (cond w c (rested b k c))
   anew_either true j k c = refl
   anew_either false j k c = refl
 
@@ -134,10 +131,16 @@ module _ (b : BoardView) (ps : List PlaceView) where
   level_opened level k (Chip x) = refl
   level_opened level k (Device x) = level_device x level (slice_get b.devices (k - length b.muxes))
 
-  level_either : (w : Bool) (level k : ℕ) (c : Bit NodeState) → at_node_level level (cond w c (rested k c)) ≡ cond w (at_node_level level c) (rested k (at_node_level level c))
+  address_opened : (level k : ℕ) (x : NodeState) (addr : ℕ) → addr_at b k (node_level x level) addr ≡ addr_at b k x addr
+  address_opened level k (Chip x) addr = refl
+  address_opened level k (Device x) addr = refl
+
+  level_either : (w : Bool) (level k : ℕ) (c : Bit NodeState) → at_node_level level (cond w c (rested b k c)) ≡ cond w (at_node_level level c) (rested b k (at_node_level level c))
   level_either true level k c = refl
   level_either false level k c =
-      ap (λ x. record c { site = record c.site { state = x } }) (level_opened level k c.site.state)
+      ap (λ x. record c { site = record c.site { addr = addr_at b k c.site.state c.site.addr; state = x } }) (level_opened level k c.site.state)
+      ∙ ap (λ a. record c { site = record c.site { addr = a; state = opened_at b k (node_level c.site.state level) } })
+      (sym (address_opened level k c.site.state c.site.addr))
 
   levelled_from : (m level k : ℕ) (xs : List (Bit NodeState))
       → levelled_bits m level (by_number (whole_at b ps) k xs) ≡ by_number (whole_at b ps) k (levelled_bits m level xs)
@@ -160,9 +163,9 @@ module _ (b : BoardView) (ps : List PlaceView) where
       subst (λ n. p (whole_at b ps n c) ≡ p c) e (same (suc i) c is)))
 
   pull_either : (p : Bit NodeState → Bool) → ((d : Bit NodeState) → d.site.joined ≡ false → p d ≡ false) → (w : Bool) (k : ℕ) (c : Bit NodeState)
-      → (w ≡ false → c.site.joined ≡ false) → p (cond w c (rested k c)) ≡ p c
+      → (w ≡ false → c.site.joined ≡ false) → p (cond w c (rested b k c)) ≡ p c
   pull_either p none true k c away = refl
-  pull_either p none false k c away = none (rested k c) (away refl) ∙ sym (none c (away refl))
+  pull_either p none false k c away = none (rested b k c) (away refl) ∙ sym (none c (away refl))
 
   pub whole_some : (p : Bit NodeState → Bool) → ((d : Bit NodeState) → d.site.joined ≡ false → p d ≡ false) → (l v : ℕ) (xs : List (Bit NodeState))
       → AreAway ps xs → some_one p (map (shared l v) xs) ≡ some_one p (map (shared l v) (whole_on b ps xs))
@@ -175,9 +178,9 @@ module _ (b : BoardView) (ps : List PlaceView) where
 
   -- what each gives, where who isn't joined gives always the same
   give_either : (q : Bit NodeState → ℕ) (e : ℕ) → ((d : Bit NodeState) → d.site.joined ≡ false → q d ≡ e) → (w : Bool) (k : ℕ) (c : Bit NodeState)
-      → (w ≡ false → c.site.joined ≡ false) → q (cond w c (rested k c)) ≡ q c
+      → (w ≡ false → c.site.joined ≡ false) → q (cond w c (rested b k c)) ≡ q c
   give_either q e none true k c away = refl
-  give_either q e none false k c away = none (rested k c) (away refl) ∙ sym (none c (away refl))
+  give_either q e none false k c away = none (rested b k c) (away refl) ∙ sym (none c (away refl))
 
   pub whole_given : (q : Bit NodeState → ℕ) (e : ℕ) → ((d : Bit NodeState) → d.site.joined ≡ false → q d ≡ e) → (l v : ℕ)
       (xs : List (Bit NodeState)) → AreAway ps xs → map q (map (shared l v) xs) ≡ map q (map (shared l v) (whole_on b ps xs))
@@ -215,11 +218,12 @@ whole_rejoined k ps places bs kinds now over new is =
 -- ---- the opening
 device_whole : (b : BoardView) (ps : List PlaceView) (k : ℕ) (w : Bool) (d : DeviceView) → is_wired ps k ≡ w
     → slice_get b.devices (k - length b.muxes) ≡ Some d → whole_at b ps k (device_at w d) ≡ device_bit d
-device_whole b ps k true d wired is = ap (λ u. cond u (device_at true d) (rested b ps k (device_at true d))) wired
+device_whole b ps k true d wired is = ap (λ u. cond u (device_at true d) (rested b k (device_at true d))) wired
 device_whole b ps k false d wired is =
-    ap (λ u. cond u (device_at false d) (rested b ps k (device_at false d))) wired
+    ap (λ u. cond u (device_at false d) (rested b k (device_at false d))) wired
     ∙ ap (λ (o : Option DeviceView). stands
-    (site_of d.addr false false (option_map_or (λ (x : DeviceView). Device (opening_state x)) o (Device Silent))) Out 0) is
+    (site_of (option_map_or (λ (x : DeviceView). x.addr) o NO_ADDRESS) false false
+    (option_map_or (λ (x : DeviceView). Device (opening_state x)) o (Device Silent))) Out 0) is
 
 devices_whole : (b : BoardView) (ps : List PlaceView) (r n : ℕ) (ds : List DeviceView)
     → ((j : ℕ) (d : DeviceView) → slice_get ds j ≡ Some d → is_wired ps (n + j) ≡ (root_of b d.bus == r))

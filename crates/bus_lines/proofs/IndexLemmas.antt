@@ -1,14 +1,13 @@
 -- Who is at each address. The inductions go over the targets.
-use Rattle.std.proofs.Common.{◌≡◌, ℕ, zero, suc, ◌+◌, ◌==◌, ◌<◌, ◌≤◌, Bool, true, false, ◌||◌, cond, List, [], ◌∷◌, ◌++◌, length, take, map, get_or, Some, None, refl, sym, ap, ◌∙◌, subst, arith, zero-add}
+use Rattle.std.proofs.Common.{◌≡◌, ℕ, zero, suc, ◌+◌, ◌==◌, ◌<◌, ◌≤◌, Bool, true, false, ◌||◌, cond, List, [], ◌∷◌, ◌++◌, Vec, length, take, set, get_or, Some, None, append-nil, refl, sym, ap, ◌∙◌, subst, arith, zero-add}
 use Rattle.std.specs.Prelude.{slice_get}
-use Rattle.std.specs.List.{IsDistinct, AllByRecursion, range_with_len}
+use Rattle.std.specs.List.{IsDistinct, AllByRecursion}
 use Rattle.std.proofs.lemmas.Bool.{ne_eqb}
-use Rattle.std.proofs.lemmas.List.{length-map, take_more, length-take-le}
-use Rattle.std.proofs.lemmas.List.FromFn.{length-range_with_len, get_or-map-range_with_len}
+use Rattle.std.proofs.lemmas.List.{take_more, length-take-le}
 use Rattle.wire_spec.specs.Wires.{Bit}
 use Rattle.wire_spec.specs.Sites.{NodeState, NO_ADDRESS}
 use Rattle.bus_lines.specs.Numbers.{is_among, AreNumbers}
-use Rattle.bus_lines.specs.Units.{numbers_from, numbers_at, IsIndex}
+use Rattle.bus_lines.specs.Units.{numbers_from, numbers_at, lists_of, IsIndex}
 use Rattle.bus_lines.proofs.NumberedLemmas.{same_number, or_yes}
 use Rattle.bus_lines.proofs.AddressLemmas.{same_of}
 
@@ -110,14 +109,57 @@ numbers_listed k (suc i) n (c ∷ bs) b a at is =
     later_listed (a == c.site.addr) k n (numbers_from (k + 1) bs a) (ne_eqb n k (λ e. absurd (omega (arith, e, at))))
     ∙ numbers_listed (k + 1) i n bs b a (omega (arith, at)) is
 
-module _ (bs : List (Bit NodeState)) (at : List (List ℕ)) (listed : at ≡ map (numbers_at bs) (range_with_len 0 128)) where
-  index_at : (a : ℕ) → a < NO_ADDRESS → get_or at a [] ≡ numbers_at bs a
-  index_at a low = ap (λ ls. get_or ls a []) listed ∙ get_or-map-range_with_len (numbers_at bs) 0 128 a a [] low (zero-add a)
+-- ---- one address more, with nobody there
+pub none_more : {Z : Type 0} (at : List (Vec ℕ Z)) (v : Vec ℕ Z) → v.items ≡ [] → ((a : ℕ) → get_or (lists_of at) a [] ≡ []) → (a : ℕ)
+    → get_or (lists_of (at ++ v ∷ [])) a [] ≡ []
+none_more [] v new none zero = new
+none_more [] v new none (suc a) = refl
+none_more (x ∷ xs) v new none zero = none 0
+none_more (x ∷ xs) v new none (suc a) = none_more xs v new (λ b. none (suc b)) a
 
+-- ---- one number more at one address
+lists_get : {Z : Type 0} (at : List (Vec ℕ Z)) (j : ℕ) (v : Vec ℕ Z) → j < length at → v ≡ get_or at j v → get_or (lists_of at) j [] ≡ v.items
+lists_get {Z = Z} [] j v lt is = absurd (omega (arith, lt))
+lists_get {Z = Z} (x ∷ xs) zero v lt is = ap (λ (w : Vec ℕ Z). w.items) (sym is)
+lists_get {Z = Z} (x ∷ xs) (suc j) v lt is = lists_get xs j v (omega (arith, lt)) is
+
+lists_here : {Z : Type 0} (at : List (Vec ℕ Z)) (j : ℕ) (v : Vec ℕ Z) → j < length at → get_or (lists_of (set at j v)) j [] ≡ v.items
+lists_here [] j v lt = absurd (omega (arith, lt))
+lists_here (x ∷ xs) zero v lt = refl
+lists_here (x ∷ xs) (suc j) v lt = lists_here xs j v (omega (arith, lt))
+
+lists_elsewhere : {Z : Type 0} (at : List (Vec ℕ Z)) (j a : ℕ) (v : Vec ℕ Z) → (a ≡ j → ⊥) → get_or (lists_of (set at j v)) a [] ≡ get_or (lists_of at) a []
+lists_elsewhere [] j a v other = refl
+lists_elsewhere (x ∷ xs) zero zero v other = absurd (other refl)
+lists_elsewhere (x ∷ xs) zero (suc a) v other = refl
+lists_elsewhere (x ∷ xs) (suc j) zero v other = refl
+lists_elsewhere (x ∷ xs) (suc j) (suc a) v other = lists_elsewhere xs j a v (λ e. other (ap suc e))
+
+pub number_put : {Z : Type 0} (at : List (Vec ℕ Z)) (bs : List (Bit NodeState)) (i j : ℕ) (b : Bit NodeState) (was v : Vec ℕ Z) → j < length at
+    → j ≡ b.site.addr → i < length bs → b ≡ get_or bs i b → was ≡ get_or at j was → v.items ≡ was.items ++ i ∷ [] → (a : ℕ)
+    → get_or (lists_of at) a [] ≡ numbers_at (take i bs) a → (t : Bool) → (a == j) ≡ t
+    → get_or (lists_of (set at j v)) a [] ≡ numbers_at (take (i + 1) bs) a
+number_put at bs i j b was v low addr lt is old new a listed true here =
+    let e : a ≡ j = same_of a j here in
+    ap (get_or (lists_of (set at j v)) a) refl ∙ ap (λ n. get_or (lists_of (set at j v)) n []) e ∙ lists_here at j v low ∙ new
+    ∙ ap (λ ns. ns ++ i ∷ []) (sym (lists_get at j was low old) ∙ ap (λ n. get_or (lists_of at) n []) (sym e) ∙ listed)
+    ∙ sym (numbers_step bs i b a true lt is (ap (λ n. a == n) (sym addr) ∙ here))
+number_put at bs i j b was v low addr lt is old new a listed false other =
+    lists_elsewhere at j a v (λ e. let no : false ≡ true = sym other ∙ same_tells a j e in cc) ∙ listed
+    ∙ sym (numbers_step bs i b a false lt is (ap (λ n. a == n) (sym addr) ∙ other) ∙ append-nil (numbers_at (take i bs) a))
+
+-- a target at no address
+pub number_left : (bs : List (Bit NodeState)) (i : ℕ) (b : Bit NodeState) (a : ℕ) → NO_ADDRESS ≤ b.site.addr → i < length bs → b ≡ get_or bs i b
+    → a < NO_ADDRESS → numbers_at (take i bs) a ≡ numbers_at (take (i + 1) bs) a
+number_left bs i b a high lt is low =
+    sym (numbers_step bs i b a false lt is (ne_eqb a b.site.addr (λ e. absurd (omega (arith, e, high, low)))) ∙ append-nil (numbers_at (take i bs) a))
+
+module _ (bs : List (Bit NodeState)) (at : List (List ℕ)) (long : length at ≡ NO_ADDRESS)
+    (index_at : (a : ℕ) → a < NO_ADDRESS → get_or at a [] ≡ numbers_at bs a) where
   pub index_is : IsIndex (length bs) at
   index_is =
       record {
-        all = ap length listed ∙ length-map (range_with_len 0 128) (numbers_at bs) ∙ length-range_with_len 0 128;
+        all = long;
         numbers = λ a low. subst (AreNumbers (length bs)) (sym (index_at a low)) (numbers_are bs a);
       }
 

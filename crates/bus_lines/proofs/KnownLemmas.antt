@@ -63,7 +63,7 @@ module _ (ps : List PlaceView) where
       ∙ ap (λ xs. knows (joins_by ps xs) (by_number (known_of ns f) 0 bs)) (states_known_of ns f bs)
       ∙ knows_of ns f bs
 
-  refreshed_states : (ns : List ℕ) (bs new : List (Bit NodeState)) → new ≡ by_number (known_of ns (joins_by ps (states_on bs))) 0 bs
+  pub refreshed_states : (ns : List ℕ) (bs new : List (Bit NodeState)) → new ≡ by_number (known_of ns (joins_by ps (states_on bs))) 0 bs
       → states_on new ≡ states_on bs
   refreshed_states ns bs new is = ap states_on is ∙ states_known_of ns (joins_by ps (states_on bs)) bs
 

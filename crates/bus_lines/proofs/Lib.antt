@@ -22,6 +22,7 @@ pub mod StopLemmas
 pub mod CalledLemmas
 -- Who is joined, of targets of which that isn't kept.
 pub mod KnownLemmas
+pub mod ListedLemmas
 -- What each call leaves; the devices of other roots.
 pub mod InvariantLemmas
 pub mod AwayLemmas

@@ -1,6 +1,6 @@
 -- Which targets an edge touches: those that were called since the last start, and no other, who is out of the message. While an
 -- address byte comes in, all that is joined takes it in alike, so that one register stands for all.
-use Rattle.std.specs.Prelude.{◌≡◌, ℕ, zero, suc, ◌+◌, ◌<◌, ◌==◌, Bool, true, false, ◌&&◌, ◌||◌, List, [], ◌∷◌, cond, length, get_or, slice_get, Some, bit_and}
+use Rattle.std.specs.Prelude.{◌≡◌, ℕ, zero, suc, ◌+◌, ◌<◌, ◌==◌, Bool, true, false, ◌&&◌, ◌||◌, List, [], ◌∷◌, Vec, cond, length, map, get_or, slice_get, Some, bit_and}
 use Rattle.i2c_spec.specs.Targets.{IsQuiet}
 use Rattle.wire_spec.specs.declared.mode.Mode.TheVariants.{In}
 use Rattle.wire_spec.specs.Wires.{Bit, stands}
@@ -80,6 +80,10 @@ numbers_from k (b ∷ bs) a = cond (a == b.site.addr) (k ∷ numbers_from (k + 1
 
 abbrev pub numbers_at : List (Bit NodeState) → ℕ → List ℕ
 numbers_at bs a = numbers_from 0 bs a
+
+-- what these lists hold
+abbrev pub lists_of : {A Z : Type 0} → List (Vec A Z) → List (List A)
+lists_of at = map (λ numbers. numbers.items) at
 
 -- the numbers of the targets at each 7-bit address, of so many targets
 pub record IsIndex (count : ℕ) (at : List (List ℕ)) : Type 0 where

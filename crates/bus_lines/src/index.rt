@@ -1,9 +1,9 @@
 //! Who is at each address.
-ghost use Rattle.std.specs.Prelude.{◌≡◌, ◌<◌, ◌==◌, ℕ, [], get_or, slice_get, length, Some, IfOk};
+ghost use Rattle.std.specs.Prelude.{◌≡◌, ◌<◌, ◌==◌, ℕ, [], get_or, slice_get, length, Some, IfOk, OnOk};
 ghost use Rattle.wire_spec.specs.Wires.{Bit};
 ghost use Rattle.wire_spec.specs.Sites.{NodeState, NO_ADDRESS};
 ghost use Rattle.bus_lines.specs.Numbers.{is_among};
-ghost use Rattle.bus_lines.specs.Units.{IsIndex, numbers_at};
+ghost use Rattle.bus_lines.specs.Units.{IsIndex, lists_of, numbers_at};
 
 use crate::Node;
 use std::alloc::{AllocError, Global};
@@ -20,11 +20,12 @@ pub struct Index {
 }
 
 impl Model for Index {
-    ghost use Rattle.std.specs.Prelude.{ℕ, List, map};
+    ghost use Rattle.std.specs.Prelude.{ℕ, List};
+    ghost use Rattle.bus_lines.specs.Units.{lists_of};
 
     ghost Value = { List (List ℕ) };
 
-    ghost view = { λ n. map (λ numbers. numbers.items) n.at.items };
+    ghost view = { λ n. lists_of n.at.items };
 }
 
 impl Index {
@@ -36,9 +37,10 @@ impl Index {
             → (a : ℕ) → a < NO_ADDRESS → is_among (get_or index a []) k ≡ (a == b.site.addr)) }
     {
         let mut at = Vec::with_capacity(alloc, usize::from(ADDRESSES))?;
-        for address in 0..ADDRESSES {
-            at.push_reserved(numbers_at(alloc, targets, address)?);
+        for _ in 0..ADDRESSES {
+            at.push_reserved(Vec::new(alloc));
         }
+        add_each(&mut at, targets)?;
         Ok(Index { at })
     }
 
@@ -51,21 +53,20 @@ impl Index {
     }
 }
 
-/// The numbers of the targets at this address.
-fn numbers_at(
-    alloc: Global,
-    targets: &[BitTarget<Node>],
-    address: u8,
-) -> Result<Vec<u16>, AllocError>
-    requires { length targets.now < 65536 }
-    ensures { IfOk result (λ numbers. numbers.items ≡ numbers_at targets.now address) }
+/// The number of each target is put to those at its address, where that is one.
+fn add_each(at: &mut Vec<Vec<u16>>, targets: &[BitTarget<Node>]) -> Result<(), AllocError>
+    requires few { length targets.now < 65536 }
+    requires all { length at.old.items ≡ NO_ADDRESS }
+    requires none { (a : ℕ) → a < NO_ADDRESS → get_or (lists_of at.old.items) a [] ≡ [] }
+    ensures all { OnOk result (length at.new.items ≡ NO_ADDRESS) }
+    ensures listed { OnOk result ((a : ℕ) → a < NO_ADDRESS → get_or (lists_of at.new.items) a [] ≡ numbers_at targets.now a) }
 {
-    let mut numbers = Vec::new(alloc);
     for number in 0..targets.len() {
         let target = &targets[number];
-        if address == target.addr {
-            numbers.push(number as u16)?;
+        let addr = usize::from(target.addr);
+        if addr < at.len() {
+            at[addr].push(number as u16)?;
         }
     }
-    Ok(numbers)
+    Ok(())
 }

@@ -1,15 +1,16 @@
 //! Who is joined to the wires.
-ghost use Rattle.std.specs.Prelude.{◌≡◌, length};
+ghost use Rattle.std.specs.Prelude.{◌≡◌, [], length};
 ghost use Rattle.wire_spec.specs.Roots.{some_one};
 ghost use Rattle.wire_spec.specs.Bus.{holds_line, rejoin_from};
 ghost use Rattle.bus_lines.specs.Joins.{at_node_level, joins_by, read_anew, states_on};
-ghost use Rattle.bus_lines.specs.Known.{known, known_of, known_on};
+ghost use Rattle.bus_lines.specs.Known.{known, known_of, known_on, ListsJoined};
 ghost use Rattle.bus_lines.specs.Numbers.{AreNumbers};
 ghost use Rattle.bus_lines.specs.Units.{by_number};
 ghost use Rattle.i2c_bits.specs.Wiring.{levelled_bits};
 
 use crate::Node;
 use crate::edges::holds_with;
+use crate::numbers::Numbers;
 use crate::place::Place;
 use i2c_base::MuxId;
 use tgt_bits::BitTarget;
@@ -31,27 +32,46 @@ fn set_known(target: &mut BitTarget<Node>, joined: bool)
     target.joined = joined;
 }
 
-/// Of the targets that have these numbers it is read anew whether they are joined.
+/// Of the targets that have these numbers it is read anew whether they are joined. Lists those that are.
 #[inline(always)]
-pub fn refresh(targets: &mut Vec<BitTarget<Node>>, places: &[Place], numbers: &[u16])
-    requires { AreNumbers (length targets.old.items) numbers.now }
-    ensures { targets.new.items ≡ by_number (known_of numbers.now (joins_by places.now (states_on targets.old.items))) 0 targets.old.items }
+pub fn list_joined(
+    bits: &mut Vec<BitTarget<Node>>,
+    places: &[Place],
+    numbers: &[u16],
+    list: &mut Numbers,
+)
+    requires numbers { AreNumbers (length bits.old.items) numbers.now }
+    requires room { list.old.room ≡ length bits.old.items }
+    ensures room { list.new.room ≡ list.old.room }
+    ensures bits { bits.new.items ≡ by_number (known_of numbers.now (joins_by places.now (states_on bits.old.items))) 0 bits.old.items }
+    ensures listed { ListsJoined numbers.now list.new.items bits.new.items }
 {
-    refresh_those(targets, places, numbers)
+    list.clear();
+    list_those(bits, places, numbers, list);
 }
 
-/// The same of a slice.
+/// The same of a slice, into a list that was empty.
 #[inline(always)]
-fn refresh_those(targets: &mut [BitTarget<Node>], places: &[Place], numbers: &[u16])
-    requires { AreNumbers (length targets.old) numbers.now }
-    ensures { targets.new ≡ by_number (known_of numbers.now (joins_by places.now (states_on targets.old))) 0 targets.old }
+fn list_those(
+    targets: &mut [BitTarget<Node>],
+    places: &[Place],
+    numbers: &[u16],
+    list: &mut Numbers,
+)
+    requires numbers { AreNumbers (length targets.old) numbers.now }
+    requires room { list.old.room ≡ length targets.old }
+    requires none { list.old.items ≡ [] }
+    ensures room { list.new.room ≡ list.old.room }
+    ensures targets { targets.new ≡ by_number (known_of numbers.now (joins_by places.now (states_on targets.old))) 0 targets.old }
+    ensures listed { ListsJoined numbers.now list.new.items targets.new }
 {
     for number in numbers {
-        let number = usize::from(*number);
-        let is_there = number < targets.len();
+        let place = usize::from(*number);
+        let is_there = place < targets.len();
         prove!(is_there);
-        let joined = joins_by(places, targets, number);
-        set_known(&mut targets[number], joined);
+        let joined = joins_by(places, targets, place);
+        set_known(&mut targets[place], joined);
+        list.add_if(joined, *number);
     }
 }
 

@@ -6,39 +6,17 @@ ghost use Rattle.wire_spec.specs.declared.mode.Mode.TheVariants as mode;
 ghost use Rattle.wire_spec.specs.Roots.{where_joined};
 ghost use Rattle.bus_lines.specs.declared.edges.Edge.TheVariants as the;
 ghost use Rattle.bus_lines.specs.Edges.{seen, joined_at};
-ghost use Rattle.bus_lines.specs.Joins.{joins_by, states_on};
-ghost use Rattle.bus_lines.specs.Known.{known_of, ListsJoined};
+ghost use Rattle.bus_lines.specs.Known.{ListsJoined};
 ghost use Rattle.bus_lines.specs.Numbers.{is_among, AreNumbers, numbers_of};
 ghost use Rattle.bus_lines.specs.Units.{by_number, to_those, shared, addressed, IsIndex};
 
 use crate::Node;
 use crate::edges::{Edge, all_joined, joined_at, tell};
 use crate::index::Index;
-use crate::joining::refresh;
 use crate::numbers::Numbers;
-use crate::place::Place;
 use crate::register::Register;
 use tgt_bits::BitTarget;
 use wire_spec::Mode;
-
-/// Of the targets that have these numbers it is read anew whether they are joined. Lists those that are.
-#[inline(always)]
-pub fn list_joined(
-    bits: &mut Vec<BitTarget<Node>>,
-    places: &[Place],
-    numbers: &[u16],
-    list: &mut Numbers,
-)
-    requires numbers { AreNumbers (length bits.old.items) numbers.now }
-    requires room { list.old.room ≡ length bits.old.items }
-    ensures room { list.new.room ≡ list.old.room }
-    ensures bits { bits.new.items ≡ by_number (known_of numbers.now (joins_by places.now (states_on bits.old.items))) 0 bits.old.items }
-    ensures listed { ListsJoined numbers.now list.new.items bits.new.items }
-{
-    refresh(bits, places, numbers);
-    list.clear();
-    add_joined(bits, numbers, list);
-}
 
 /// An address byte has come in, with these numbers of who is joined at its address: they are in the message, and were reached by it. It
 /// is told to them, and as another's start to those that a message has reached before; all else is quiet.
@@ -76,18 +54,7 @@ fn add_joined(targets: &[BitTarget<Node>], numbers: &[u16], list: &mut Numbers)
 {
     for number in numbers {
         let joined = joined_at(targets, *number);
-        add_if(list, joined, *number);
-    }
-}
-
-/// Adds a number, where the condition holds.
-fn add_if(list: &mut Numbers, condition: bool, number: u16)
-    requires { number < list.old.room }
-    ensures room { list.new.room ≡ list.old.room }
-    ensures among { (k : ℕ) → is_among list.new.items k ≡ (is_among list.old.items k || ((k == number) && condition)) }
-{
-    if condition {
-        list.add(number);
+        list.add_if(joined, *number);
     }
 }
 

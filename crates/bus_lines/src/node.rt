@@ -119,6 +119,7 @@ impl Target for Node {
 
     ghost table = { node_table };
 
+    #[inline(always)]
     fn on(&mut self, event: Event) -> Answer {
         match &mut self.target {
             Kind::Chip(chip) => chip.on(event),

@@ -1,5 +1,5 @@
 //! The numbers of some targets of a root.
-ghost use Rattle.std.specs.Prelude.{◌≡◌, ◌<◌, ◌==◌, ◌||◌, ℕ, true, [], IfOk};
+ghost use Rattle.std.specs.Prelude.{◌≡◌, ◌<◌, ◌==◌, ◌||◌, ◌&&◌, ℕ, true, [], IfOk};
 ghost use Rattle.bus_lines.specs.Numbers.{is_among, AreNumbers, numbers_of};
 
 use std::alloc::{AllocError, Global};
@@ -56,6 +56,17 @@ impl Numbers {
     {
         if !is_among(self.numbers.as_slice(), number) {
             self.numbers.push_reserved(number);
+        }
+    }
+
+    /// Has a number too, where the condition holds.
+    pub fn add_if(&mut self, condition: bool, number: u16)
+        requires { number < self.old.room }
+        ensures room { self.new.room ≡ self.old.room }
+        ensures among { (k : ℕ) → is_among self.new.items k ≡ (is_among self.old.items k || ((k == number) && condition)) }
+    {
+        if condition {
+            self.add(number);
         }
     }
 

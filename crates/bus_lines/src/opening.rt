@@ -32,13 +32,14 @@ fn open_chip(mux: &MuxSpec) -> BitTarget<Node>
     BitTarget::released(addr, false, Node::of_chip(Chip::open(mux)))
 }
 
-/// A device, which isn't joined yet. Nothing is kept of one that isn't of the root.
+/// A device, which isn't joined yet. Nothing is kept of one that isn't of the root, not even its address.
 fn open_device(alloc: Global, device: &DeviceSpec, here: bool) -> Result<BitTarget<Node>, NoMemory>
     requires { IsPlainDevice device.now }
     ensures { IfOk result (λ target. target ≡ device_at here device.now) }
 {
+    let addr = if here { device.addr.get() } else { NO_ADDRESS };
     let node = open_node(alloc, device, here)?;
-    Ok(BitTarget::released(device.addr.get(), false, node))
+    Ok(BitTarget::released(addr, false, node))
 }
 
 /// Its state.

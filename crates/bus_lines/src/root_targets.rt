@@ -16,8 +16,8 @@ ghost use Rattle.bus_lines.specs.Opens.{opened_targets};
 use crate::counter::Counter;
 use crate::edges::{Edge, enter_all, get_all, put_all, some_pulls, some_slow, tell};
 use crate::index::Index;
-use crate::joining::{refresh_all, rejoin, set_level};
-use crate::message::{call, leave, list_joined, spread, stop};
+use crate::joining::{list_joined, refresh_all, rejoin, set_level};
+use crate::message::{call, leave, spread, stop};
 use crate::numbers::Numbers;
 use crate::opening::{add_chips, add_device_places, add_devices, add_mux_places};
 use crate::place::Place;
@@ -274,6 +274,7 @@ impl RootTargets {
     }
 
     /// A stop: SDA rises while SCL is high. Who is joined then is read anew of all at once only where it missed someone.
+    #[inline(always)]
     pub fn finish(&mut self)
         ensures { self.new ≡ record self.old { bits = rejoined (mask_of self.old.rooted.board self.old.rooted.root) (map (where_joined (finish node_table)) self.old.bits); counts = one_flip self.old.counts } }
     {
