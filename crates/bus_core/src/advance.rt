@@ -38,6 +38,7 @@ impl<C: Caller> Seat<C> {
 
     /// .. behind a message, of which this came; tells what it changes of the lock words. The looks in front of its next
     /// action are still to be answered.
+    #[inline(always)]
     pub fn message_done(
         &mut self,
         next: &NextMsg,

@@ -287,6 +287,7 @@ impl<C: Caller> Seat<C> {
     }
 
     /// Hands the reply that its transfer was settled with to the caller.
+    #[inline(always)]
     pub fn hand(&mut self, decided: Decided)
         requires fits { (asked_next C.Caller self.old ≡ Some self.old.transfer) × Fits self.old.transfer (reply_decided decided self.old.replies) }
         requires room { HasSpare C.Caller self.old }
@@ -300,6 +301,7 @@ impl<C: Caller> Seat<C> {
     }
 
     /// Loads the caller's next transfer, where it has one. Its walk is over before.
+    #[inline(always)]
     pub fn load<P: Port>(&mut self, board: &mut CachedBoard<'_>, ports: &[(SegId, P)])
         requires over { is_over (walk_left board.old self.old) ≡ true }
         requires counted { IsCounted self.old }
@@ -326,6 +328,7 @@ impl<C: Caller> Seat<C> {
     }
 
     /// Where its walk is over: hands the reply over, and loads the caller's next transfer.
+    #[inline(always)]
     pub fn end<P: Port>(&mut self, board: &mut CachedBoard<'_>, ports: &[(SegId, P)])
         requires may { MayEnd C.Caller board.old (roots_of ports.now) self.old }
         ensures on { is_over (walk_left board.old self.old) ≡ false → self.new ≡ self.old }

@@ -216,6 +216,7 @@ impl Caller for Script {
         Some(transfer)
     }
 
+    #[inline(always)]
     fn refill(&self, transfer: &mut Transfer) -> bool {
         if self.turn >= self.commands.len() {
             return false;
@@ -235,6 +236,7 @@ impl Caller for Script {
         Ok(())
     }
 
+    #[inline(always)]
     fn take(&mut self, head: ReplyHead, bytes: &[u8]) {
         self.taken.push(head, bytes);
         let (run, echo) = self.commands.get(self.turn);

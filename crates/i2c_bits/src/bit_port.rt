@@ -111,6 +111,7 @@ impl<L: ByteLines + Send> Port for BitPort<L> {
     ghost faults = { λ p. p.faults };
 
     /// It fails exactly where SCL, once let go, looked low 65 times in a row, but in the acknowledge clock, where that is Slow.
+    #[inline(always)]
     fn start(&mut self, addr: Addr, reading: bool) -> Result<Answer, Failed>
         requires phase { MayStart self.old.phase }
         requires room { IsTrue L.tells → length self.old.log < MOST_CALLS }
@@ -142,6 +143,7 @@ impl<L: ByteLines + Send> Port for BitPort<L> {
     }
 
     /// It fails exactly where SCL, once let go, looked low 65 times in a row.
+    #[inline(always)]
     fn put(&mut self, byte: u8) -> Result<bool, Failed>
         requires phase { MayPut self.old.phase }
         requires room { IsTrue L.tells → length self.old.log < MOST_CALLS }
@@ -173,6 +175,7 @@ impl<L: ByteLines + Send> Port for BitPort<L> {
     }
 
     /// It fails exactly where SCL, once let go, looked low 65 times in a row.
+    #[inline(always)]
     fn get(&mut self, ack: bool) -> Result<u8, Failed>
         requires phase { MayGet self.old.phase }
         requires room { IsTrue L.tells → length self.old.log < MOST_CALLS }
@@ -200,6 +203,7 @@ impl<L: ByteLines + Send> Port for BitPort<L> {
     }
 
     /// It fails exactly where SCL, once let go, looked low 255 times in a row.
+    #[inline(always)]
     fn stop(&mut self) -> Result<(), Failed>
         requires phase { MayStop self.old.phase }
         requires room { IsTrue L.tells → length self.old.log < MOST_CALLS }

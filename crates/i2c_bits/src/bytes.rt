@@ -62,6 +62,7 @@ pub fn put_byte<L: ByteLines>(lines: &mut L, byte: u8) -> Result<bool, Low>
 }
 
 /// A byte from the targets that have heard, and the controller's answer to it.
+#[inline(always)]
 pub fn get_byte<L: ByteLines>(lines: &mut L, ack: bool) -> Result<u8, Low>
     requires stands { IsTrue L.tells → StandsIn (L.board lines.old) (Give 8) (L.bus lines.old) }
     ensures board { L.board lines.new ≡ L.board lines.old }

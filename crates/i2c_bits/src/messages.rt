@@ -145,6 +145,7 @@ pub fn end<L: Lines>(lines: &mut L) -> Result<(), Low>
 }
 
 /// A stop, within a message or after a start that was too slow. In each case both lines are let go.
+#[inline(always)]
 pub fn stop_message<L: ByteLines>(lines: &mut L, late: bool) -> Result<(), Low>
     requires stands { IsTrue L.tells → MayEnd late (L.board lines.old) (L.bus lines.old) }
     ensures board { L.board lines.new ≡ L.board lines.old }

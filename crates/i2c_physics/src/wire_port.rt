@@ -56,18 +56,22 @@ impl Port for WirePort {
 
     ghost faults = { λ p. p.faults };
 
+    #[inline(always)]
     fn start(&mut self, addr: Addr, reading: bool) -> Result<Answer, Failed> {
         self.port.start(addr, reading)
     }
 
+    #[inline(always)]
     fn put(&mut self, byte: u8) -> Result<bool, Failed> {
         self.port.put(byte)
     }
 
+    #[inline(always)]
     fn get(&mut self, ack: bool) -> Result<u8, Failed> {
         self.port.get(ack)
     }
 
+    #[inline(always)]
     fn stop(&mut self) -> Result<(), Failed> {
         self.port.stop()
     }

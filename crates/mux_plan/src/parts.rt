@@ -160,8 +160,8 @@ impl WalkParts {
     }
 
     /// Begins a piece of work on the bus at a place: the looks at the muxes on its way are answered, and the first step
-    /// is on the top. Apart, since most steps have none in front.
-    #[inline(never)]
+    /// is on the top.
+    #[inline(always)]
     pub fn enter(&mut self, board: &Board, seen: &Seen<'_>, place: u8, work: Work)
         requires planned { IsPlanned self.old.route (Enter place work ∷ self.old.stack) }
         ensures tree { (ms : List MessageView) (out : JobOutcome) → length ms ≡ self.old.route.count
@@ -271,7 +271,7 @@ impl WalkParts {
     }
 
     // Ends a piece of work, whose last message or line had this outcome.
-    #[inline(never)]
+    #[inline(always)]
     fn end(&mut self, left: u8, work: Work, outcome: &Outcome<'_>)
         requires planned { IsPlanned self.old.route (Rest left work ∷ self.old.stack) }
         ensures tree { (b : BoardView) (ms : List MessageView)
@@ -288,7 +288,7 @@ impl WalkParts {
     }
 
     // A message was sent, which so many more might have followed.
-    #[inline(never)]
+    #[inline(always)]
     fn message(&mut self, left: u8, work: Work, outcome: &Outcome<'_>)
         requires planned { IsPlanned self.old.route (Rest left work ∷ self.old.stack) }
         ensures tree { (b : BoardView) (ms : List MessageView) (out : JobOutcome)

@@ -65,6 +65,7 @@ pub fn close(board: &Board, on: SegId, mux: MuxId) -> Work
 
 impl Route {
     /// Leads to a bus of the board, for a transfer of so many messages.
+    #[inline(always)]
     pub fn set_route(&mut self, board: &CachedBoard<'_>, bus: SegId, count: u8)
         requires there { bus < buses board.now }
         ensures route { self.new ≡ record { root = root_of board.now bus; path = hops board.now bus; bus = bus; count = count } }

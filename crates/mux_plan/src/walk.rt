@@ -54,6 +54,7 @@ fn root_of(board: &CachedBoard<'_>, bus: u16) -> Option<SegId>
 impl Walk {
     /// Begins the walk of another transfer: one that is refused is settled at once, and takes no lock. Tells the root of
     /// its bus, where the board has that bus.
+    #[inline(always)]
     pub fn restart(&mut self, board: &mut CachedBoard<'_>, transfer: &Transfer) -> Option<SegId>
         ensures count { length (messages_of transfer.now) ≡ self.new.route.count }
         ensures tree { walk_of board.old (messages_of transfer.now) self.new ≡ walk_for board.old transfer.now }
@@ -75,6 +76,7 @@ impl Walk {
     }
 
     // Begins the walk of a transfer that isn't refused.
+    #[inline(always)]
     fn begin(&mut self, board: &CachedBoard<'_>, transfer: &Transfer)
         requires there { transfer.now.bus < buses board.now }
         ensures count { length (messages_of transfer.now) ≡ self.new.route.count }

@@ -138,6 +138,7 @@ impl Target for DeviceState {
 
     ghost table = { state_table };
 
+    #[inline(always)]
     fn on(&mut self, event: Event) -> Answer {
         match &mut self.device {
             Device::Eeprom(eeprom) => eeprom.on(event),

@@ -26,6 +26,7 @@ impl<T: Wired> BitTarget<T> {
     }
 
     /// SDA rises while SCL is high: a stop (UM10204 section 3.1.4).
+    #[inline(always)]
     pub fn on_finish(&mut self)
         ensures { self.new ≡ finish T.table self.old }
     {
@@ -70,6 +71,7 @@ impl<T: Wired> BitTarget<T> {
     }
 
     /// An address byte has come in: the address above the R/W bit (UM10204 section 3.1.10).
+    #[inline(always)]
     pub fn on_address(&mut self, byte: u8)
         ensures { self.new ≡ named T.table self.old.site byte }
     {
@@ -84,6 +86,7 @@ impl<T: Wired> BitTarget<T> {
     }
 
     /// Its own address has come in: it holds the clock where it hears the message (UM10204 section 3.1.9).
+    #[inline(always)]
     fn on_call(&mut self, reading: bool)
         ensures { self.new ≡ called T.table self.old.site reading }
     {
