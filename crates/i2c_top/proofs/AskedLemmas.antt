@@ -1,6 +1,6 @@
 -- What the words ask for, by the tests of the forms.
-use Rattle.std.proofs.Common.{◌≡◌, ℕ, Bool, true, false, if◌then◌else◌, List, Option, Some, refl}
-use Rattle.i2c_top.specs.forms.{request_in, or_clear, Request, Verify}
+use Rattle.std.proofs.Common.{◌≡◌, ℕ, Bool, true, false, if◌then◌else◌, List, Some, refl}
+use Rattle.i2c_top.specs.forms.{request_in, or_clear, Verify}
 use Rattle.i2c_top.specs.forms.Checks.{is_check}
 use Rattle.i2c_top.specs.forms.Generations.{plan_in}
 use Rattle.i2c_top.specs.forms.Replays.{is_replay, is_run}

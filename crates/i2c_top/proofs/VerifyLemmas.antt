@@ -1,6 +1,5 @@
 -- How a call of `verify` ends: its files decide one status, and a success is the line of its journal. No induction.
-use Rattle.std.specs.Prelude.{⊤}
-use Rattle.std.proofs.Common.{◌≡◌, ℕ, ◌+◌, ◌<◌, ◌≤◌, ◌⊎◌, inl, inr, Bool, IsTrue, List, length, Option, Some, None, Result, Ok, Err, refl, sym, ◌∙◌, ap, subst, arith}
+use Rattle.std.proofs.Common.{◌≡◌, ℕ, ◌+◌, ◌<◌, ◌≤◌, ◌⊎◌, inl, inr, Bool, IsTrue, List, length, Some, refl, sym, ◌∙◌, ap, subst, arith}
 use Rattle.std.proofs.lemmas.List.{take_all}
 use Rattle.caller_core.specs.Callers.{ScriptsAreFair}
 use Rattle.caller_core.specs.View.{CallerView}
@@ -11,7 +10,7 @@ use Rattle.journal_check.specs.Faults.{CanBeChecked, Checked, IsFaultIn, IsVerif
 use Rattle.journal_check.specs.declared.fault.CheckFault.{CheckFault}
 use Rattle.journal_check.specs.declared.fault.CheckFault.TheVariants as verdict-of
 use Rattle.ports.specs.Causes.{Rose}
-use Rattle.i2c_top.specs.Boards.{HasAccepted, HasRejected}
+use Rattle.i2c_top.specs.Boards.{HasRejected}
 use Rattle.i2c_top.specs.Checked.{checked_on}
 use Rattle.i2c_top.specs.Endings.{CameToSuccess, CameToRefusal, HasEndedAs}
 use Rattle.i2c_top.specs.Files.{Files}
@@ -28,7 +27,7 @@ use Rattle.i2c_top.specs.declared.status.Status.TheVariants as status
 use Rattle.i2c_top.proofs.BoardLemmas.{no_board, one_why, one_board_in, one_text}
 use Rattle.i2c_top.proofs.CheckedLemmas.{can-be}
 use Rattle.i2c_top.proofs.EndingLemmas.{came_to_success, memory_wanting, file_unread, text_refused}
-use Rattle.i2c_top.proofs.FileLemmas.{board_unreached, kept_then, same_bad, same_scripts, same_texts, scripts_unreached}
+use Rattle.i2c_top.proofs.FileLemmas.{board_unreached, same_bad, same_scripts, same_texts, scripts_unreached}
 use Rattle.i2c_top.proofs.ReplayCauses.{DecideScript, agree_script, all_earlier, not_dear}
 
 -- the statuses that files decide: by a journal that is read, of the board, of a script

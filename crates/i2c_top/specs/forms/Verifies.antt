@@ -19,7 +19,6 @@ use Rattle.i2c_top.specs.Runs.{cost_of_texts, MOST_COST}
 use Rattle.i2c_top.specs.Scripts.{script_name, HasBadScript, HasScripts, texts_in}
 use Rattle.i2c_top.specs.forms.Replays.{Names, names_of, HasScriptsBefore, IsPlaceIn, IsReadInTurn, IsSkipped}
 use Rattle.i2c_top.specs.declared.forms.verify.VerifyWords.{VerifyWords}
-use Rattle.i2c_top.specs.declared.status.BoardRefusal.{BoardRefusal}
 use Rattle.i2c_top.specs.declared.status.Status.{Status}
 use Rattle.i2c_top.specs.declared.status.Status.TheVariants as status
 
