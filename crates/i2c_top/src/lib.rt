@@ -23,6 +23,7 @@ mod files;
 pub mod forms;
 mod names;
 mod number;
+mod printer;
 mod program;
 mod refusal;
 mod report;

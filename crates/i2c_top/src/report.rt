@@ -3,12 +3,11 @@ ghost use Rattle.std.specs.Prelude.{◌≡◌, [], ◌++◌, ◌∷◌, map, fla
 ghost use Rattle.std.specs.Fmt.{decimal};
 ghost use Rattle.std.specs.Option.{option_map_or};
 ghost use Rattle.bus_spec.specs.Report.{ended_line, sections, report_lines};
-ghost use Rattle.i2c_top.specs.Runs.{section_of};
 
+use crate::printer::Printer;
 use crate::text::Text;
 use bus_core::Seat;
 use bus_journal::{Journal, push_bytes, push_number};
-use caller_core::Script;
 use i2c_base::NoMemory;
 use std::alloc::Global;
 
@@ -32,8 +31,8 @@ fn push_sections(out: &mut Vec<u8>, texts: &[Vec<u8>]) -> Result<(), NoMemory>
 }
 
 // The sections of callers, by their places.
-fn push_callers(out: &mut Vec<u8>, callers: &[Seat<Script>]) -> Result<(), NoMemory>
-    ensures { OnOk result (out.new.items ≡ out.old.items ++ sections 0 (map (λ s. section_of s.caller) callers.now)) }
+fn push_callers<C: Printer>(out: &mut Vec<u8>, callers: &[Seat<C>]) -> Result<(), NoMemory>
+    ensures { OnOk result (out.new.items ≡ out.old.items ++ sections 0 (map (λ s. C.printed (C.script s.caller) (C.taken s.caller)) callers.now)) }
 {
     for (place, seat) in callers.iter().enumerate() {
         push_section(out, place, seat.caller.text())?;
@@ -56,12 +55,12 @@ fn last_piece(alloc: Global, last: Option<Journal>) -> Result<Vec<u8>, NoMemory>
 }
 
 /// The report of callers that stand by their numbers, and of journals, one after the other, whose lines are not copied.
-pub fn report_of_callers(
+pub fn report_of_callers<C: Printer>(
     alloc: Global,
-    callers: &[Seat<Script>],
+    callers: &[Seat<C>],
     journals: Vec<Journal>,
 ) -> Result<Text, NoMemory>
-    ensures { IfOk result (λ text. text ≡ report_lines (map (λ s. section_of s.caller) callers.now) (flat_map (λ j. j.entries) journals.items)) }
+    ensures { IfOk result (λ text. text ≡ report_lines (map (λ s. C.printed (C.script s.caller) (C.taken s.caller)) callers.now) (flat_map (λ j. j.entries) journals.items)) }
 {
     let mut journals = journals;
     let mut front = Vec::new(alloc);

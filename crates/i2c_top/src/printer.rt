@@ -1,0 +1,26 @@
+//! A caller that prints.
+ghost use Rattle.std.specs.Prelude.{◌≡◌, ℕ, List};
+ghost use Rattle.i2c_base.specs.declared.reply.Reply.{Reply};
+
+use caller_core::Script;
+use i2c_base::Caller;
+
+/// A caller that prints what came of its transfers: a section of the report.
+pub trait Printer: Caller {
+    /// What it prints after these replies.
+    ghost printed: { Self.Script → List Reply → List ℕ };
+
+    /// What it has printed.
+    fn text(&self) -> &[u8]
+        ensures { result.now ≡ printed (Self.script self.now) (Self.taken self.now) };
+}
+
+impl Printer for Script {
+    ghost use Rattle.caller_core.specs.Scripts.{commands_of, section_text};
+
+    ghost printed = { λ s rs. section_text (commands_of s) rs };
+
+    fn text(&self) -> &[u8] {
+        Script::text(self)
+    }
+}
