@@ -1,6 +1,6 @@
 -- A core of scripts that has followed the journal of a report: what it is opened with, what is left of it, and what that says of the
 -- report. The inductions go over the scripts.
-use Rattle.std.proofs.Common.{◌≡◌, ◌⊎◌, ℕ, zero, suc, ◌+◌, ◌<◌, ◌≤◌, ◌==◌, Bool, true, false, IsTrue, List, [], ◌∷◌, ◌++◌, ◌^◌, append_assoc, append-nil, cond, drop, get_or, length, length-append, map, reverse, All, Option, Some, None, Result, Ok, Err, inl, inr, refl, sym, ◌∙◌, ap, subst, arith, zero-add}
+use Rattle.std.proofs.Common.{◌≡◌, ◌⊎◌, ℕ, zero, suc, ◌+◌, ◌<◌, ◌≤◌, ◌==◌, Bool, true, false, List, [], ◌∷◌, ◌++◌, ◌^◌, append_assoc, append-nil, cond, drop, get_or, length, length-append, map, reverse, Option, Some, None, Result, Ok, Err, inl, inr, refl, sym, ◌∙◌, ap, subst, arith, zero-add}
 use Rattle.std.specs.Prelude.{IfOk, IfErr, codes, slice_get}
 use Rattle.std.specs.List.{enumerate_from, flat_map, range_with_len}
 use Rattle.std.specs.Option.{option_map, option_map_or}
@@ -8,7 +8,7 @@ use Rattle.std.proofs.lemmas.Bool.{cases_lt, eq-eqb, eqb-true, false_from_ne_tru
 use Rattle.std.proofs.lemmas.List.{drop_all, drop_more, length-map}
 use Rattle.std.proofs.Math.ListN.{get_or-map}
 use Rattle.std.proofs.lemmas.List.Elements.{All-nil}
-use Rattle.std.proofs.lemmas.List.FromFn.{length-enumerate_from, length-map-range_with_len, get_or-map-range_with_len}
+use Rattle.std.proofs.lemmas.List.FromFn.{length-map-range_with_len, get_or-map-range_with_len}
 use Rattle.std.proofs.lemmas.Option.{slice_get-get_or, slice_get-map, slice_get_past}
 use Rattle.i2c_base.specs.declared.entry.Entry.{Entry}
 use Rattle.i2c_base.specs.declared.port.Phase.TheVariants.{Idle}
@@ -16,7 +16,7 @@ use Rattle.i2c_base.specs.declared.port.PortCall.{PortCall}
 use Rattle.i2c_base.specs.declared.reply.Reply.{Reply}
 use Rattle.i2c_base.specs.Board.{BoardView}
 use Rattle.i2c_base.specs.Limits.{MOST_CALLERS}
-use Rattle.i2c_base.specs.Transfer.{TransferView, IsTransfer}
+use Rattle.i2c_base.specs.Transfer.{IsTransfer}
 use Rattle.i2c_spec.specs.Fair.{IsFairCaller}
 use Rattle.i2c_spec.specs.History.{Asks}
 use Rattle.i2c_spec.specs.Plain.{IsPlainBoard}
@@ -25,11 +25,10 @@ use Rattle.i2c_spec.specs.World.{World}
 use Rattle.ports.specs.declared.port.Port.{Ghosts as PortGhosts}
 use Rattle.bus_spec.specs.Legal.{IsComplete, IsLegal}
 use Rattle.bus_spec.specs.Past.{now, world_at, calls_of}
-use Rattle.bus_spec.specs.Report.{ended_line, report_lines, sections}
+use Rattle.bus_spec.specs.Report.{ended_line, report_lines, sections, text_of}
 use Rattle.bus_spec.specs.Stepwise.{IsStepwise}
 use Rattle.bus_spec.specs.Walk.{Ends}
 use Rattle.bus_laws.specs.Reach.{AsksForMessages, AsksWithinLimits}
-use Rattle.bus_core.specs.Kept.{roots_of}
 use Rattle.bus_core.specs.Opening.{HasRoot, Opening}
 use Rattle.bus_core.specs.Places.{script_at, scripts_of, asks_of}
 use Rattle.bus_core.specs.State.{AllThrough, CoreState, has_caller, logs_of, roots_in, taken_of, worlds_of}
@@ -43,7 +42,7 @@ use Rattle.caller_core.specs.Scripts.{asked_by, left_of, commands_of, section_te
 use Rattle.caller_core.specs.Sections.{SectionsHaveNoJournalLine}
 use Rattle.caller_core.specs.View.{CallerView, ScriptView, script_on}
 use Rattle.journal_check.specs.Checks.{HasPassed}
-use Rattle.journal_check.specs.Faults.{AtCaller, AtEntry, CanBeChecked, Checked, IsFaultIn, IsRead, IsVerified, IsWrongIn, sections_told}
+use Rattle.journal_check.specs.Faults.{AtCaller, AtEntry, CanBeChecked, Checked, IsFaultIn, IsRead, IsVerified, IsWrongIn}
 use Rattle.journal_check.specs.Forms.{HasForm, lines_of}
 use Rattle.journal_check.specs.Steps.{asks_on}
 use Rattle.journal_check.specs.Texts.{FirstOther, GoesOn, GoesOtherwise, IsWhole}
@@ -53,9 +52,11 @@ use Rattle.journal_check.proofs.LineLemmas.{fewer-entries}
 use Rattle.journal_check.proofs.SectionLemmas.{goes-on-then, otherwise-then, under, whole-lines}
 use Rattle.i2c_top.specs.Checked.{HasBeenChecked, callers_on, checked_on}
 use Rattle.i2c_top.specs.Cores.{IsCoreOf}
-use Rattle.i2c_top.specs.Runs.{asks_by, AreOpened, callers_of, printed_by, report_by, section_of, texts_of, IsOver}
-use Rattle.i2c_top.proofs.CoreLemmas.{all-at, asks-same, is-left, left, number-here, own-at, script_row, texts-same, through-at, twice}
+use Rattle.i2c_top.specs.Callers.{asks_in, scripts_in, callers_in}
+use Rattle.i2c_top.specs.Runs.{asks_by, script_row, AreOpened, printed_by, section_of, texts_of}
+use Rattle.i2c_top.proofs.CoreLemmas.{all-at, asks-same, is-left, left, number-here, scripts-same, through-at, twice}
 use Rattle.i2c_top.proofs.RunLemmas.{of_asks, report-over, same_asks, sections_are}
+use Rattle.i2c_top.proofs.TextLemmas.{asks-of-texts, count-of-texts, opened-scripts, printed-of-texts, report-of-texts, section_by}
 
 -- THE OPENING: each script by its number
 abbrev numbered : ℕ → List CallerView → List (ℕ × ScriptView)
@@ -100,7 +101,7 @@ module _ (b : BoardView) (scripts : List CallerView) (opened : AreOpened b scrip
       by c rs (Some s) at =
           ap (λ (k : BoardView). asked_by (script_on k s.script.text) rs) (all-at (λ t. IsOpened b t.script.text t) scripts c s opened at).board_is
 
-  module _ {P : Type 0} (ports : List P) (core : CoreState ScriptView) (of : IsCoreOf b scripts ports core) where
+  module _ {P : Type 0} (ports : List P) (core : CoreState ScriptView) (of : IsCoreOf script_row b scripts ports core) where
     pub asks-opened : asks_on asked_by core.opening ≡ asks_by b (texts_of scripts)
     asks-opened = ap (asks_of asked_by) of.scripts_are ∙ asks-numbered
 
@@ -147,24 +148,23 @@ module _ (b : BoardView) (scripts : List CallerView) (opened : AreOpened b scrip
     been-checked count is es v passed x scripts_left taken world worlds log logs journal =
         record {
           same = entries;
-          texts_are = texts;
+          scripts_are = mine;
           legal = over-there (λ (k : BoardView) (a : Asks) (n : ℕ). IsLegal k n a (reverse es)) passed.legal;
           complete = over-there (λ (k : BoardView) (a : Asks) (n : ℕ). IsComplete k n a (reverse es)) passed.complete;
           over = record {
             plain = of.plain;
             rules = of.rules;
-            own = own-at g b x scripts opened same;
             stepwise = on-callers (λ (k : BoardView) (a : Asks). IsStepwise k MOST_CALLERS a (reverse es)) passed.followed.steady.stepwise;
             rests = on-callers (λ (k : BoardView) (a : Asks). (now k a (reverse es)).due ≡ None) passed.followed.steady.rests;
             taken = λ c s here.
                 subst (λ (js : List Entry). s.taken ≡ (now b asks (reverse js)).settled c) entries
-                (subst (λ (a : Asks). s.taken ≡ (now b a (reverse x.journal.entries)).settled c) (asks-same g b x scripts opened same)
-                (sym ((through-at g b x scripts opened same v through c s here).1.settled refl)));
+                (subst (λ (a : Asks). s.taken ≡ (now b a (reverse x.journal.entries)).settled c) (asks-same g script_row b x scripts same)
+                (sym ((through-at g script_row b x scripts same v through c s here).1.settled refl)));
             ended = λ c s here.
                 subst (λ (js : List Entry). (now b asks (reverse js)).walk c ≡ Ends) entries
-                (subst (λ (a : Asks). (now b a (reverse x.journal.entries)).walk c ≡ Ends) (asks-same g b x scripts opened same)
-                ((through-at g b x scripts opened same v through c s here).1.walk refl));
-            done = λ c s here. (through-at g b x scripts opened same v through c s here).0;
+                (subst (λ (a : Asks). (now b a (reverse x.journal.entries)).walk c ≡ Ends) (asks-same g script_row b x scripts same)
+                ((through-at g script_row b x scripts same v through c s here).1.walk refl));
+            done = λ c s here. (through-at g script_row b x scripts same v through c s here).0;
             worlds_count = length-map-range_with_len (world_at b asks (reverse es)) 0 (length b.roots);
             world = λ r low. listed (world_at b asks (reverse es)) (length b.roots) r low;
             logs_count = length-map-range_with_len (calls_of b asks (reverse es)) 0 (length b.roots);
@@ -179,20 +179,20 @@ module _ (b : BoardView) (scripts : List CallerView) (opened : AreOpened b scrip
         same : scripts_of script_row x.seats.items ≡ map (λ (y : ℕ × CallerView). (y.0, y.1.script)) (enumerate_from 0 scripts)
         same = scripts_left ∙ ap (λ (o : Opening ScriptView). o.scripts) passed.followed.opening ∙ of.scripts_are
 
-        texts : texts_of (callers_of x) ≡ texts_of scripts
-        texts = texts-same g b x scripts opened same
+        mine : scripts_in script_row (callers_in x) ≡ map (script_on b) (texts_of scripts)
+        mine = scripts-same g script_row b x scripts same ∙ opened-scripts b scripts opened
 
         asks : Asks
-        asks = asks_by b (texts_of (callers_of x))
+        asks = asks_in asked_by (scripts_in script_row (callers_in x))
 
         entries : x.journal.entries ≡ es
         entries = ap (λ (j : JournalView). j.entries) journal ∙ passed.followed.entries
 
-        is_left : v ≡ left g b x scripts opened same v
-        is_left = is-left g b x scripts opened same v (ap (λ (o : Opening ScriptView). o.board) passed.followed.opening ∙ of.board)
+        is_left : v ≡ left g script_row b x scripts same v
+        is_left = is-left g script_row b x scripts same v (ap (λ (o : Opening ScriptView). o.board) passed.followed.opening ∙ of.board)
             scripts_left taken journal worlds logs
 
-        through : AllThrough asked_by g.tells (left g b x scripts opened same v)
+        through : AllThrough asked_by g.tells (left g script_row b x scripts same v)
         through = subst (λ (w : CoreState ScriptView). AllThrough asked_by g.tells w) is_left passed.through
 
         listed : {X : Type 0} (f : ℕ → X) (n r : ℕ) → r < n → slice_get (map f (range_with_len 0 n)) r ≡ Some (f r)
@@ -208,7 +208,7 @@ module _ (b : BoardView) (scripts : List CallerView) (opened : AreOpened b scrip
 
         on-callers : (Q : BoardView → Asks → Type 0) → Q core.opening.board (asks_on asked_by core.opening) → Q b asks
         on-callers Q q =
-            subst (λ (ts : List (List ℕ)). Q b (asks_by b ts)) (sym texts)
+            subst (λ (a : Asks). Q b a) (sym (asks-of-texts b (texts_of scripts) (scripts_in script_row (callers_in x)) mine))
             (subst (λ (a : Asks). Q b a) asks-opened (subst (λ (k : BoardView). Q k (asks_on asked_by core.opening)) of.board q))
 
     -- what is wrong with a journal beside the core is wrong beside the texts
@@ -333,8 +333,8 @@ module _ (b : BoardView) (texts : List (List ℕ)) (text front lines : List ℕ)
           in_range = form.entries.in_range;
           legal = left.legal;
           complete = left.complete;
-          report = subst (λ (ts : List (List ℕ)). text ≡ report_by b ts es) left.texts_are
-              (report-over b (callers_on seats) MOST_CALLERS es _ _ fair left.over text whole);
+          report = report-over script_row b (callers_on seats) MOST_CALLERS es _ _ fair left.over section_by text whole
+              ∙ report-of-texts b texts (scripts_in script_row (callers_on seats)) left.scripts_are es;
           counted = ap (λ (js : List Entry). length js) (sym left.same) ∙ sym counted;
         }
       where
@@ -352,8 +352,11 @@ module _ (b : BoardView) (texts : List (List ℕ)) (text front lines : List ℕ)
           legal = left.legal;
           complete = left.complete;
           first = subst (λ (xs : List ℕ). FirstOther 1 (lines_of front) (lines_of xs) n)
-              (ap (sections 0) (printed ∙ sections_are b (callers_on seats) MOST_CALLERS es _ _ fair left.over)
-              ∙ ap (λ (ts : List (List ℕ)). sections_told (checked_on b ts) es) left.texts_are) other;
+              (ap (sections 0) (printed ∙ sections_are script_row b (callers_on seats) MOST_CALLERS es _ _ fair left.over section_by)
+              ∙ ap (λ (p : ℕ → List Reply → List ℕ). sections 0 (map (text_of p es) (range_with_len 0 (length (scripts_in script_row (callers_on seats))))))
+              (printed-of-texts b texts (scripts_in script_row (callers_on seats)) left.scripts_are)
+              ∙ ap (λ (n : ℕ). sections 0 (map (text_of (printed_by b texts) es) (range_with_len 0 n)))
+              (count-of-texts b texts (scripts_in script_row (callers_on seats)) left.scripts_are)) other;
         }
 
 -- BOTH WAYS

@@ -16,6 +16,7 @@ use Rattle.i2c_base.specs.declared.port.PortCall.{PortCall}
 use Rattle.i2c_base.specs.declared.reply.Reply.{Reply}
 use Rattle.i2c_base.specs.Board.{BoardView}
 use Rattle.i2c_base.specs.Limits.{MOST_CALLERS}
+use Rattle.i2c_base.specs.Transfer.{TransferView}
 use Rattle.ports.specs.declared.port.Port.{Ghosts as PortGhosts}
 use Rattle.i2c_spec.specs.Fair.{IsFairCaller}
 use Rattle.i2c_spec.specs.History.{Asks}
@@ -43,27 +44,12 @@ use Rattle.bus_groups.specs.Rounds.{one_of}
 use Rattle.bus_groups.specs.Slots.{IsTold}
 use Rattle.bus_groups.specs.declared.together.Ran.{Ran}
 use Rattle.bus_journal.specs.View.{JournalView}
-use Rattle.caller_core.specs.Callers.{IsOpened, board_of, owed_by}
-use Rattle.caller_core.proofs.FairLemmas.{left_at_first}
-use Rattle.caller_core.specs.Scripts.{asked_by, left_of, cost_of_script}
-use Rattle.caller_core.specs.View.{ScriptView, CallerView, script_on}
-use Rattle.i2c_top.specs.Cores.{IsAsOne, IsCoreOf, IsLeftOf}
+use Rattle.i2c_top.specs.Callers.{asks_in, scripts_in, AreReady, left_in, callers_in, IsOver}
+use Rattle.i2c_top.specs.Cores.{IsAsOne, IsCoreOf, IsLeftOf, HaveJournal}
 use Rattle.i2c_top.specs.Faults.{IsFaultAt, AccountsForFaults, AreCounted}
-use Rattle.i2c_top.specs.Runs.{asks_by, AreOpened, texts_of, cost_of_texts, callers_of, MOST_COST, IsOver, KeepsOrder}
+use Rattle.i2c_top.specs.Runs.{MOST_COST}
 use Rattle.i2c_top.proofs.RunLemmas.{same_asks}
 use Rattle.i2c_base.proofs.ListLemmas.{there, map_from, map_at}
-
--- a script as a caller
-abbrev pub script_row : CallerGhosts CallerView ScriptView
-script_row = record {
-  script = λ s. s.script;
-  board = board_of;
-  taken = λ s. s.taken;
-  asked = asked_by;
-  left = left_of;
-  owed = owed_by;
-  spare = λ s. s.spare;
-}
 
 -- an element of a numbered list, and of a list whose elements all are so
 pub numbered-at : {X : Type 0} (n : ℕ) (xs : List X) (i : ℕ) (y : ℕ × X) → slice_get (enumerate_from n xs) i ≡ Some y
@@ -104,17 +90,14 @@ pub firsts : {X : Type 0} (n : ℕ) (xs : List X) → map (λ (x : ℕ × X). x.
 firsts n [] = refl
 firsts {X} n (x ∷ xs) = ap (λ (ys : List X). x ∷ ys) (firsts (n + 1) xs)
 
--- what opened scripts have left is what they cost
-costs : (b : BoardView) (scripts : List CallerView) (n : ℕ) → AreOpened b scripts
-    → sum_by (λ (x : ℕ × CallerView). left_of x.1.script []) (enumerate_from n scripts) ≡ cost_of_texts b (texts_of scripts)
-costs b [] n opened = refl
-costs b (s ∷ ss) n opened =
-    sum_by-cons (λ (x : ℕ × CallerView). left_of x.1.script []) (n, s) (enumerate_from (n + 1) ss)
-    ∙ ap (λ (k : ℕ). k + sum_by (λ (x : ℕ × CallerView). left_of x.1.script []) (enumerate_from (n + 1) ss)) (left_at_first s.script)
-    ∙ ap (λ (k : BoardView). cost_of_script (script_on k s.script.text) + sum_by (λ (x : ℕ × CallerView). left_of x.1.script [])
-    (enumerate_from (n + 1) ss)) (all-at (λ t. IsOpened b t.script.text t) (s ∷ ss) 0 s opened refl).board_is
-    ∙ ap (λ (k : ℕ). cost_of_script (script_on b s.script.text) + k) (costs b ss (n + 1) (λ k d low. opened (suc k) d (omega (arith, low))))
-    ∙ sym (sum_by-cons (λ text. cost_of_script (script_on b text)) s.script.text (texts_of ss))
+-- what is left of callers by their numbers is what is left of them
+lefts : {C S : Type 0} (row : CallerGhosts C S) (callers : List C) (n : ℕ)
+    → sum_by (λ (x : ℕ × C). row.left (row.script x.1) []) (enumerate_from n callers) ≡ left_in row callers
+lefts row [] n = refl
+lefts {C} {S} row (s ∷ ss) n =
+    sum_by-cons (λ (x : ℕ × C). row.left (row.script x.1) []) (n, s) (enumerate_from (n + 1) ss)
+    ∙ ap (λ (i : ℕ). row.left (row.script s) [] + i) (lefts row ss (n + 1))
+    ∙ sym (sum_by-cons (λ (x : C). row.left (row.script x) []) s ss)
 
 -- the port of each root has its world
 opening-at : {P : Type 0} (world : P → World) (b : BoardView) (ports : List P) → map world ports ≡ openings b → (i : ℕ) (p : P)
@@ -129,21 +112,21 @@ opening-at world b ports same i p here =
     ∙ get_or-range_with_len 0 (length b.roots) i 0 (omega (arith, low, count)) in
     sym mapped.2 ∙ ap (opening_world b) (let z : 0 + i ≡ i = omega (arith) in number ∙ z)
 
-module _ {P : Type 0} (g : PortGhosts P) (b : BoardView) (plain : IsPlainBoard b) (scripts : List CallerView)
-    (opened : AreOpened b scripts) where
+module _ {P C S : Type 0} (g : PortGhosts P) (row : CallerGhosts C S) (b : BoardView) (plain : IsPlainBoard b) (callers : List C)
+    (ready : AreReady row b callers) where
   -- scripts and ports by their numbers may open a core
-  pub may-open : (ports : List P) (limit : ℕ) → length scripts ≤ MOST_CALLERS → length ports ≡ length b.roots
+  pub may-open : (ports : List P) (limit : ℕ) → length callers ≤ MOST_CALLERS → length ports ≡ length b.roots
       → All (λ p. g.phase p ≡ Idle) ports → (IsTrue g.tells → All (λ p. g.log p ≡ []) ports)
-      → (IsTrue g.tells → map g.world ports ≡ openings b) → IsFairCaller asked_by left_of board_of
-      → limit ≡ cost_of_texts b (texts_of scripts) → cost_of_texts b (texts_of scripts) ≤ MOST_COST
-      → MayOpen g script_row b (enumerate_from 0 ports) (enumerate_from 0 scripts) limit
-  may-open ports limit few count idle empty worlds fair is cheap =
+      → (IsTrue g.tells → map g.world ports ≡ openings b) → IsFairCaller row.asked row.left row.board
+      → left_in row callers ≤ limit → limit ≤ MOST_COST
+      → MayOpen g row b (enumerate_from 0 ports) (enumerate_from 0 callers) limit
+  may-open ports limit few count idle empty worlds fair covered few_steps =
       record {
-        distinct = λ i k n here to. (let a = number-is 0 scripts i n here in let c = number-is 0 scripts k n to in omega (arith, a, c));
+        distinct = λ i k n here to. (let a = number-is 0 callers i n here in let c = number-is 0 callers k n to in omega (arith, a, c));
         below = λ i x here.
-            let r = numbered-at 0 scripts i x here in
+            let r = numbered-at 0 callers i x here in
             let number = r.0 in
-            let low = slice_get_within scripts i x.1 r.1 in
+            let low = slice_get_within callers i x.1 r.1 in
             omega (arith, number, low, few);
         once = λ i k n here to. (let a = number-is 0 ports i n here in let c = number-is 0 ports k n to in omega (arith, a, c));
         idle = λ k x here. all-at (λ p. g.phase p ≡ Idle) ports k x.1 idle (numbered-at 0 ports k x here).1;
@@ -156,173 +139,159 @@ module _ {P : Type 0} (g : PortGhosts P) (b : BoardView) (plain : IsPlainBoard b
               all-at (λ p. g.log p ≡ []) ports k x.1 (empty tells) r.1,
             );
         fair = fair;
-        untaken = λ i x here. (all-at (λ s. IsOpened b s.script.text s) scripts i x.1 opened (numbered-at 0 scripts i x here).1).untaken;
-        home = λ i x here. (all-at (λ s. IsOpened b s.script.text s) scripts i x.1 opened (numbered-at 0 scripts i x here).1).board_is;
+        untaken = λ i x here. (all-at (λ s. (row.board (row.script s) ≡ b) × (row.taken s ≡ [])) callers i x.1 ready (numbered-at 0 callers i x here).1).1;
+        home = λ i x here. (all-at (λ s. (row.board (row.script s) ≡ b) × (row.taken s ≡ [])) callers i x.1 ready (numbered-at 0 callers i x here).1).0;
         wired = λ i x rs t here asks bus.
             let low : root_of b t.bus < length b.roots = tree_root_is b plain.planted t.bus bus in
             let on = number-here 0 ports (root_of b t.bus) (omega (arith, low, count)) in
             let zero_first : 0 + root_of b t.bus ≡ root_of b t.bus = omega (arith) in
             record { place = root_of b t.bus; here = on ∙ ap (λ (k : ℕ). Some k) zero_first };
-        covers = (let sum = costs b scripts 0 opened in omega (arith, sum, is));
-        most = omega (arith, is, cheap);
+        covers = (let sum = lefts row callers 0 in omega (arith, sum, covered));
+        most = omega (arith, few_steps);
       }
 
   -- each word of the schedule has its caller
-  pub words-placed : (words : List ℕ) → All (λ c. c < length scripts) words
-      → All (λ n. has_caller (callers_scripts script_row (enumerate_from 0 scripts)) n ≡ true) words
+  pub words-placed : (words : List ℕ) → All (λ c. c < length callers) words
+      → All (λ n. has_caller (callers_scripts row (enumerate_from 0 callers)) n ≡ true) words
   words-placed words named =
-      All-from_get_or (λ n. has_caller (callers_scripts script_row (enumerate_from 0 scripts)) n ≡ true) words 0
+      All-from_get_or (λ n. has_caller (callers_scripts row (enumerate_from 0 callers)) n ≡ true) words 0
       (λ i low.
       let w = there words i low in
       let is = get_or_from_slice_get words i w.0 0 w.1 in
-      let below : w.0 < length scripts = all-at (λ c. c < length scripts) words i w.0 named w.1 in
-      let s = there scripts w.0 below in
-      subst (λ (n : ℕ). has_caller (callers_scripts script_row (enumerate_from 0 scripts)) n ≡ true) (sym is)
-      (has-by (callers_scripts script_row (enumerate_from 0 scripts)) w.0 w.0 s.0.script
-      (map_at (λ (y : ℕ × CallerView). (y.0, y.1.script)) (enumerate_from 0 scripts) w.0 (w.0, s.0) (numbered-here w.0 s.0 s.1))))
+      let below : w.0 < length callers = all-at (λ c. c < length callers) words i w.0 named w.1 in
+      let s = there callers w.0 below in
+      subst (λ (n : ℕ). has_caller (callers_scripts row (enumerate_from 0 callers)) n ≡ true) (sym is)
+      (has-by (callers_scripts row (enumerate_from 0 callers)) w.0 w.0 (row.script s.0)
+      (map_at (λ (y : ℕ × C). (y.0, row.script y.1)) (enumerate_from 0 callers) w.0 (w.0, s.0) (numbered-here w.0 s.0 s.1))))
     where
-      numbered-here : (i : ℕ) (s : CallerView) → slice_get scripts i ≡ Some s → slice_get (enumerate_from 0 scripts) i ≡ Some (i, s)
+      numbered-here : (i : ℕ) (s : C) → slice_get callers i ≡ Some s → slice_get (enumerate_from 0 callers) i ≡ Some (i, s)
       numbered-here i s here =
-          let low : i < length scripts = slice_get_within scripts i s here in
-          let many : length (enumerate_from 0 scripts) ≡ length scripts = length-enumerate_from 0 scripts in
-          let y = there (enumerate_from 0 scripts) i (omega (arith, low, many)) in
-          let r = numbered-at 0 scripts i y.0 y.1 in
+          let low : i < length callers = slice_get_within callers i s here in
+          let many : length (enumerate_from 0 callers) ≡ length callers = length-enumerate_from 0 callers in
+          let y = there (enumerate_from 0 callers) i (omega (arith, low, many)) in
+          let r = numbered-at 0 callers i y.0 y.1 in
           let number = r.0 in
           let first : y.0.0 ≡ i = omega (arith, number) in
           let second : y.0.1 ≡ s = (let f : Some y.0.1 ≡ Some s = sym r.1 ∙ here in cc) in
-          y.1 ∙ ap (λ (k : ℕ). Some (k, y.0.1)) first ∙ ap (λ (t : CallerView). Some (i, t)) second
+          y.1 ∙ ap (λ (j : ℕ). Some (j, y.0.1)) first ∙ ap (λ (t : C). Some (i, t)) second
 
 -- a port for each root
-pub ports-count : {P : Type 0} (x : Parts P CallerView) (ports : List P) → roots_of x.ports.items ≡ roots_of (enumerate_from 0 ports)
+pub ports-count : {P C : Type 0} (x : Parts P C) (ports : List P) → roots_of x.ports.items ≡ roots_of (enumerate_from 0 ports)
     → length x.ports.items ≡ length ports
 ports-count {P} x ports roots =
     sym (length-map x.ports.items (λ (q : ℕ × P). q.0)) ∙ ap length roots ∙ length-map (enumerate_from 0 ports) (λ (q : ℕ × P). q.0)
     ∙ length-enumerate_from 0 ports
 
-module _ {P : Type 0} (g : PortGhosts P) (b : BoardView) (x : Parts P CallerView) (scripts : List CallerView) (opened : AreOpened b scripts)
-    (same : scripts_of script_row x.seats.items ≡ map (λ (y : ℕ × CallerView). (y.0, y.1.script)) (enumerate_from 0 scripts)) where
-  abbrev seats : List (Seat CallerView)
+module _ {P C S : Type 0} (g : PortGhosts P) (row : CallerGhosts C S) (b : BoardView) (x : Parts P C) (callers : List C)
+    (same : scripts_of row x.seats.items ≡ map (λ (y : ℕ × C). (y.0, row.script y.1)) (enumerate_from 0 callers)) where
+  abbrev seats : List (Seat C)
   seats = x.seats.items
 
   abbrev asks : Asks
-  asks = asks_of asked_by (scripts_of script_row seats)
+  asks = asks_of row.asked (scripts_of row seats)
 
   -- the state of a core that these are left of
-  abbrev pub left : CoreState ScriptView → CoreState ScriptView
+  abbrev pub left : CoreState S → CoreState S
   left v =
       record v {
-        opening = record v.opening { board = b; scripts = scripts_of script_row seats };
-        taken = taken_of script_row seats;
+        opening = record v.opening { board = b; scripts = scripts_of row seats };
+        taken = taken_of row seats;
         journal = x.journal;
         worlds = worlds_of g.world x.ports.items;
         logs = logs_of g.log x.ports.items;
       }
 
-  pub is-left : (v : CoreState ScriptView) → v.opening.board ≡ b → scripts_of script_row seats ≡ v.opening.scripts
-      → taken_of script_row seats ≡ v.taken → x.journal ≡ v.journal
+  pub is-left : (v : CoreState S) → v.opening.board ≡ b → scripts_of row seats ≡ v.opening.scripts
+      → taken_of row seats ≡ v.taken → x.journal ≡ v.journal
       → worlds_of g.world x.ports.items ≡ v.worlds → logs_of g.log x.ports.items ≡ v.logs → v ≡ left v
   is-left v board scripts_are taken journal worlds logs =
       ap (λ (k : BoardView). record v { opening = record v.opening { board = k } }) board
-      ∙ ap (λ (ss : List (ℕ × ScriptView)). record v { opening = record v.opening { board = b; scripts = ss } }) (sym scripts_are)
+      ∙ ap (λ (ss : List (ℕ × S)). record v { opening = record v.opening { board = b; scripts = ss } }) (sym scripts_are)
       ∙ ap (λ (ts : List (ℕ × List Reply)). record v {
-        opening = record v.opening { board = b; scripts = scripts_of script_row seats };
+        opening = record v.opening { board = b; scripts = scripts_of row seats };
         taken = ts;
       }) (sym taken)
       ∙ ap (λ (j : JournalView). record v {
-        opening = record v.opening { board = b; scripts = scripts_of script_row seats };
-        taken = taken_of script_row seats;
+        opening = record v.opening { board = b; scripts = scripts_of row seats };
+        taken = taken_of row seats;
         journal = j;
       }) (sym journal)
       ∙ ap (λ (ws : List (ℕ × World)). record v {
-        opening = record v.opening { board = b; scripts = scripts_of script_row seats };
-        taken = taken_of script_row seats;
+        opening = record v.opening { board = b; scripts = scripts_of row seats };
+        taken = taken_of row seats;
         journal = x.journal;
         worlds = ws;
       }) (sym worlds)
       ∙ ap (λ (ls : List (ℕ × List PortCall)). record v {
-        opening = record v.opening { board = b; scripts = scripts_of script_row seats };
-        taken = taken_of script_row seats;
+        opening = record v.opening { board = b; scripts = scripts_of row seats };
+        taken = taken_of row seats;
         journal = x.journal;
         worlds = worlds_of g.world x.ports.items;
         logs = ls;
       }) (sym logs)
 
   -- the seat of each number has the script of that number
-  seat-at : (i : ℕ) (s : Seat CallerView) → slice_get seats i ≡ Some s
-      → (s.number ≡ i) × (y : CallerView) × (slice_get scripts i ≡ Some y) × (s.caller.script ≡ y.script)
+  seat-at : (i : ℕ) (s : Seat C) → slice_get seats i ≡ Some s → s.number ≡ i
   seat-at i s here =
-      let there = ap (λ (ys : List (ℕ × ScriptView)). slice_get ys i) (sym same) ∙ map_at (script_of script_row) seats i s here in
-      let y = map_from (λ (y : ℕ × CallerView). (y.0, y.1.script)) (enumerate_from 0 scripts) i (s.number, s.caller.script) there in
-      let r = numbered-at 0 scripts i y.0 y.1 in
-      let number : s.number ≡ y.0.0 = ap (λ (z : ℕ × ScriptView). z.0) (sym y.2) in
+      let there = ap (λ (ys : List (ℕ × S)). slice_get ys i) (sym same) ∙ map_at (script_of row) seats i s here in
+      let y = map_from (λ (y : ℕ × C). (y.0, row.script y.1)) (enumerate_from 0 callers) i (s.number, row.script s.caller) there in
+      let r = numbered-at 0 callers i y.0 y.1 in
+      let number : s.number ≡ y.0.0 = ap (λ (z : ℕ × S). z.0) (sym y.2) in
       let first = r.0 in
-      (omega (arith, number, first), y.0.1, r.1, ap (λ (z : ℕ × ScriptView). z.1) (sym y.2))
+      omega (arith, number, first)
 
-  own-script : (i : ℕ) (s : Seat CallerView) → slice_get seats i ≡ Some s → s.caller.script ≡ script_on b s.caller.script.text
-  own-script i s here =
-      let y = seat-at i s here in
-      ap (λ (k : BoardView). script_on k s.caller.script.text) (ap (λ (z : ScriptView). z.board) y.3
-      ∙ (all-at (λ t. IsOpened b t.script.text t) scripts i y.1 opened y.2).board_is)
-
-  own-found : (i : ℕ) (s : Seat CallerView) → slice_get seats i ≡ Some s → script_at (scripts_of script_row seats) i ≡ Some s.caller.script
+  own-found : (i : ℕ) (s : Seat C) → slice_get seats i ≡ Some s → script_at (scripts_of row seats) i ≡ Some (row.script s.caller)
   own-found i s here =
-      subst (λ (n : ℕ). script_at (scripts_of script_row seats) n ≡ Some s.caller.script) (seat-at i s here).0
-      (script-own script_row seats (λ j k t u here to is. sym (seat-at j t here).0 ∙ is ∙ (seat-at k u to).0) i s here)
+      subst (λ (n : ℕ). script_at (scripts_of row seats) n ≡ Some (row.script s.caller)) (seat-at i s here)
+      (script-own row seats (λ j k t u here to is. sym (seat-at j t here) ∙ is ∙ (seat-at k u to)) i s here)
 
-  pub texts-same : texts_of (callers_of x) ≡ texts_of scripts
-  texts-same =
-      twice (λ (s : CallerView). s.script.text) (λ (s : Seat CallerView). s.caller) seats
-      ∙ sym (twice (λ (y : ℕ × ScriptView). y.1.text) (script_of script_row) seats)
-      ∙ ap (λ (ys : List (ℕ × ScriptView)). map (λ (y : ℕ × ScriptView). y.1.text) ys) same
-      ∙ twice (λ (y : ℕ × ScriptView). y.1.text) (λ (y : ℕ × CallerView). (y.0, y.1.script)) (enumerate_from 0 scripts)
-      ∙ alone (λ (s : CallerView). s.script.text) 0 scripts
+  pub scripts-same : scripts_in row (callers_in x) ≡ scripts_in row callers
+  scripts-same =
+      twice (λ (s : C). row.script s) (λ (s : Seat C). s.caller) seats
+      ∙ sym (twice (λ (y : ℕ × S). y.1) (script_of row) seats)
+      ∙ ap (λ (ys : List (ℕ × S)). map (λ (y : ℕ × S). y.1) ys) same
+      ∙ twice (λ (y : ℕ × S). y.1) (λ (y : ℕ × C). (y.0, row.script y.1)) (enumerate_from 0 callers)
+      ∙ alone (λ (s : C). row.script s) 0 callers
 
-  text-at : (i : ℕ) (s : Seat CallerView) → slice_get seats i ≡ Some s → slice_get (texts_of (callers_of x)) i ≡ Some s.caller.script.text
-  text-at i s here = map_at (λ (t : CallerView). t.script.text) (callers_of x) i s.caller
-      (map_at (λ (t : Seat CallerView). t.caller) seats i s here)
+  script-at : (i : ℕ) (s : Seat C) → slice_get seats i ≡ Some s → slice_get (scripts_in row (callers_in x)) i ≡ Some (row.script s.caller)
+  script-at i s here = map_at (λ (t : C). row.script t) (callers_in x) i s.caller
+      (map_at (λ (t : Seat C). t.caller) seats i s here)
 
-  -- they ask for what their texts ask for
-  pub asks-same : asks ≡ asks_by b (texts_of (callers_of x))
-  asks-same = same_asks asks (asks_by b (texts_of (callers_of x))) (λ c rs. by c rs (cases_lt c (length seats)))
+  -- they ask for what their scripts ask for
+  pub asks-same : asks ≡ asks_in row.asked (scripts_in row (callers_in x))
+  asks-same = same_asks asks (asks_in row.asked (scripts_in row (callers_in x))) (λ c rs. by c rs (cases_lt c (length seats)))
     where
-      by : (c : ℕ) (rs : List Reply) → (c < length seats) ⊎ (length seats ≤ c) → asks c rs ≡ asks_by b (texts_of (callers_of x)) c rs
+      by : (c : ℕ) (rs : List Reply) → (c < length seats) ⊎ (length seats ≤ c)
+          → asks c rs ≡ asks_in row.asked (scripts_in row (callers_in x)) c rs
       by c rs (inl below) =
           let s = there seats c below in
-          ap (λ (o : Option ScriptView). option_map_or (λ k. asked_by k rs) o None) (own-found c s.0 s.1)
-          ∙ ap (λ (k : ScriptView). asked_by k rs) (own-script c s.0 s.1)
-          ∙ ap (λ (o : Option (List ℕ)). option_map_or (λ text. asked_by (script_on b text) rs) o None) (sym (text-at c s.0 s.1))
+          ap (λ (o : Option S). option_map_or (λ k. row.asked k rs) o None) (own-found c s.0 s.1)
+          ∙ ap (λ (o : Option S). option_map_or (λ k. row.asked k rs) o None) (sym (script-at c s.0 s.1))
       by c rs (inr above) =
-          let count : length (texts_of (callers_of x)) ≡ length seats = length-map (callers_of x) (λ (t : CallerView). t.script.text)
-          ∙ length-map seats (λ (t : Seat CallerView). t.caller) in
-          ap (λ (o : Option ScriptView). option_map_or (λ k. asked_by k rs) o None)
-          (script-none (scripts_of script_row seats) c
+          let count : length (scripts_in row (callers_in x)) ≡ length seats = length-map (callers_in x) (λ (t : C). row.script t)
+          ∙ length-map seats (λ (t : Seat C). t.caller) in
+          ap (λ (o : Option S). option_map_or (λ k. row.asked k rs) o None)
+          (script-none (scripts_of row seats) c
           (λ i s here.
-          let z = map_from (script_of script_row) seats i (c, s) here in
-          let number : z.0.number ≡ c = ap (λ (q : ℕ × ScriptView). q.0) z.2 in
-          let first = (seat-at i z.0 z.1).0 in
+          let z = map_from (script_of row) seats i (c, s) here in
+          let number : z.0.number ≡ c = ap (λ (q : ℕ × S). q.0) z.2 in
+          let first = seat-at i z.0 z.1 in
           let low : i < length seats = slice_get_within seats i z.0 z.1 in
           absurd (omega (arith, number, first, low, above))))
-          ∙ ap (λ (o : Option (List ℕ)). option_map_or (λ text. asked_by (script_on b text) rs) o None)
-          (sym (slice_get_past (texts_of (callers_of x)) c (omega (arith, count, above))))
-
-  pub own-at : (c : ℕ) (s : CallerView) → slice_get (callers_of x) c ≡ Some s → s.script ≡ script_on b s.script.text
-  own-at c s here =
-      let y = map_from (λ (t : Seat CallerView). t.caller) seats c s here in
-      subst (λ (t : CallerView). t.script ≡ script_on b t.script.text) y.2 (own-script c y.0 y.1)
+          ∙ ap (λ (o : Option S). option_map_or (λ k. row.asked k rs) o None)
+          (sym (slice_get_past (scripts_in row (callers_in x)) c (omega (arith, count, above))))
 
   -- a caller that is through
-  pub through-at : (v : CoreState ScriptView) → AllThrough asked_by g.tells (left v) → (c : ℕ) (s : CallerView)
-      → slice_get (callers_of x) c ≡ Some s
-      → (asked_by (script_on b s.script.text) s.taken ≡ None) × IsThrough asked_by g.tells (left v) c s.taken
+  pub through-at : (v : CoreState S) → AllThrough row.asked g.tells (left v) → (c : ℕ) (s : C) → slice_get (callers_in x) c ≡ Some s
+      → (row.asked (row.script s) (row.taken s) ≡ None) × IsThrough row.asked g.tells (left v) c (row.taken s)
   through-at v through c s here =
-      let y = map_from (λ (t : Seat CallerView). t.caller) seats c s here in
-      let number = (seat-at c y.0 y.1).0 in
-      let own = through c y.0.number y.0.caller.taken (map_at (λ (t : Seat CallerView). (t.number, t.caller.taken)) seats c y.0 y.1) in
-      let mine = subst (λ (n : ℕ). IsThrough asked_by g.tells (left v) n y.0.caller.taken) number own in
-      let done : asked_by (script_on b y.0.caller.script.text) y.0.caller.taken ≡ None =
-      ap (λ (k : ScriptView). asked_by k y.0.caller.taken) (sym (own-script c y.0 y.1))
-      ∙ sym (ap (λ (o : Option ScriptView). option_map_or (λ k. asked_by k y.0.caller.taken) o None) (own-found c y.0 y.1)) ∙ mine.asks in
-      subst (λ (t : CallerView). (asked_by (script_on b t.script.text) t.taken ≡ None) × IsThrough asked_by g.tells (left v) c t.taken) y.2
+      let y = map_from (λ (t : Seat C). t.caller) seats c s here in
+      let number = seat-at c y.0 y.1 in
+      let own = through c y.0.number (row.taken y.0.caller) (map_at (λ (t : Seat C). (t.number, row.taken t.caller)) seats c y.0 y.1) in
+      let mine = subst (λ (n : ℕ). IsThrough row.asked g.tells (left v) n (row.taken y.0.caller)) number own in
+      let done : row.asked (row.script y.0.caller) (row.taken y.0.caller) ≡ None =
+      sym (ap (λ (o : Option S). option_map_or (λ k. row.asked k (row.taken y.0.caller)) o None) (own-found c y.0 y.1)) ∙ mine.asks in
+      subst (λ (t : C). (row.asked (row.script t) (row.taken t) ≡ None) × IsThrough row.asked g.tells (left v) c (row.taken t)) y.2
       (done, mine)
 
   -- the port of a root
@@ -338,21 +307,20 @@ module _ {P : Type 0} (g : PortGhosts P) (b : BoardView) (x : Parts P CallerView
   past = reverse x.journal.entries
 
   -- THE END: all are through
-  pub core-over : (ports : List P) (v : CoreState ScriptView) → IsPlainBoard b → MeetsRules b → (IsTrue g.tells → IsTold asked_by (left v))
-      → AllThrough asked_by g.tells (left v) → roots_of x.ports.items ≡ roots_of (enumerate_from 0 ports)
+  pub core-over : (ports : List P) (v : CoreState S) → IsPlainBoard b → MeetsRules b → (IsTrue g.tells → IsTold row.asked (left v))
+      → AllThrough row.asked g.tells (left v) → roots_of x.ports.items ≡ roots_of (enumerate_from 0 ports)
       → length ports ≡ length b.roots → IsTrue g.tells
-      → IsOver b (callers_of x) MOST_CALLERS x.journal.entries (map (λ (p : ℕ × P). g.world p.1) x.ports.items)
+      → IsOver row b (callers_in x) MOST_CALLERS x.journal.entries (map (λ (p : ℕ × P). g.world p.1) x.ports.items)
       (map (λ (p : ℕ × P). g.log p.1) x.ports.items)
   core-over ports v plain rules core_told through roots count tells =
       let told = core_told tells in
       record {
         plain = plain;
         rules = rules;
-        own = own-at;
         stepwise = subst (λ (a : Asks). IsStepwise b MOST_CALLERS a past) asks-same told.stepwise;
         rests = subst (λ (a : Asks). (now b a past).due ≡ None) asks-same told.rests;
         taken = λ c s here.
-            subst (λ (a : Asks). s.taken ≡ (now b a past).settled c) asks-same (sym ((through-at v through c s here).1.settled tells));
+            subst (λ (a : Asks). row.taken s ≡ (now b a past).settled c) asks-same (sym ((through-at v through c s here).1.settled tells));
         ended = λ c s here.
             subst (λ (a : Asks). (now b a past).walk c ≡ Ends) asks-same ((through-at v through c s here).1.walk tells);
         done = λ c s here. (through-at v through c s here).0;
@@ -386,56 +354,53 @@ ports-counted g b ports tells count account =
           (subst (λ (calls : List PortCall). IsFaultAt calls n) (sym log) fault.fault);
     }
 
--- a core that was opened with the scripts and ports by their numbers is one of them
-pub core-opened : {P E : Type 0} (g : PortGhosts P) (b : BoardView) → IsPlainBoard b → MeetsRules b → (scripts : List CallerView)
-    → AreOpened b scripts → (ports : List P) → length ports ≡ length b.roots
-    → (by_root : List (ℕ × P)) (by_number : List (ℕ × CallerView)) → by_root ≡ enumerate_from 0 ports → by_number ≡ enumerate_from 0 scripts
-    → (r : Result (CoreState ScriptView) E)
-    → IfOk r (λ core. core.opening ≡ opening_of g script_row b by_root by_number) → IfOk r (λ core. core.worlds ≡ worlds_of g.world by_root)
-    → IfOk r (IsCoreOf b scripts ports)
-core-opened g b plain rules scripts opened ports count by_root by_number roots_are numbers_are (Ok core) opening worlds =
+-- a core that was opened with the callers and ports by their numbers is one of them
+pub core-opened : {P C S E : Type 0} (g : PortGhosts P) (row : CallerGhosts C S) (b : BoardView) → IsPlainBoard b → MeetsRules b
+    → (callers : List C) (ports : List P) → length ports ≡ length b.roots
+    → (by_root : List (ℕ × P)) (by_number : List (ℕ × C)) → by_root ≡ enumerate_from 0 ports → by_number ≡ enumerate_from 0 callers
+    → (r : Result (CoreState S) E)
+    → IfOk r (λ core. core.opening ≡ opening_of g row b by_root by_number) → IfOk r (λ core. core.worlds ≡ worlds_of g.world by_root)
+    → IfOk r (IsCoreOf row b callers ports)
+core-opened {P} {C} {S} {E} g row b plain rules callers ports count by_root by_number roots_are numbers_are (Ok core) opening worlds =
     record {
       plain = plain;
       rules = rules;
-      opened = opened;
       count = count;
-      board = ap (λ (o : Opening ScriptView). o.board) opening;
-      scripts_are = ap (λ (o : Opening ScriptView). o.scripts) opening ∙ ap (callers_scripts script_row) numbers_are;
+      board = ap (λ (o : Opening S). o.board) opening;
+      scripts_are = ap (λ (o : Opening S). o.scripts) opening ∙ ap (callers_scripts row) numbers_are;
       roots = ap (map (λ (w : ℕ × World). w.0)) worlds ∙ roots-told g.world by_root ∙ ap roots_of roots_are;
     }
-core-opened g b plain rules scripts opened ports count by_root by_number roots_are numbers_are (Err e) opening worlds = tt
+core-opened g row b plain rules callers ports count by_root by_number roots_are numbers_are (Err e) opening worlds = tt
 
 -- of a core that is taken apart all is told but its lock words
-told-of : (v : CoreState ScriptView) → CoreTold asked_by v → IsTold asked_by v
-told-of v told = record { stepwise = told.stepwise; rests = told.rests; worlds = told.worlds; logs = told.logs }
+told-of : {S : Type 0} (asked : S → List Reply → Option TransferView) (v : CoreState S) → CoreTold asked v → IsTold asked v
+told-of asked v told = record { stepwise = told.stepwise; rests = told.rests; worlds = told.worlds; logs = told.logs }
 
--- a core that was opened with scripts and ports, ran until all were through, and was taken apart
-pub taken-apart : {P : Type 0} (g : PortGhosts P) (b : BoardView) (scripts : List CallerView) (ports : List P) (words : Option (List ℕ))
-    (core ran : CoreState ScriptView) (x : Parts P CallerView)
-    → IsCoreOf b scripts ports core → ran.opening ≡ core.opening → roots_in ran ≡ roots_in core
-    → scripts_of script_row x.seats.items ≡ ran.opening.scripts → taken_of script_row x.seats.items ≡ ran.taken
+-- a core that was opened with callers and ports, ran until all were through, and was taken apart
+pub taken-apart : {P C S : Type 0} (g : PortGhosts P) (row : CallerGhosts C S) (b : BoardView) (callers : List C) (ports : List P)
+    (core ran : CoreState S) (x : Parts P C)
+    → IsCoreOf row b callers ports core → ran.opening ≡ core.opening → roots_in ran ≡ roots_in core
+    → scripts_of row x.seats.items ≡ ran.opening.scripts → taken_of row x.seats.items ≡ ran.taken
     → worlds_of g.world x.ports.items ≡ ran.worlds → logs_of g.log x.ports.items ≡ ran.logs → x.journal ≡ ran.journal
-    → (IsTrue g.tells → CoreTold asked_by ran) → AllThrough asked_by g.tells ran
-    → (IsTrue g.tells → KeepsOrder b (texts_of scripts) words ran.journal.entries) → IsLeftOf g b scripts ports words x
-taken-apart g b scripts ports words core ran x of opening roots_kept scripts_left taken worlds logs journal told through ordered =
+    → (IsTrue g.tells → CoreTold row.asked ran) → AllThrough row.asked g.tells ran → IsLeftOf g row b callers ports x
+taken-apart {P} {C} {S} g row b callers ports core ran x of opening roots_kept scripts_left taken worlds logs journal told through =
     record {
       over = λ tells.
-          core-over g b x scripts of.opened same ports ran of.plain of.rules
-          (λ tell. told-of (left g b x scripts of.opened same ran) (subst (λ (v : CoreState ScriptView). CoreTold asked_by v) is_left (told tell)))
-          (subst (λ (v : CoreState ScriptView). AllThrough asked_by g.tells v) is_left through) roots of.count tells;
-      ordered = λ tells. subst (λ (j : JournalView). KeepsOrder b (texts_of scripts) words j.entries) (sym journal) (ordered tells);
-      texts = texts-same g b x scripts of.opened same;
+          core-over g row b x callers same ports ran of.plain of.rules
+          (λ tell. told-of row.asked (left g row b x callers same ran) (subst (λ (v : CoreState S). CoreTold row.asked v) is_left (told tell)))
+          (subst (λ (v : CoreState S). AllThrough row.asked g.tells v) is_left through) roots of.count tells;
+      scripts = scripts-same g row b x callers same;
       count = ports-count x ports roots;
     }
   where
-    same : scripts_of script_row x.seats.items ≡ map (λ (y : ℕ × CallerView). (y.0, y.1.script)) (enumerate_from 0 scripts)
-    same = scripts_left ∙ ap (λ (o : Opening ScriptView). o.scripts) opening ∙ of.scripts_are
+    same : scripts_of row x.seats.items ≡ map (λ (y : ℕ × C). (y.0, row.script y.1)) (enumerate_from 0 callers)
+    same = scripts_left ∙ ap (λ (o : Opening S). o.scripts) opening ∙ of.scripts_are
 
     roots : roots_of x.ports.items ≡ roots_of (enumerate_from 0 ports)
     roots = sym (roots-told g.world x.ports.items) ∙ ap (map (λ (w : ℕ × World). w.0)) worlds ∙ roots_kept ∙ of.roots
 
-    is_left : ran ≡ left g b x scripts of.opened same ran
-    is_left = is-left g b x scripts of.opened same ran (ap (λ (o : Opening ScriptView). o.board) opening
+    is_left : ran ≡ left g row b x callers same ran
+    is_left = is-left g row b x callers same ran (ap (λ (o : Opening S). o.board) opening
         ∙ of.board) scripts_left taken journal worlds logs
 
 -- what goes on from an empty journal is the whole of it
@@ -445,12 +410,11 @@ goes-on-whole words old new empty goes =
     subst (λ (es : List Entry). Follows words es) (sym from.behind) from.follows
 
 -- what is left of one core, with its journal in a list
-pub as-one : {P : Type 0} (g : PortGhosts P) (b : BoardView) (scripts : List CallerView) (ports : List P) (words : Option (List ℕ))
-    (x : Parts P CallerView) (y : Ran P CallerView) → IsLeftOf g b scripts ports words x → IsAsOne x y
-    → IsLeftOf g b scripts ports words (one_of y)
-as-one {P} g b scripts ports words x y left as_one =
-    subst (IsLeftOf g b scripts ports words) same
-    (record { over = left.over; ordered = left.ordered; texts = left.texts; count = left.count })
+pub as-one : {P C S : Type 0} (g : PortGhosts P) (row : CallerGhosts C S) (b : BoardView) (callers : List C) (ports : List P)
+    (x : Parts P C) (y : Ran P C) → IsLeftOf g row b callers ports x → IsAsOne x y → IsLeftOf g row b callers ports (one_of y)
+as-one {P} {C} {S} g row b callers ports x y left as_one =
+    subst (IsLeftOf g row b callers ports) same
+    (record { over = left.over; scripts = left.scripts; count = left.count })
   where
     same : record x { journal = record { entries = x.journal.entries; room = 0; room_bytes = 0 } } ≡ one_of y
     same = ap (λ (ps : _). record x { ports = ps; journal = record { entries = x.journal.entries; room = 0; room_bytes = 0 } }) (sym as_one.ports)
@@ -458,3 +422,14 @@ as-one {P} g b scripts ports words x y left as_one =
         (sym as_one.seats)
         ∙ ap (λ (es : List Entry). record { ports = y.ports; seats = y.seats; journal = record { entries = es; room = 0; room_bytes = 0 } })
         (sym as_one.entries)
+
+-- what follows of each result that is there
+pub if-ok : {A E : Type 0} (Q R : A → Type 0) → ((a : A) → Q a → R a) → (r : Result A E) → IfOk r Q → IfOk r R
+if-ok Q R each (Ok a) ok = each a ok
+if-ok Q R each (Err e) ok = tt
+
+-- what holds of the journal of cores that ran holds of their run's
+pub of-journal : {P C E : Type 0} (Q : List Entry → Type 0) (r : Result (Ran P C) E) → IfOk r (λ x. Q (one_of x).journal.entries)
+    → (journal : List Entry) → HaveJournal r journal → Q journal
+of-journal {P} {C} {E} Q r holds journal have =
+    subst Q have.entries (subst (λ (s : Result (Ran P C) E). IfOk s (λ x. Q (one_of x).journal.entries)) have.is holds)

@@ -1,5 +1,5 @@
 -- Scripts over groups: each names by its bits what its transfers name, and has left what it costs. The inductions go over the scripts.
-use Rattle.std.proofs.Common.{◌≡◌, ℕ, zero, suc, ◌+◌, ◌<◌, ◌≤◌, true, List, [], ◌∷◌, length, map, sum_by, Some, None, Result, Ok, Err, refl, sym, ◌∙◌, ap, subst, arith}
+use Rattle.std.proofs.Common.{◌≡◌, ℕ, zero, suc, ◌+◌, ◌<◌, ◌≤◌, true, IsTrue, List, [], ◌∷◌, length, map, sum_by, Some, None, Result, Ok, Err, refl, sym, ◌∙◌, ap, subst, arith}
 use Rattle.std.specs.Prelude.{IfOk, slice_get, ◌==◌}
 use Rattle.std.specs.List.{enumerate_from, range_with_len, AllZip}
 use Rattle.std.proofs.lemmas.List.{length-map}
@@ -28,8 +28,9 @@ use Rattle.caller_core.specs.View.{CallerView, script_on}
 use Rattle.caller_core.proofs.FairLemmas.{left_at_first}
 use Rattle.caller_core.proofs.NameLemmas.{asked_named}
 use Rattle.i2c_top.specs.Cores.{AreFresh, IsLeftOf}
-use Rattle.i2c_top.specs.Runs.{AreOpened, texts_of, cost_of_texts, MOST_COST, IsOfGroups}
-use Rattle.i2c_top.proofs.CoreLemmas.{script_row, numbered-at, may-open, core-over, texts-same, ports-count}
+use Rattle.i2c_top.specs.Runs.{script_row, AreOpened, texts_of, cost_of_texts, MOST_COST, IsOfGroups}
+use Rattle.i2c_top.proofs.CoreLemmas.{numbered-at, may-open, core-over, scripts-same, ports-count}
+use Rattle.i2c_top.proofs.TextLemmas.{opened-ready, opened-left}
 
 -- each script names its roots by these bits
 abbrev pub AreMasks : List CallerView → List ℕ → Type 0
@@ -111,8 +112,10 @@ may-run g b plain scripts opened few cheap ports fresh fair masks has =
     let same : length scripts ≡ length masks =
     zip-length (λ s mask. HasRoots s.script.board (commands_of s.script) mask) scripts masks has in
     record {
-      may = may-open g b plain scripts opened ports (sum_by (λ n. n) (costs_in scripts)) few fresh.count fresh.idle fresh.empty fresh.worlds
-          fair (costs-sum b scripts opened) cheap;
+      may = may-open g script_row b plain scripts (opened-ready b scripts opened) ports (sum_by (λ n. n) (costs_in scripts)) few fresh.count
+          fresh.idle fresh.empty fresh.worlds fair
+          (let sum = costs-sum b scripts opened in let left = opened-left b scripts opened in omega (arith, sum, left))
+          (let sum = costs-sum b scripts opened in omega (arith, sum, cheap));
       roots = firsts-count 0 ports ∙ ap (range_with_len 0) fresh.count;
       numbers = firsts-count 0 scripts ∙ ap (range_with_len 0) same;
       few = omega (arith, same, few);
@@ -129,7 +132,7 @@ may-run g b plain scripts opened few cheap ports fresh fair masks has =
     }
 
 -- their groups are those of their texts
-pub of-groups : (b : BoardView) (scripts : List CallerView) (masks : List ℕ) (journal : List Entry) → AreOpened b scripts
+of-groups : (b : BoardView) (scripts : List CallerView) (masks : List ℕ) (journal : List Entry) → AreOpened b scripts
     → AreMasks scripts masks → AreByHomes (home_at (homes_of (length b.roots) masks) masks) journal
     → IsOfGroups b (texts_of scripts) journal
 of-groups b scripts masks journal opened has ordered =
@@ -148,19 +151,27 @@ of-groups b scripts masks journal opened has ordered =
 
 -- scripts and ports that came out of a run in groups
 pub ran-left : {P E : Type 0} (g : PortGhosts P) (b : BoardView) → IsPlainBoard b → MeetsRules b → (scripts : List CallerView)
-    → AreOpened b scripts → (ports : List P) → length ports ≡ length b.roots → (by_root : List (ℕ × P)) (by_number : List (ℕ × CallerView))
-    → by_root ≡ enumerate_from 0 ports → by_number ≡ enumerate_from 0 scripts → (masks : List ℕ) → AreMasks scripts masks
+    → (ports : List P) → length ports ≡ length b.roots → (by_root : List (ℕ × P)) (by_number : List (ℕ × CallerView))
+    → by_root ≡ enumerate_from 0 ports → by_number ≡ enumerate_from 0 scripts → (masks : List ℕ)
     → (r : Result (Ran P CallerView) E) → IfOk r (HaveRun g script_row b masks by_root by_number)
-    → IfOk r (λ x. IsLeftOf g b scripts ports None (one_of x))
-ran-left g b plain rules scripts opened ports count by_root by_number roots_are numbers_are masks has (Ok x) run =
+    → IfOk r (λ x. IsLeftOf g script_row b scripts ports (one_of x))
+ran-left g b plain rules scripts ports count by_root by_number roots_are numbers_are masks (Ok x) run =
     let same : scripts_of script_row x.seats.items ≡ map (λ (y : ℕ × CallerView). (y.0, y.1.script)) (enumerate_from 0 scripts) =
     run.came.scripts ∙ ap (callers_scripts script_row) numbers_are in
     let roots : roots_of x.ports.items ≡ roots_of (enumerate_from 0 ports) = run.came.roots ∙ ap roots_of roots_are in
     record {
-      over = λ tells. core-over g b (one_of x) scripts opened same ports (no_core b) plain rules (run.came.told (no_core b))
+      over = λ tells. core-over g script_row b (one_of x) scripts same ports (no_core b) plain rules (run.came.told (no_core b))
           (run.came.through (no_core b)) roots count tells;
-      ordered = λ tells. of-groups b scripts masks (one_of x).journal.entries opened has (run.groups tells);
-      texts = texts-same g b (one_of x) scripts opened same;
+      scripts = scripts-same g script_row b (one_of x) scripts same;
       count = ports-count (one_of x) ports roots;
     }
-ran-left g b plain rules scripts opened ports count by_root by_number roots_are numbers_are masks has (Err e) run = tt
+ran-left g b plain rules scripts ports count by_root by_number roots_are numbers_are masks (Err e) run = tt
+
+-- .. and their journals stand by the groups of their texts
+pub ran-groups : {P E : Type 0} (g : PortGhosts P) (b : BoardView) (scripts : List CallerView) → AreOpened b scripts
+    → (by_root : List (ℕ × P)) (by_number : List (ℕ × CallerView)) (masks : List ℕ) → AreMasks scripts masks → IsTrue g.tells
+    → (r : Result (Ran P CallerView) E) → IfOk r (HaveRun g script_row b masks by_root by_number)
+    → IfOk r (λ x. IsOfGroups b (texts_of scripts) (one_of x).journal.entries)
+ran-groups g b scripts opened by_root by_number masks has tells (Ok x) run =
+    of-groups b scripts masks (one_of x).journal.entries opened has (run.groups tells)
+ran-groups g b scripts opened by_root by_number masks has tells (Err e) run = tt

@@ -13,7 +13,7 @@ pub record GoesOver {X Y : Type 0} (told : List X → List Y) (all came rest : L
 
 module _ {X Y : Type 0} (told : List X → List Y) (all : List X) where
   -- there is room for one more
-  pub over-room : (came rest : List X) (x : X) (count room : ℕ) (out : List Y) → GoesOver told all came (x ∷ rest) count out room
+  over-room : (came rest : List X) (x : X) (count room : ℕ) (out : List Y) → GoesOver told all came (x ∷ rest) count out room
       → length (told came) ≡ length came → length out < room
   over-room came rest x count room out over same =
       let len : length out ≡ length came = ap length over.so_far ∙ same in
@@ -22,7 +22,7 @@ module _ {X Y : Type 0} (told : List X → List Y) (all : List X) where
       omega (arith, len, whole, has)
 
   -- as many came as are told, fewer than all
-  pub over-below : (came rest : List X) (x : X) (count room : ℕ) (out : List Y) → GoesOver told all came (x ∷ rest) count out room
+  over-below : (came rest : List X) (x : X) (count room : ℕ) (out : List Y) → GoesOver told all came (x ∷ rest) count out room
       → length came < length all
   over-below came rest x count room out over =
       let whole : length came + length (x ∷ rest) ≡ length all = sym (length-append came (x ∷ rest)) ∙ ap length over.goes in

@@ -8,6 +8,7 @@ use Rattle.std.proofs.lemmas.Bool.{cases_lt}
 use Rattle.std.proofs.lemmas.List.{same_lists, length-map}
 use Rattle.std.proofs.lemmas.List.FromFn.{length-map-range_with_len, get_or-map-range_with_len}
 use Rattle.std.proofs.lemmas.Option.{get_or_from_slice_get, slice_get_past, slice_get_cases, slice_get-map}
+use Rattle.i2c_base.specs.declared.caller.Caller.{Ghosts as CallerGhosts}
 use Rattle.i2c_base.specs.declared.entry.Entry.{Entry}
 use Rattle.i2c_base.specs.declared.entry.Entry.TheVariants as entry
 use Rattle.i2c_base.specs.declared.port.PortCall.{PortCall}
@@ -24,18 +25,19 @@ use Rattle.bus_spec.specs.Grammar.{seen, is_over, first_act}
 use Rattle.bus_spec.specs.Readings.{replies}
 use Rattle.bus_spec.specs.Past.{Now, begun, current, now, world_at, calls_of}
 use Rattle.bus_spec.specs.Stepwise.{May, IsStepwise}
-use Rattle.bus_spec.specs.Report.{report_lines, text_of}
+use Rattle.bus_spec.specs.Report.{report_lines, report_of, text_of}
 use Rattle.bus_laws.specs.Reach.{AsksForMessages, AsksWithinLimits}
 use Rattle.bus_laws.proofs.Laws.{lines-locked, settled-told}
 use Rattle.flat_laws.specs.Ends.{IsDone}
 use Rattle.flat_laws.specs.Left.{LeavesDevices, worlds_of}
 use Rattle.flat_laws.proofs.Laws.{replies-kept, legal-with, devices-left, complete-then, strangers-end}
-use Rattle.caller_core.specs.Callers.{board_of}
-use Rattle.caller_core.specs.Scripts.{asked_by, left_of, commands_of, section_text}
-use Rattle.caller_core.specs.View.{CallerView, ScriptView, script_on}
+use Rattle.caller_core.specs.Scripts.{asked_by}
+use Rattle.caller_core.specs.View.{script_on}
 use Rattle.bus_journal.specs.Ranges.{IsEntry}
+use Rattle.i2c_top.specs.Callers.{asks_in, printed_in, scripts_in, IsOver, IsRunBy}
+use Rattle.i2c_top.specs.Cores.{AreGivenBack}
 use Rattle.i2c_top.specs.Faults.{AreCounted}
-use Rattle.i2c_top.specs.Runs.{asks_by, printed_by, report_by, texts_of, section_of, IsOver, IsRunOf}
+use Rattle.i2c_top.specs.Runs.{asks_by}
 
 -- two ways of asking that give the same are one
 pub same_asks : (f g : Asks) → ((c : ℕ) (rs : List Reply) → f c rs ≡ g c rs) → f ≡ g
@@ -89,51 +91,56 @@ listed f xs n count each =
     get_or_from_slice_get xs i (f i) d (each i low) ∙ sym (get_or-map-range_with_len f 0 n i i d low (zero-add i)))
 
 -- what holds of what each script asks for holds of what the callers do
-pub of_asks : (b : BoardView) (texts : List (List ℕ)) (P : TransferView → Type 0)
-    → ((text : List ℕ) (rs : List Reply) (t : TransferView) → asked_by (script_on b text) rs ≡ Some t → P t)
-    → (c : ℕ) (rs : List Reply) (t : TransferView) → asks_by b texts c rs ≡ Some t → P t
-of_asks b texts P each c rs t e = by (slice_get texts c) e
+pub asks_hold : {S : Type 0} (asked : S → List Reply → Option TransferView) (scripts : List S) (Q : TransferView → Type 0)
+    → ((s : S) (rs : List Reply) (t : TransferView) → asked s rs ≡ Some t → Q t)
+    → (c : ℕ) (rs : List Reply) (t : TransferView) → asks_in asked scripts c rs ≡ Some t → Q t
+asks_hold {S} asked scripts Q each c rs t e = by (slice_get scripts c) e
   where
-    by : (o : Option (List ℕ)) → option_map_or (λ text. asked_by (script_on b text) rs) o None ≡ Some t → P t
+    by : (o : Option S) → option_map_or (λ s. asked s rs) o None ≡ Some t → Q t
     by None k = absurd (let h : None ≡ Some t = k in cc)
-    by (Some text) k = each text rs t k
+    by (Some s) k = each s rs t k
 
-module _ (b : BoardView) (callers : List CallerView) (many : ℕ) (journal : List Entry) (worlds : List World) (logs : List (List PortCall))
-    (fair : IsFairCaller asked_by left_of board_of) (over : IsOver b callers many journal worlds logs) where
-  abbrev texts : List (List ℕ)
-  texts = texts_of callers
+-- .. and of scripts by their texts
+pub of_asks : (b : BoardView) (texts : List (List ℕ)) (Q : TransferView → Type 0)
+    → ((text : List ℕ) (rs : List Reply) (t : TransferView) → asked_by (script_on b text) rs ≡ Some t → Q t)
+    → (c : ℕ) (rs : List Reply) (t : TransferView) → asks_by b texts c rs ≡ Some t → Q t
+of_asks b texts Q each = asks_hold (λ text. asked_by (script_on b text)) texts Q each
+
+module _ {C S : Type 0} (row : CallerGhosts C S) (b : BoardView) (callers : List C) (many : ℕ) (journal : List Entry) (worlds : List World)
+    (logs : List (List PortCall)) (fair : IsFairCaller row.asked row.left row.board) (over : IsOver row b callers many journal worlds logs) where
+  abbrev scripts : List S
+  scripts = scripts_in row callers
 
   abbrev count : ℕ
-  count = length texts
+  count = length scripts
 
   abbrev asks : Asks
-  asks = asks_by b texts
+  asks = asks_in row.asked scripts
 
   abbrev past : List Entry
   past = reverse journal
 
   some : AsksForMessages asks
-  some = of_asks b texts (λ t. 0 < length t.msgs) (λ text. fair.sends (script_on b text))
+  some = asks_hold row.asked scripts (λ t. 0 < length t.msgs) fair.sends
 
   limits : AsksWithinLimits asks
-  limits = of_asks b texts (λ t. IsTransfer t.msgs t.out) (λ text. fair.limits (script_on b text))
+  limits = asks_hold row.asked scripts (λ t. IsTransfer t.msgs t.out) fair.limits
 
   -- a number below the count is that of a caller, and no other number is
-  caller_at : (c : ℕ) → c < count → (s : CallerView) × (slice_get callers c ≡ Some s)
+  caller_at : (c : ℕ) → c < count → (s : C) × (slice_get callers c ≡ Some s)
   caller_at c below = by (slice_get_cases callers c).1
     where
-      by : ((s : CallerView) × (c < length callers) × (slice_get callers c ≡ Some s) × (get_or callers c s ≡ s))
-          ⊎ ((length callers ≤ c) × (slice_get callers c ≡ None)) → (s : CallerView) × (slice_get callers c ≡ Some s)
+      by : ((s : C) × (c < length callers) × (slice_get callers c ≡ Some s) × (get_or callers c s ≡ s))
+          ⊎ ((length callers ≤ c) × (slice_get callers c ≡ None)) → (s : C) × (slice_get callers c ≡ Some s)
       by (inl h) = (h.0, h.2)
       by (inr h) = absurd (let many : length callers ≤ c = h.0 in
-          omega (arith, below, many, length-map callers (λ (s : CallerView). s.script.text)))
+          omega (arith, below, many, length-map callers (λ (s : C). row.script s)))
 
-  text_at : (c : ℕ) (s : CallerView) → slice_get callers c ≡ Some s → slice_get texts c ≡ Some s.script.text
-  text_at c s at = slice_get-map (λ (x : CallerView). x.script.text) callers c ∙ ap (option_map (λ (x : CallerView). x.script.text)) at
+  own_at : (c : ℕ) (s : C) → slice_get callers c ≡ Some s → slice_get scripts c ≡ Some (row.script s)
+  own_at c s at = slice_get-map (λ (x : C). row.script x) callers c ∙ ap (option_map (λ (x : C). row.script x)) at
 
   nobody : (c : ℕ) → (c < count → ⊥) → (rs : List Reply) → asks c rs ≡ None
-  nobody c stranger rs = ap (λ o. option_map_or (λ text. asked_by (script_on b text) rs) o None)
-      (slice_get_past texts c (by (cases_lt c count)))
+  nobody c stranger rs = ap (λ o. option_map_or (λ s. row.asked s rs) o None) (slice_get_past scripts c (by (cases_lt c count)))
     where
       by : (c < count) ⊎ (count ≤ c) → count ≤ c
       by (inl below) = absurd (stranger below)
@@ -146,8 +153,8 @@ module _ (b : BoardView) (callers : List CallerView) (many : ℕ) (journal : Lis
   is_done c known =
       let s = caller_at c known in (
         over.ended c s.0 s.1,
-        ap (λ o. option_map_or (λ text. asked_by (script_on b text) ((now b asks past).settled c)) o None) (text_at c s.0 s.1)
-            ∙ ap (λ (rs : List Reply). asked_by (script_on b s.0.script.text) rs) (sym (over.taken c s.0 s.1)) ∙ over.done c s.0 s.1,
+        ap (λ o. option_map_or (λ k. row.asked k ((now b asks past).settled c)) o None) (own_at c s.0 s.1)
+            ∙ ap (λ (rs : List Reply). row.asked (row.script s.0) rs) (sym (over.taken c s.0 s.1)) ∙ over.done c s.0 s.1,
       )
 
   all_end : (c : ℕ) → (now b asks past).walk c ≡ Ends
@@ -170,30 +177,32 @@ module _ (b : BoardView) (callers : List CallerView) (many : ℕ) (journal : Lis
   are_worlds : AreWorldsOf b worlds
   are_worlds = subst (λ (ws : List World). AreWorldsOf b ws) (sym worlds_are) left_by.worlds
 
-  -- what a caller has printed is what its replies in the journal make it print
-  section_at : (c : ℕ) → c < count → slice_get (map section_of callers) c ≡ Some (text_of (printed_by b texts) journal c)
-  section_at c known =
-      let s = caller_at c known in
-      slice_get-map section_of callers c ∙ ap (option_map section_of) s.1
-      ∙ ap (λ (rs : List Reply). Some (section_text (commands_of s.0.script) rs)) (over.taken c s.0 s.1 ∙ settled-told b asks past c)
-      ∙ ap (λ (k : ScriptView). Some (section_text (commands_of k) (replies past c))) (over.own c s.0 s.1)
-      ∙ ap (λ o. Some (option_map_or (λ text. section_text (commands_of (script_on b text)) (replies past c)) o []))
-      (sym (text_at c s.0 s.1))
+  -- their report is that of the journal, whatever each prints
+  module _ (printed : S → List Reply → List ℕ) where
+    section_at : (c : ℕ) → c < count
+        → slice_get (map (λ (s : C). printed (row.script s) (row.taken s)) callers) c ≡ Some (text_of (printed_in printed scripts) journal c)
+    section_at c known =
+        let s = caller_at c known in
+        slice_get-map (λ (x : C). printed (row.script x) (row.taken x)) callers c
+        ∙ ap (option_map (λ (x : C). printed (row.script x) (row.taken x))) s.1
+        ∙ ap (λ (rs : List Reply). Some (printed (row.script s.0) rs)) (over.taken c s.0 s.1 ∙ settled-told b asks past c)
+        ∙ ap (λ o. Some (option_map_or (λ k. printed k (replies past c)) o [])) (sym (own_at c s.0 s.1))
 
-  pub sections_are : map section_of callers ≡ map (text_of (printed_by b texts) journal) (range_with_len 0 count)
-  sections_are =
-      listed (text_of (printed_by b texts) journal) (map section_of callers) count
-      (length-map callers section_of ∙ sym (length-map callers (λ (s : CallerView). s.script.text))) section_at
+    pub sections_are : map (λ (s : C). printed (row.script s) (row.taken s)) callers
+        ≡ map (text_of (printed_in printed scripts) journal) (range_with_len 0 count)
+    sections_are =
+        listed (text_of (printed_in printed scripts) journal) (map (λ (s : C). printed (row.script s) (row.taken s)) callers) count
+        (length-map callers (λ (s : C). printed (row.script s) (row.taken s)) ∙ sym (length-map callers (λ (s : C). row.script s))) section_at
 
-  -- their report is that of the journal
-  pub report-over : (bytes : List ℕ) → bytes ≡ report_lines (map section_of callers) journal → bytes ≡ report_by b texts journal
-  report-over bytes printed = printed ∙ ap (λ (xs : List (List ℕ)). report_lines xs journal) sections_are
+    -- their report is that of the journal
+    pub report-over : (bytes : List ℕ) → bytes ≡ report_lines (map (λ (s : C). printed (row.script s) (row.taken s)) callers) journal
+        → bytes ≡ report_of (printed_in printed scripts) count journal
+    report-over bytes printed_is = printed_is ∙ ap (λ (xs : List (List ℕ)). report_lines xs journal) sections_are
 
-  -- THE RUN of callers that are over
-  pub run-over : (kept_logs : List (List PortCall)) (states : List TargetState) (counts : List ℕ) → All IsEntry journal
-      → (AreWorldsOf b worlds → states ≡ devices_of b worlds) → (AreWorldsOf b worlds → kept_logs ≡ logs) → AreCounted b logs counts
-      → IsRunOf b texts kept_logs states counts journal
-  run-over kept_logs states counts in_range kept logged counted =
+  -- THE RUN of callers that are over, whose ports were given back
+  pub run-over : (kept : List (List PortCall)) (states : List TargetState) (counts : List ℕ) → All IsEntry journal
+      → AreGivenBack b worlds logs kept states counts → IsRunBy b count asks kept states counts journal
+  run-over kept states counts in_range given =
       record {
         plain = over.plain;
         rules = over.rules;
@@ -204,9 +213,9 @@ module _ (b : BoardView) (callers : List CallerView) (many : ℕ) (journal : Lis
         stepwise = stepwise;
         complete = complete-then b (tree_of b over.plain over.rules) over.plain
             (lines-locked b over.rules) asks some count past stepwise is_done;
-        called = logged are_worlds ∙ logs_are;
-        faults = subst (λ (ls : List (List PortCall)). AreCounted b ls counts) (sym (logged are_worlds)) counted;
+        called = given.logged are_worlds ∙ logs_are;
+        faults = subst (λ (ls : List (List PortCall)). AreCounted b ls counts) (sym (given.logged are_worlds)) (given.counted over.logs_count);
         told = left_by.told;
         replayed = left_by.defined;
-        left = kept are_worlds ∙ ap (devices_of b) worlds_are ∙ left_by.states;
+        left = given.devices are_worlds ∙ ap (devices_of b) worlds_are ∙ left_by.states;
       }

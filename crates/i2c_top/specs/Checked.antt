@@ -7,9 +7,11 @@ use Rattle.i2c_base.specs.Limits.{MOST_CALLERS}
 use Rattle.bus_core.specs.declared.seat.Seat.{Seat}
 use Rattle.bus_spec.specs.Legal.{IsComplete}
 use Rattle.bus_spec.specs.Past.{world_at, calls_of}
-use Rattle.caller_core.specs.View.{CallerView}
+use Rattle.caller_core.specs.Scripts.{asked_by}
+use Rattle.caller_core.specs.View.{CallerView, script_on}
 use Rattle.journal_check.specs.Faults.{Checked, IsLegalIn}
-use Rattle.i2c_top.specs.Runs.{asks_by, printed_by, texts_of, IsOver}
+use Rattle.i2c_top.specs.Callers.{asks_in, scripts_in, IsOver}
+use Rattle.i2c_top.specs.Runs.{asks_by, printed_by, script_row}
 
 -- scripts of these texts over a board, each at its number
 abbrev pub checked_on : BoardView → List (List ℕ) → Checked
@@ -22,9 +24,9 @@ callers_on seats = map (λ (s : Seat CallerView). s.caller) seats
 pub record HasBeenChecked (b : BoardView) (texts : List (List ℕ)) (journal : List Entry) (seats : List (Seat CallerView))
     (entries : List Entry) : Type 0 where
   pub same : entries ≡ journal
-  pub texts_are : texts_of (callers_on seats) ≡ texts
+  pub scripts_are : scripts_in script_row (callers_on seats) ≡ map (script_on b) texts
   pub legal : IsLegalIn (checked_on b texts) journal
   pub complete : IsComplete b (length texts) (asks_by b texts) (reverse journal)
-  pub over : IsOver b (callers_on seats) MOST_CALLERS journal
-      (map (world_at b (asks_by b (texts_of (callers_on seats))) (reverse journal)) (range_with_len 0 (length b.roots)))
-      (map (calls_of b (asks_by b (texts_of (callers_on seats))) (reverse journal)) (range_with_len 0 (length b.roots)))
+  pub over : IsOver script_row b (callers_on seats) MOST_CALLERS journal
+      (map (world_at b (asks_in asked_by (scripts_in script_row (callers_on seats))) (reverse journal)) (range_with_len 0 (length b.roots)))
+      (map (calls_of b (asks_in asked_by (scripts_in script_row (callers_on seats))) (reverse journal)) (range_with_len 0 (length b.roots)))

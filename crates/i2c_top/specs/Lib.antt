@@ -1,6 +1,7 @@
 -- How a call of the program ends, and the words, scripts and boards that it reads.
 pub mod forms
 pub mod Boards
+pub mod Callers
 pub mod Checked
 pub mod Cores
 pub mod Endings

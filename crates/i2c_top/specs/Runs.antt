@@ -1,41 +1,42 @@
--- What a run of callers comes to: the report of a journal that is legal and complete and follows the schedule, where there
+-- What a run of scripts comes to: the report of a journal that is legal and complete and follows the schedule, where there
 -- is one; the calls of that journal in the ports' logs; and the devices that its history leaves.
-use Rattle.std.specs.Prelude.{Option, ◌≡◌, ℕ, ◌<◌, List, [], reverse, length, map, All, slice_get, None, Some}
-use Rattle.std.specs.List.{range_with_len, sum_by, AllZip}
-use Rattle.std.specs.Option.{option_map_or}
+use Rattle.std.specs.Prelude.{Option, ◌≡◌, ℕ, List, length, map, All, None, Some}
+use Rattle.std.specs.List.{sum_by, AllZip}
+use Rattle.i2c_base.specs.declared.caller.Caller.{Ghosts as CallerGhosts}
 use Rattle.i2c_base.specs.declared.entry.Entry.{Entry}
 use Rattle.i2c_base.specs.declared.port.PortCall.{PortCall}
 use Rattle.i2c_base.specs.declared.reply.Reply.{Reply}
 use Rattle.i2c_base.specs.Board.{BoardView}
-use Rattle.i2c_spec.specs.Plain.{IsPlainBoard}
-use Rattle.i2c_spec.specs.Rules.{MeetsRules}
 use Rattle.i2c_spec.specs.Targets.{TargetState}
-use Rattle.i2c_spec.specs.World.{World}
-use Rattle.i2c_spec.specs.History.{Asks, History, history}
-use Rattle.bus_spec.specs.Readings.{order}
-use Rattle.bus_spec.specs.Past.{now, world_at, calls_of}
-use Rattle.bus_spec.specs.Walk.{Ends}
-use Rattle.bus_spec.specs.Legal.{IsLegal, IsComplete}
-use Rattle.bus_spec.specs.Stepwise.{IsStepwise}
+use Rattle.i2c_spec.specs.History.{Asks}
 use Rattle.bus_spec.specs.Schedule.{Follows}
 use Rattle.bus_spec.specs.Report.{report_of}
-use Rattle.bus_journal.specs.Ranges.{IsEntry}
-use Rattle.bus_core.specs.declared.bus.Parts.{Parts}
 use Rattle.bus_groups.specs.Homes.{homes_of, home_at, AreByHomes}
-use Rattle.bus_core.specs.declared.seat.Seat.{Seat}
-use Rattle.caller_core.specs.Callers.{IsOpened}
+use Rattle.caller_core.specs.Callers.{IsOpened, board_of, owed_by}
 use Rattle.caller_core.specs.Roots.{HasRoots}
-use Rattle.caller_core.specs.Scripts.{asked_by, commands_of, cost_of_script, section_text}
-use Rattle.caller_core.specs.View.{CallerView, script_on}
-use Rattle.i2c_top.specs.Faults.{AreCounted}
+use Rattle.caller_core.specs.Scripts.{asked_by, left_of, commands_of, cost_of_script, section_text}
+use Rattle.caller_core.specs.View.{CallerView, ScriptView, script_on}
+use Rattle.i2c_top.specs.Callers.{asks_in, printed_in, IsRunBy}
+
+-- a script as a caller
+abbrev pub script_row : CallerGhosts CallerView ScriptView
+script_row = record {
+  script = λ s. s.script;
+  board = board_of;
+  taken = λ s. s.taken;
+  asked = asked_by;
+  left = left_of;
+  owed = owed_by;
+  spare = λ s. s.spare;
+}
 
 -- what a caller asks for, by the text of its script, which stands at its number; nobody has another number
 abbrev pub asks_by : BoardView → List (List ℕ) → Asks
-asks_by b texts c replies = option_map_or (λ text. asked_by (script_on b text) replies) (slice_get texts c) None
+asks_by b texts = asks_in (λ text. asked_by (script_on b text)) texts
 
 -- what it prints after these replies
 abbrev pub printed_by : BoardView → List (List ℕ) → ℕ → List Reply → List ℕ
-printed_by b texts c replies = option_map_or (λ text. section_text (commands_of (script_on b text)) replies) (slice_get texts c) []
+printed_by b texts = printed_in (λ text. section_text (commands_of (script_on b text))) texts
 
 -- scripts that are opened over a board and have taken nothing
 abbrev pub AreOpened : BoardView → List CallerView → Type 0
@@ -57,45 +58,9 @@ cost_of_texts b texts = sum_by (λ text. cost_of_script (script_on b text)) text
 abbrev pub MOST_COST : ℕ
 MOST_COST = 1000000
 
--- the callers of a core that was taken apart, in the order of their seats
-abbrev pub callers_of : {P : Type 0} → Parts P CallerView → List CallerView
-callers_of parts = map (λ (s : Seat CallerView). s.caller) parts.seats.items
-
--- the callers of a run that is over, on an accepted board, the worlds and the logs of its ports, and its journal, which was
--- stepwise for at least so many callers
-pub record IsOver (b : BoardView) (callers : List CallerView) (many : ℕ) (journal : List Entry) (worlds : List World)
-    (logs : List (List PortCall)) : Type 0 where
-  pub plain : IsPlainBoard b
-  pub rules : MeetsRules b
-  pub own : (c : ℕ) (s : CallerView) → slice_get callers c ≡ Some s → s.script ≡ script_on b s.script.text
-  pub stepwise : IsStepwise b many (asks_by b (texts_of callers)) (reverse journal)
-  pub rests : (now b (asks_by b (texts_of callers)) (reverse journal)).due ≡ None
-  pub taken : (c : ℕ) (s : CallerView) → slice_get callers c ≡ Some s
-      → s.taken ≡ (now b (asks_by b (texts_of callers)) (reverse journal)).settled c
-  pub ended : (c : ℕ) (s : CallerView) → slice_get callers c ≡ Some s
-      → (now b (asks_by b (texts_of callers)) (reverse journal)).walk c ≡ Ends
-  pub done : (c : ℕ) (s : CallerView) → slice_get callers c ≡ Some s → asked_by (script_on b s.script.text) s.taken ≡ None
-  pub worlds_count : length worlds ≡ length b.roots
-  pub world : (r : ℕ) → r < length b.roots → slice_get worlds r ≡ Some (world_at b (asks_by b (texts_of callers)) (reverse journal) r)
-  pub logs_count : length logs ≡ length b.roots
-  pub log : (r : ℕ) → r < length b.roots → slice_get logs r ≡ Some (calls_of b (asks_by b (texts_of callers)) (reverse journal) r)
-
--- over an accepted board the fields of this journal, the oldest entry first, are in range; it is legal, and each entry might come
--- where it did; it is complete; these are the calls of its ports, which failed only where the ports counted it, and the devices
--- that it leaves
-pub record IsRunOf (b : BoardView) (texts : List (List ℕ)) (logs : List (List PortCall)) (states : List TargetState)
-    (counts : List ℕ) (journal : List Entry) : Type 0 where
-  pub plain : IsPlainBoard b
-  pub rules : MeetsRules b
-  pub in_range : All IsEntry journal
-  pub legal : IsLegal b (length texts) (asks_by b texts) (reverse journal)
-  pub stepwise : IsStepwise b (length texts) (asks_by b texts) (reverse journal)
-  pub complete : IsComplete b (length texts) (asks_by b texts) (reverse journal)
-  pub called : logs ≡ map (calls_of b (asks_by b texts) (reverse journal)) (range_with_len 0 (length b.roots))
-  pub faults : AreCounted b logs counts
-  pub told : History
-  pub replayed : history b (asks_by b texts) (order (reverse journal)) ≡ Some told
-  pub left : states ≡ told.states
+-- over an accepted board this journal is a run of scripts of these texts (`IsRunBy` in `specs/Callers.antt`)
+abbrev pub IsRunOf : BoardView → List (List ℕ) → List (List PortCall) → List TargetState → List ℕ → List Entry → Type 0
+IsRunOf b texts logs states counts journal = IsRunBy b (length texts) (asks_by b texts) logs states counts journal
 
 -- callers whose transfers name a root in common, also through others, are a group, and the groups come one after the other, the
 -- one with the least root first; who names no root belongs to root 0

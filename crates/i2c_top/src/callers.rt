@@ -1,21 +1,21 @@
-//! Scripts as the callers of a core that follow a schedule, or of the cores of groups that run on threads.
-ghost use Rattle.std.specs.Prelude.{◌≡◌, ◌<◌, ◌≤◌, [], None, Some, IfOk, IsTrue, All, length, map, vec_capacity};
+//! The callers of a core that follow a schedule, and scripts as those of the cores of groups that run on threads.
+ghost use Rattle.std.specs.Prelude.{◌≡◌, ◌<◌, ◌≤◌, [], IfOk, IsTrue, All, length, map, vec_capacity};
 ghost use Rattle.std.specs.List.{enumerate_from, AllZip};
 ghost use Rattle.bus_groups.specs.Rounds.{one_of};
+ghost use Rattle.bus_spec.specs.Schedule.{Follows};
 ghost use Rattle.caller_core.specs.Roots.{HasRoots};
 ghost use Rattle.caller_core.specs.Scripts.{commands_of, cost_of_script};
 ghost use Rattle.i2c_base.specs.Limits.{MOST_ROOTS, MOST_CALLERS};
-ghost use Rattle.i2c_top.specs.Cores.{MayRun, IsAsOne, IsCoreOf, IsLeftOf};
-ghost use Rattle.i2c_top.specs.Runs.{AreOpened, texts_of, cost_of_texts, MOST_COST};
+ghost use Rattle.i2c_top.specs.Cores.{AreFresh, MayRun, IsAsOne, IsCoreOf, IsLeftOf};
+ghost use Rattle.i2c_top.specs.Runs.{AreOpened, texts_of, cost_of_texts, MOST_COST, IsOfGroups, script_row};
 
-use crate::cost::cost_of;
 use crate::counted_port::CountedPort;
 use arrayvec::ArrayVec;
 use bus_core::{BusCore, Parts};
 use bus_groups::{Ran, run_groups};
 use bus_journal::Journal;
 use caller_core::{Script, scripts_are_fair};
-use i2c_base::{NoMemory, SegId};
+use i2c_base::{Caller, NoMemory, SegId};
 use i2c_board::Accepted;
 use i2c_outside::Gate;
 use ports::Port;
@@ -42,56 +42,56 @@ fn by_root<P: Port>(
     Ok(by_root)
 }
 
-// Each script with the number of its caller.
-fn by_number(alloc: Global, scripts: Vec<Script>) -> Result<Vec<(u8, Script)>, NoMemory>
-    requires { length scripts.items ≤ MOST_CALLERS }
-    ensures { IfOk result (λ xs. xs.items ≡ enumerate_from 0 scripts.items) }
+// Each caller with its number.
+fn by_number<C: Caller>(alloc: Global, callers: Vec<C>) -> Result<Vec<(u8, C)>, NoMemory>
+    requires { length callers.items ≤ MOST_CALLERS }
+    ensures { IfOk result (λ xs. xs.items ≡ enumerate_from 0 callers.items) }
 {
-    let mut by_number = Vec::with_capacity(alloc, scripts.len())?;
-    for script in scripts {
+    let mut by_number = Vec::with_capacity(alloc, callers.len())?;
+    for caller in callers {
         let number = by_number.len() as u8;
-        by_number.push_reserved((number, script));
+        by_number.push_reserved((number, caller));
     }
     Ok(by_number)
 }
 
-/// A core of the scripts, each by its number, and of the ports of all roots by theirs, which has made no step.
-pub fn opened<'b, P: Port>(
+/// A core of the callers, each by its number, and of the ports of all roots by theirs, which has made no step.
+pub fn opened<'b, P: Port, C: Caller>(
     alloc: Global,
     board: &'b Accepted,
-    scripts: Vec<Script>,
+    callers: Vec<C>,
+    limit: u32,
     ports: Vec<(SegId, P)>,
-) -> Result<BusCore<'b, P, Script>, NoMemory>
-    requires may { MayRun P.Port board.now scripts.items (map (λ p. p.1) ports.items) }
+) -> Result<BusCore<'b, P, C>, NoMemory>
+    requires may { MayRun P.Port C.Caller board.now callers.items (map (λ p. p.1) ports.items) limit }
     requires numbered { ports.items ≡ enumerate_from 0 (map (λ p. p.1) ports.items) }
-    ensures of { IfOk result (IsCoreOf board.now scripts.items (map (λ p. p.1) ports.items)) }
+    ensures of { IfOk result (IsCoreOf C.Caller board.now callers.items (map (λ p. p.1) ports.items)) }
     ensures entries { IfOk result (λ core. core.journal.entries ≡ []) }
 {
-    scripts_are_fair();
     board.board().roots();
-    let limit = cost_of(board, scripts.as_slice()) as u32;
-    let callers = by_number(alloc, scripts)?;
+    let callers = by_number(alloc, callers)?;
     BusCore::open(alloc, board, ports, callers, limit)
 }
 
 // The same over ports that account for their faults from here on.
-fn opened_counting<'b, P: Port>(
+fn opened_counting<'b, P: Port, C: Caller>(
     alloc: Global,
     board: &'b Accepted,
-    scripts: Vec<Script>,
+    callers: Vec<C>,
+    limit: u32,
     ports: Vec<P>,
-) -> Result<BusCore<'b, CountedPort<P>, Script>, NoMemory>
-    requires may { MayRun P.Port board.now scripts.items ports.items }
-    ensures of { IfOk result (IsCoreOf board.now scripts.items ports.items) }
+) -> Result<BusCore<'b, CountedPort<P>, C>, NoMemory>
+    requires may { MayRun P.Port C.Caller board.now callers.items ports.items limit }
+    ensures of { IfOk result (IsCoreOf C.Caller board.now callers.items ports.items) }
     ensures entries { IfOk result (λ core. core.journal.entries ≡ []) }
 {
     let roots = board.board().roots().len();
     let ports = by_root(alloc, ports, roots)?;
-    opened(alloc, board, scripts, ports)
+    opened(alloc, board, callers, limit, ports)
 }
 
 // What is left of one core, with its journal in a list that has room for it.
-fn of_one<P: Drop>(parts: Parts<P, Script>, room: Vec<Journal>) -> Ran<P, Script>
+fn of_one<P: Drop, C: Drop>(parts: Parts<P, C>, room: Vec<Journal>) -> Ran<P, C>
     requires empty { room.items ≡ [] }
     requires room { 1 ≤ vec_capacity room }
     ensures { IsAsOne parts result }
@@ -110,38 +110,42 @@ fn of_one<P: Drop>(parts: Parts<P, Script>, room: Vec<Journal>) -> Ran<P, Script
     }
 }
 
-/// What is left of a core of the scripts over the ports when its callers have followed the schedule, and each script is used
-/// up.
-pub fn followed<P: Port>(
+/// What is left of a core of the callers over the ports when they have followed the schedule, and each is through. They have at
+/// most so many steps left.
+pub fn followed<P: Port, C: Caller>(
     alloc: Global,
     board: &Accepted,
-    scripts: Vec<Script>,
+    callers: Vec<C>,
+    limit: u32,
     words: &[u8],
     ports: Vec<P>,
-) -> Result<Parts<CountedPort<P>, Script>, NoMemory>
-    requires may { MayRun P.Port board.now scripts.items ports.items }
-    requires named { All (λ c. c < length scripts.items) words.now }
-    ensures { IfOk result (IsLeftOf P.Port board.now scripts.items ports.items (Some words.now)) }
+) -> Result<Parts<CountedPort<P>, C>, NoMemory>
+    requires may { MayRun P.Port C.Caller board.now callers.items ports.items limit }
+    requires named { All (λ c. c < length callers.items) words.now }
+    ensures left { IfOk result (IsLeftOf P.Port C.Caller board.now callers.items ports.items) }
+    ensures follows { IsTrue P.tells → IfOk result (λ x. Follows words.now x.journal.entries) }
 {
-    let mut core = opened_counting(alloc, board, scripts, ports)?;
+    let mut core = opened_counting(alloc, board, callers, limit, ports)?;
     core.follow(words);
     Ok(core.take_apart())
 }
 
 /// The same, as what is left of cores.
-pub fn finished<P: Port>(
+pub fn finished<P: Port, C: Caller>(
     alloc: Global,
     board: &Accepted,
-    scripts: Vec<Script>,
+    callers: Vec<C>,
+    limit: u32,
     words: &[u8],
     ports: Vec<P>,
-) -> Result<Ran<CountedPort<P>, Script>, NoMemory>
-    requires may { MayRun P.Port board.now scripts.items ports.items }
-    requires named { All (λ c. c < length scripts.items) words.now }
-    ensures { IfOk result (λ x. IsLeftOf P.Port board.now scripts.items ports.items (Some words.now) (one_of x)) }
+) -> Result<Ran<CountedPort<P>, C>, NoMemory>
+    requires may { MayRun P.Port C.Caller board.now callers.items ports.items limit }
+    requires named { All (λ c. c < length callers.items) words.now }
+    ensures left { IfOk result (λ x. IsLeftOf P.Port C.Caller board.now callers.items ports.items (one_of x)) }
+    ensures follows { IsTrue P.tells → IfOk result (λ x. Follows words.now (one_of x).journal.entries) }
 {
     let room = Vec::with_capacity(alloc, 1)?;
-    let parts = followed(alloc, board, scripts, words, ports)?;
+    let parts = followed(alloc, board, callers, limit, words, ports)?;
     Ok(of_one(parts, room))
 }
 
@@ -181,8 +185,12 @@ pub fn ran<P: Port, G: Gate + Sync, H: Threads + Wait + Sync>(
     gate: &G,
     ports: Vec<P>,
 ) -> Result<Ran<CountedPort<P>, Script>, NoMemory>
-    requires may { MayRun P.Port board.now scripts.items ports.items }
-    ensures { IfOk result (λ x. IsLeftOf P.Port board.now scripts.items ports.items None (one_of x)) }
+    requires opened { AreOpened board.now scripts.items }
+    requires few { length scripts.items ≤ MOST_CALLERS }
+    requires cheap { cost_of_texts board.now (texts_of scripts.items) ≤ MOST_COST }
+    requires fresh { AreFresh P.Port board.now ports.items }
+    ensures left { IfOk result (λ x. IsLeftOf P.Port script_row board.now scripts.items ports.items (one_of x)) }
+    ensures groups { IsTrue P.tells → IfOk result (λ x. IsOfGroups board.now (texts_of scripts.items) (one_of x).journal.entries) }
 {
     scripts_are_fair();
     let roots = board.board().roots().len();

@@ -14,6 +14,7 @@ ghost use Rattle.i2c_top.specs.Checked.{HasBeenChecked, checked_on};
 ghost use Rattle.i2c_top.specs.Runs.{AreOpened, asks_by, texts_of, section_of, cost_of_texts, MOST_COST};
 
 use crate::callers::opened;
+use crate::cost::limit_of;
 use bus_core::{Parts, Seat};
 use bus_journal::Journal;
 use caller_core::{Script, no_section_has_a_journal_line, scripts_are_fair};
@@ -56,7 +57,8 @@ fn followed<N: Telling + Send>(
     let Ok(ports) = told_ports::<N>(alloc, board, lines, gaps) else {
         return Err(CheckFault::Memory);
     };
-    let Ok(core) = opened(alloc, board, scripts, ports) else {
+    let limit = limit_of(board, scripts.as_slice());
+    let Ok(core) = opened(alloc, board, scripts, limit, ports) else {
         return Err(CheckFault::Memory);
     };
     match check_entries(core, lines, count) {

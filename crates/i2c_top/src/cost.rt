@@ -24,6 +24,16 @@ pub fn cost_of(board: &Accepted, scripts: &[Script]) -> u64
     cost
 }
 
+/// What scripts that don't cost too much cost, as the limit of their steps.
+pub fn limit_of(board: &Accepted, scripts: &[Script]) -> u32
+    requires opened { AreOpened board.now scripts.now }
+    requires few { length scripts.now ≤ MOST_CALLERS }
+    requires cheap { cost_of_texts board.now (texts_of scripts.now) ≤ MOST_COST }
+    ensures { result ≡ cost_of_texts board.now (texts_of scripts.now) }
+{
+    cost_of(board, scripts) as u32
+}
+
 /// They don't cost too much.
 pub fn check_cost(board: &Accepted, scripts: &[Script]) -> Result<(), Status>
     requires opened { AreOpened board.now scripts.now }

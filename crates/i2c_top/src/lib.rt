@@ -10,8 +10,9 @@
 //! `specs/Form.antt` (what a row is), `specs/forms.antt` (the forms and their words), `specs/forms` (a file for each: the causes
 //! of its statuses and its answer), `specs/Endings.antt` (how a call of any form ends: the text that is due, and what came of
 //! its writing), `specs/Boards.antt` (why a board is refused), `specs/Scripts.antt` and `specs/Schedules.antt` (scripts and the
-//! words of a schedule), `specs/Traces.antt` (what is done to the rig), `specs/Runs.antt` (a run, its cost and its report),
-//! `specs/Faults.antt` (what the ports counted of their failed calls).
+//! words of a schedule), `specs/Traces.antt` (what is done to the rig), `specs/Callers.antt` (a run of callers of any type),
+//! `specs/Runs.antt` (a run of scripts, its cost and its report), `specs/Faults.antt` (what the ports counted of their failed
+//! calls).
 #![tactic(auto)]
 
 mod callers;

@@ -1,28 +1,32 @@
-//! Scripts over the ports of a rig, which is plugged before them and unplugged after.
-ghost use Rattle.std.specs.Prelude.{◌≡◌, ◌<◌, ◌≤◌, ◌⊎◌, ℕ, List, [], false, true, Option, None, Some, Err, IfOk, OnOk, IfErr, OnErr, IsTrue, All, length, map, flat_map, vec_capacity};
+//! Callers over the ports of a rig, which is plugged before them and unplugged after.
+ghost use Rattle.std.specs.Prelude.{◌≡◌, ◌<◌, ◌≤◌, ◌⊎◌, ℕ, List, [], false, true, None, Some, Err, IfOk, OnOk, IfErr, OnErr, IsTrue, All, length, map, flat_map, vec_capacity};
 ghost use Rattle.i2c_base.specs.Limits.{MOST_CALLERS};
+ghost use Rattle.i2c_spec.specs.Fair.{IsFairCaller};
 ghost use Rattle.ports.specs.Causes.{Rose, counted};
-ghost use Rattle.bus_core.specs.declared.bus.Parts.{Parts};
 ghost use Rattle.bus_groups.specs.Rounds.{one_of};
 ghost use Rattle.bus_journal.specs.Ranges.{IsEntry};
+ghost use Rattle.bus_spec.specs.Schedule.{Follows};
 ghost use Rattle.caller_core.specs.View.{CallerView};
-ghost use Rattle.i2c_top.specs.Cores.{AreFresh, IsLeftOf};
+ghost use Rattle.i2c_top.specs.Callers.{AreReady, left_in, scripts_in, asks_in, printed_in, HasRunBy, HasRunOfAny};
+ghost use Rattle.i2c_top.specs.Cores.{AreFresh, AreGivenBack, HaveJournal, IsLeftOf};
 ghost use Rattle.i2c_top.specs.Faults.{AccountsForFaults};
 ghost use Rattle.i2c_top.specs.Traces.{IsAtMostOnce};
-ghost use Rattle.i2c_top.specs.Runs.{AreOpened, texts_of, callers_of, cost_of_texts, MOST_COST, HasRun, HasRunTold, IsRunOf};
+ghost use Rattle.i2c_top.specs.Runs.{AreOpened, texts_of, cost_of_texts, MOST_COST, HasRun, HasRunTold, script_row};
 ghost use Rattle.i2c_top.specs.forms.Generations.{summary_of};
 ghost use Rattle.i2c_top.specs.declared.status.Status.TheVariants as status;
 
 use crate::Status;
 use crate::callers::{finished, followed, ran};
+use crate::cost::limit_of;
 use crate::counted_port::CountedPort;
+use crate::printer::Printer;
 use crate::report::report_of_callers;
 use crate::summary::summary_of;
 use crate::text::Text;
 use bus_core::Parts;
 use bus_groups::Ran;
 use bus_journal::Journal;
-use caller_core::Script;
+use caller_core::{Script, scripts_are_fair};
 use i2c_base::{NoMemory, SegId};
 use i2c_board::Accepted;
 use i2c_gen::Plan;
@@ -90,9 +94,7 @@ fn given_back<R: Rig>(ports: Vec<(SegId, CountedPort<R::P>)>, room: Vec<R::P>, r
     requires plugged { R.plugged rig.old ≡ true }
     requires empty { room.items ≡ [] }
     requires room { length ports.items ≤ vec_capacity room }
-    ensures run { IsTrue R.tells → IsTrue R.P.tells → (scripts : List CallerView) (fresh : List _) (words : Option (List ℕ)) (parts : Parts _ CallerView)
-        → parts.ports.items ≡ ports.items → IsLeftOf R.P.Port (R.board_of rig.old) scripts fresh words parts → All IsEntry parts.journal.entries
-        → IsRunOf (R.board_of rig.old) (texts_of (callers_of parts)) (R.logs rig.new) (R.states rig.new) (R.port_faults rig.new) parts.journal.entries }
+    ensures given { IsTrue R.tells → IsTrue R.P.tells → AreGivenBack (R.board_of rig.old) (map (λ p. R.P.world p.1) ports.items) (map (λ p. R.P.log p.1) ports.items) (R.logs rig.new) (R.states rig.new) (R.port_faults rig.new) }
     ensures later { R.faults rig.old ≤ R.faults rig.new }
     ensures plugs { R.plugs rig.new ≡ R.plugs rig.old }
     ensures unplugs { R.unplugs rig.new ≡ counted (R.unplugs rig.old) }
@@ -102,17 +104,18 @@ fn given_back<R: Rig>(ports: Vec<(SegId, CountedPort<R::P>)>, room: Vec<R::P>, r
 }
 
 // Gives the ports that are left of a run back to their rig, and makes the report.
-fn reported<R: Rig>(
+fn reported<C: Printer, R: Rig>(
     alloc: Global,
-    ran: Result<Ran<CountedPort<R::P>, Script>, NoMemory>,
+    ran: Result<Ran<CountedPort<R::P>, C>, NoMemory>,
     room: Vec<R::P>,
     rig: &mut R,
 ) -> Result<Text, Status>
     requires plugged { R.plugged rig.old ≡ true }
     requires empty { room.items ≡ [] }
     requires room { IfOk ran (λ x. length x.ports.items ≤ vec_capacity room) }
-    ensures run { IsTrue R.tells → IsTrue R.P.tells → (scripts : List CallerView) (ports : List _) (words : Option (List ℕ)) → IfOk ran (λ x. IsLeftOf R.P.Port (R.board_of rig.old) scripts ports words (one_of x))
-        → IfOk result (λ text. HasRun (R.board_of rig.old) (texts_of scripts) words text (R.logs rig.new) (R.states rig.new) (R.port_faults rig.new)) }
+    requires fair { IsFairCaller C.asked C.left C.board }
+    ensures run { IsTrue R.tells → IsTrue R.P.tells → (callers : List C) (ports : List _) → IfOk ran (λ x. IsLeftOf R.P.Port C.Caller (R.board_of rig.old) callers ports (one_of x))
+        → IfOk result (λ text. HasRunBy (R.board_of rig.old) (length (scripts_in C.Caller callers)) (asks_in C.asked (scripts_in C.Caller callers)) (printed_in C.printed (scripts_in C.Caller callers)) (HaveJournal ran) text (R.logs rig.new) (R.states rig.new) (R.port_faults rig.new)) }
     ensures failed { IfErr result (λ e. e ≡ status.Memory) }
     ensures later { R.faults rig.old ≤ R.faults rig.new }
     ensures plugs { R.plugs rig.new ≡ R.plugs rig.old }
@@ -144,8 +147,9 @@ fn summed<R: Rig>(
     requires plugged { R.plugged rig.old ≡ true }
     requires empty { room.items ≡ [] }
     requires room { IfOk ran (λ x. length x.ports.items ≤ vec_capacity room) }
-    ensures run { IsTrue R.tells → IsTrue R.P.tells → (scripts : List CallerView) (ports : List _) (words : Option (List ℕ)) → IfOk ran (IsLeftOf R.P.Port (R.board_of rig.old) scripts ports words)
-        → IfOk result (λ text. HasRunTold (summary_of plan.now) (R.board_of rig.old) (texts_of scripts) words text (R.logs rig.new) (R.states rig.new) (R.port_faults rig.new)) }
+    ensures run { IsTrue R.tells → IsTrue R.P.tells → (scripts : List CallerView) (ports : List _) (words : List ℕ) → AreOpened (R.board_of rig.old) scripts
+        → IfOk ran (IsLeftOf R.P.Port script_row (R.board_of rig.old) scripts ports) → IfOk ran (λ x. Follows words x.journal.entries)
+        → IfOk result (λ text. HasRunTold (summary_of plan.now) (R.board_of rig.old) (texts_of scripts) (Some words) text (R.logs rig.new) (R.states rig.new) (R.port_faults rig.new)) }
     ensures failed { IfErr result (λ e. e ≡ status.Memory) }
     ensures later { R.faults rig.old ≤ R.faults rig.new }
     ensures plugs { R.plugs rig.new ≡ R.plugs rig.old }
@@ -166,9 +170,39 @@ fn summed<R: Rig>(
     Ok(Text::whole(alloc, summary_of(alloc, plan, &journal)?))
 }
 
-/// Runs scripts over the ports of a rig, by a schedule that names the callers that are to step, and gives the report. A rig that
-/// was plugged is unplugged, whatever came of it. It answers `Rig` where the rig counted a fault in its one plug, and else fails
-/// only for want of memory.
+/// Runs callers over the ports of a rig, by a schedule that names those that are to step, and gives the report. They have at most so
+/// many steps left. A rig that was plugged is unplugged, whatever came of it. It answers `Rig` where the rig counted a fault in its
+/// one plug, and else fails only for want of memory.
+pub fn run_callers<C: Printer, R: Rig>(
+    alloc: Global,
+    board: &Accepted,
+    callers: Vec<C>,
+    limit: u32,
+    words: &[u8],
+    rig: &mut R,
+) -> Result<Text, Status>
+    requires ready { AreReady C.Caller board.now callers.items }
+    requires fair { IsFairCaller C.asked C.left C.board }
+    requires few { length callers.items ≤ MOST_CALLERS }
+    requires named { All (λ c. c < length callers.items) words.now }
+    requires covered { left_in C.Caller callers.items ≤ limit }
+    requires cheap { limit ≤ MOST_COST }
+    ensures run { IsTrue R.tells → IsTrue R.P.tells → IfOk result (λ text. HasRunOfAny C.asked C.printed board.now (scripts_in C.Caller callers.items) words.now text (R.logs rig.new) (R.states rig.new) (R.port_faults rig.new)) }
+    ensures failed { IfErr result (λ e. (e ≡ status.Rig) ⊎ (e ≡ status.Memory)) }
+    ensures rig { result ≡ Err status.Rig → Rose (R.faults rig.old) (R.faults rig.new) }
+    ensures later { R.faults rig.old ≤ R.faults rig.new }
+    ensures plugs { R.plugs rig.new ≡ counted (R.plugs rig.old) }
+    ensures unplugs { OnOk result (R.unplugs rig.new ≡ counted (R.unplugs rig.old)) }
+    ensures none { result ≡ Err status.Rig → R.unplugs rig.new ≡ R.unplugs rig.old }
+    ensures once { IsAtMostOnce (R.unplugs rig.old) (R.unplugs rig.new) }
+    ensures unplugged { R.plugged rig.new ≡ false }
+{
+    let (ports, room) = plugged(alloc, board, rig)?;
+    let ran = finished(alloc, board, callers, limit, words, ports);
+    reported(alloc, ran, room, rig)
+}
+
+/// The same of scripts, with what they cost as the limit. The report is that of their texts.
 pub fn run_scripts<R: Rig>(
     alloc: Global,
     board: &Accepted,
@@ -190,12 +224,12 @@ pub fn run_scripts<R: Rig>(
     ensures once { IsAtMostOnce (R.unplugs rig.old) (R.unplugs rig.new) }
     ensures unplugged { R.plugged rig.new ≡ false }
 {
-    let (ports, room) = plugged(alloc, board, rig)?;
-    let ran = finished(alloc, board, scripts, words, ports);
-    reported(alloc, ran, room, rig)
+    scripts_are_fair();
+    let limit = limit_of(board, scripts.as_slice());
+    run_callers(alloc, board, scripts, limit, words, rig)
 }
 
-/// The same without a schedule, each script on a thread of its own.
+/// Runs scripts likewise, but without a schedule, each on a thread of its own.
 pub fn run_at_once<H: Threads + Wait + Sync, R: Rig, G: Gate + Sync>(
     rt: &H,
     alloc: Global,
@@ -217,6 +251,7 @@ pub fn run_at_once<H: Threads + Wait + Sync, R: Rig, G: Gate + Sync>(
     ensures once { IsAtMostOnce (R.unplugs rig.old) (R.unplugs rig.new) }
     ensures unplugged { R.plugged rig.new ≡ false }
 {
+    scripts_are_fair();
     let (ports, room) = plugged(alloc, board, rig)?;
     let ran = ran(rt, alloc, board, scripts, gate, ports);
     reported(alloc, ran, room, rig)
@@ -245,7 +280,9 @@ pub fn run_generated<R: Rig>(
     ensures once { IsAtMostOnce (R.unplugs rig.old) (R.unplugs rig.new) }
     ensures unplugged { R.plugged rig.new ≡ false }
 {
+    scripts_are_fair();
+    let limit = limit_of(board, scripts.as_slice());
     let (ports, room) = plugged(alloc, board, rig)?;
-    let ran = followed(alloc, board, scripts, words, ports);
+    let ran = followed(alloc, board, scripts, limit, words, ports);
     summed(alloc, ran, plan, room, rig)
 }

@@ -1,8 +1,14 @@
-use Rattle.std.proofs.Common.{Some}
+use Rattle.std.proofs.Common.{List, sym, subst}
+use Rattle.i2c_base.specs.declared.entry.Entry.{Entry}
+use Rattle.bus_spec.specs.Schedule.{Follows}
 use Rattle.i2c_top.proofs.CoreLemmas.{as-one}
 use Rattle.i2c_top.proofs.callers.finished.Goals as goal
 
-pub returns : goal.returns
-returns g c =
-    as-one g.P.Port c.args.board.now c.args.scripts.items c.args.ports.items (Some c.args.words.now) c.in_ok-parts.parts c.of_one.result
-    c.in_ok-parts.ensures c.of_one.ensures
+pub returns-clause-left : goal.returns-clause-left
+returns-clause-left g c =
+    as-one g.P.Port g.C.Caller c.args.board.now c.args.callers.items c.args.ports.items c.in_ok-parts.parts c.of_one.result
+    c.in_ok-parts.ensures.left c.of_one.ensures
+
+pub returns-clause-follows : goal.returns-clause-follows
+returns-clause-follows g c tells =
+    subst (λ (es : List Entry). Follows c.args.words.now es) (sym c.of_one.ensures.entries) (c.in_ok-parts.ensures.follows tells)

@@ -17,7 +17,7 @@ by_root-requires-clause-few g c κs within =
 
 pub opened-requires-clause-may : goal.opened-requires-clause-may
 opened-requires-clause-may g c κs within =
-    subst (λ (ps : List g.row.P.Denot). MayRun g.P.Port c.args.board.now c.args.scripts.items ps)
+    subst (λ (ps : List g.row.P.Denot). MayRun g.P.Port g.C.Caller c.args.board.now c.args.callers.items ps c.args.limit)
     (sym (ap (map (λ (p : ℕ × g.row.P.Denot). p.1)) c.in_ok-ports.ensures ∙ firsts 0 c.args.ports.items)) c.requires.may
 
 pub opened-requires-clause-numbered : goal.opened-requires-clause-numbered
@@ -27,5 +27,5 @@ opened-requires-clause-numbered g c κs within =
 
 pub returns-clause-of : goal.returns-clause-of
 returns-clause-of g c =
-    subst (λ (ps : List g.row.P.Denot). IfOk c.opened.result (IsCoreOf c.args.board.now c.args.scripts.items ps))
+    subst (λ (ps : List g.row.P.Denot). IfOk c.opened.result (IsCoreOf g.C.Caller c.args.board.now c.args.callers.items ps))
     (ap (map (λ (p : ℕ × g.row.P.Denot). p.1)) c.in_ok-ports.ensures ∙ firsts 0 c.args.ports.items) c.opened.ensures.of

@@ -7,8 +7,8 @@ use Rattle.i2c_base.specs.Board.{BoardView}
 use Rattle.i2c_spec.specs.Plain.{IsPlainBoard}
 use Rattle.bus_groups.specs.Rounds.{HaveRun, MayRun}
 use Rattle.caller_core.specs.View.{CallerView}
-use Rattle.i2c_top.proofs.CoreLemmas.{script_row}
-use Rattle.i2c_top.proofs.GroupLemmas.{AreMasks, costs_in, may-run, ran-left}
+use Rattle.i2c_top.specs.Runs.{script_row}
+use Rattle.i2c_top.proofs.GroupLemmas.{AreMasks, costs_in, may-run, ran-left, ran-groups}
 use Rattle.i2c_top.proofs.callers.ran.Goals as goal
 
 -- a script may go to another thread; each type that it is made of takes a lemma
@@ -32,8 +32,8 @@ run_groups-requires-after_bounds g c κs within =
     let has : AreMasks scripts masks = subst (λ (ss : List CallerView). AreMasks ss masks) c.as_slice.ensures.value c.masks_of-masks.ensures in
     let costs : c.as_slice-4.result.now ≡ costs_in scripts =
     c.as_slice-4.ensures.value ∙ c.costs_of-costs.ensures ∙ ap costs_in c.as_slice-2.ensures.value in
-    let may = may-run g.P.Port b plain scripts c.requires.may.opened c.requires.may.few c.requires.may.cheap c.args.ports.items
-    c.requires.may.fresh c.scripts_are_fair.ensures masks has in
+    let may = may-run g.P.Port b plain scripts c.requires.opened c.requires.few c.requires.cheap c.args.ports.items
+    c.requires.fresh c.scripts_are_fair.ensures masks has in
     subst (λ (ms : List ℕ). MayRun g.P.Port script_row b ms c.as_slice-4.result.now c.in_ok-ports.ports.items c.in_ok-callers.callers.items)
     (sym c.as_slice-3.ensures.value)
     (subst (λ (ks : List ℕ). MayRun g.P.Port script_row b masks ks c.in_ok-ports.ports.items c.in_ok-callers.callers.items) (sym costs)
@@ -42,14 +42,23 @@ run_groups-requires-after_bounds g c κs within =
     (subst (λ (cs : List (ℕ × CallerView)). MayRun g.P.Port script_row b masks (costs_in scripts) (enumerate_from 0 c.args.ports.items) cs)
     (sym c.in_ok-callers.ensures) may)))
 
-pub returns : goal.returns
-returns g c =
+pub returns-clause-left : goal.returns-clause-left
+returns-clause-left g c =
     let b = c.args.board.now in
     let plain : IsPlainBoard b = subst IsPlainBoard c.board.ensures.value c.roots-roots.ensures.plain in
+    ran-left g.P.Port b plain c.board.ensures.rules c.args.scripts.items c.args.ports.items c.requires.fresh.count
+    c.in_ok-ports.ports.items c.in_ok-callers.callers.items c.in_ok-ports.ensures c.in_ok-callers.ensures c.masks_of-masks.result.items
+    c.run_groups.result
+    (subst (λ (ms : List ℕ). IfOk c.run_groups.result (HaveRun g.P.Port script_row b ms c.in_ok-ports.ports.items c.in_ok-callers.callers.items))
+    c.as_slice-3.ensures.value c.run_groups.ensures)
+
+pub returns-clause-groups : goal.returns-clause-groups
+returns-clause-groups g c tells =
+    let b = c.args.board.now in
     let masks = c.masks_of-masks.result.items in
     let has : AreMasks c.args.scripts.items masks =
     subst (λ (ss : List CallerView). AreMasks ss masks) c.as_slice.ensures.value c.masks_of-masks.ensures in
-    ran-left g.P.Port b plain c.board.ensures.rules c.args.scripts.items c.requires.may.opened c.args.ports.items c.requires.may.fresh.count
-    c.in_ok-ports.ports.items c.in_ok-callers.callers.items c.in_ok-ports.ensures c.in_ok-callers.ensures masks has c.run_groups.result
+    ran-groups g.P.Port b c.args.scripts.items c.requires.opened c.in_ok-ports.ports.items c.in_ok-callers.callers.items masks has tells
+    c.run_groups.result
     (subst (λ (ms : List ℕ). IfOk c.run_groups.result (HaveRun g.P.Port script_row b ms c.in_ok-ports.ports.items c.in_ok-callers.callers.items))
     c.as_slice-3.ensures.value c.run_groups.ensures)

@@ -1,5 +1,5 @@
 use denote.Param.Send.{sendable}
-use Rattle.std.proofs.Common.{◌≡◌, length, sym, ◌∙◌, ap, subst, inr, arith}
+use Rattle.std.proofs.Common.{◌≡◌, List, length, sym, ◌∙◌, ap, subst, inr, arith}
 use Rattle.std.proofs.Crossing.{crosses}
 use Rattle.i2c_base.specs.Board.{BoardView}
 use Rattle.i2c_spec.specs.Plain.{IsPlainBoard}
@@ -7,7 +7,10 @@ use Rattle.i2c_spec.specs.Rules.{MeetsRules}
 use Rattle.bus_journal.specs.Told.{entries_of}
 use Rattle.journal_check.specs.Gaps.{gaps_by}
 use Rattle.journal_check.proofs.SendLemmas.{told_port-send}
+use Rattle.caller_core.specs.View.{CallerView}
+use Rattle.i2c_top.specs.Runs.{cost_of_texts, texts_of}
 use Rattle.i2c_top.proofs.CheckedLemmas.{been-checked, has-opened, limits-opened, numbered-opened, silent-opened, some-opened, wired-opened, wrong-opened}
+use Rattle.i2c_top.proofs.TextLemmas.{may-run-scripts}
 use Rattle.i2c_top.proofs.check_journal.followed.Goals as goal
 
 pub opened-requires-send-P : goal.opened-requires-send-P
@@ -15,17 +18,16 @@ opened-requires-send-P g c κs within = search (sendable, crosses, told_port-sen
 
 pub opened-requires-clause-may : goal.opened-requires-clause-may
 opened-requires-clause-may g c κs within =
-    record {
-      opened = c.requires.opened;
-      few = c.requires.few;
-      cheap = c.requires.cheap;
-      fresh = record {
-        count = c.in-Ok.ensures.count;
-        idle = c.in-Ok.ensures.idle;
-        empty = λ _. c.in-Ok.ensures.empty;
-        worlds = λ _. c.in-Ok.ensures.worlds;
-      };
-    }
+    let b = c.args.board.now in
+    let cost : c.limit_of-limit.result ≡ cost_of_texts b (texts_of c.args.scripts.items) =
+    c.limit_of-limit.ensures ∙ ap (λ (ss : List CallerView). cost_of_texts b (texts_of ss)) c.as_slice.ensures.value in
+    may-run-scripts _ b c.args.scripts.items c.requires.opened _ c.limit_of-limit.result cost c.scripts_are_fair.ensures c.requires.few c.requires.cheap
+    (record {
+      count = c.in-Ok.ensures.count;
+      idle = c.in-Ok.ensures.idle;
+      empty = λ _. c.in-Ok.ensures.empty;
+      worlds = λ _. c.in-Ok.ensures.worlds;
+    })
 
 pub opened-requires-clause-numbered : goal.opened-requires-clause-numbered
 opened-requires-clause-numbered g c κs within = c.in-Ok.ensures.numbered

@@ -1,10 +1,20 @@
-use Rattle.std.proofs.Common.{◌≡◌, Some, sym, subst}
+use Rattle.std.proofs.Common.{◌≡◌, List, Some, sym, ◌∙◌, ap, subst}
 use Rattle.std.specs.Prelude.{IfOk}
 use Rattle.i2c_base.specs.Board.{BoardView}
+use Rattle.caller_core.specs.View.{CallerView}
 use Rattle.i2c_top.specs.Cores.{IsLeftOf}
-use Rattle.i2c_top.specs.Runs.{texts_of, HasRunTold}
+use Rattle.i2c_top.specs.Runs.{AreOpened, script_row, cost_of_texts, texts_of, HasRunTold}
 use Rattle.i2c_top.specs.forms.Generations.{summary_of}
+use Rattle.i2c_top.proofs.TextLemmas.{may-run-scripts}
 use Rattle.i2c_top.proofs.run.run_generated.Goals as goal
+
+pub followed-ran-requires-clause-may : goal.followed-ran-requires-clause-may
+followed-ran-requires-clause-may g c κs within =
+    let b = c.args.board.now in
+    let cost : c.limit_of-limit.result ≡ cost_of_texts b (texts_of c.args.scripts.items) =
+    c.limit_of-limit.ensures ∙ ap (λ (ss : List CallerView). cost_of_texts b (texts_of ss)) c.as_slice.ensures.value in
+    may-run-scripts g.R.P.Port b c.args.scripts.items c.requires.opened c.in_ok-ports.ports.items c.limit_of-limit.result cost
+    c.scripts_are_fair.ensures c.requires.few c.requires.cheap c.in_ok-ports.ensures.fresh
 
 pub returns-clause-run : goal.returns-clause-run
 returns-clause-run g c =
@@ -16,6 +26,7 @@ returns-clause-run g c =
     (Some c.args.words.now) text
     (g.R.Rig.logs c.summed.new.rig)
     (g.R.Rig.states c.summed.new.rig) (g.R.Rig.port_faults c.summed.new.rig))) same
-    (c.summed.ensures.run tells tell scripts ports (Some c.args.words.now)
-    (subst (λ (b : BoardView). IfOk c.followed-ran.result (IsLeftOf g.R.P.Port b scripts ports (Some c.args.words.now)))
-    (sym same) c.followed-ran.ensures))
+    (c.summed.ensures.run tells tell scripts ports c.args.words.now
+    (subst (λ (b : BoardView). AreOpened b scripts) (sym same) c.requires.opened)
+    (subst (λ (b : BoardView). IfOk c.followed-ran.result (IsLeftOf g.R.P.Port script_row b scripts ports)) (sym same) c.followed-ran.ensures.left)
+    (c.followed-ran.ensures.follows tell))

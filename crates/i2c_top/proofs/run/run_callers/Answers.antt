@@ -1,0 +1,45 @@
+use Rattle.std.proofs.Common.{◌≡◌, length, sym, subst}
+use Rattle.std.specs.Prelude.{IfOk}
+use Rattle.i2c_base.specs.Board.{BoardView}
+use Rattle.bus_groups.specs.Rounds.{one_of}
+use Rattle.bus_spec.specs.Schedule.{Follows}
+use Rattle.i2c_top.specs.Callers.{asks_in, printed_in, scripts_in, HasRunBy, HasRunOfAny}
+use Rattle.i2c_top.specs.Cores.{HaveJournal, IsLeftOf}
+use Rattle.i2c_top.proofs.CoreLemmas.{if-ok, of-journal}
+use Rattle.i2c_top.proofs.run.run_callers.Goals as goal
+
+pub finished-ran-requires-clause-may : goal.finished-ran-requires-clause-may
+finished-ran-requires-clause-may g c κs within =
+    record {
+      ready = c.requires.ready;
+      fair = c.requires.fair;
+      few = c.requires.few;
+      covered = c.requires.covered;
+      cheap = c.requires.cheap;
+      fresh = c.in_ok-ports.ensures.fresh;
+    }
+
+pub returns-clause-run : goal.returns-clause-run
+returns-clause-run g c =
+    λ tells tell.
+    let callers = c.args.callers.items in
+    let ports = c.in_ok-ports.ports.items in
+    let scripts = scripts_in g.C.Caller callers in
+    let ran = c.finished-ran.result in
+    let rig = c.reported.new.rig in
+    let same : g.R.Rig.board_of c.plugged.new.rig ≡ c.args.board.now = c.in_ok-ports.ensures.board.1 in
+    subst (λ (b : BoardView). IfOk c.reported.result (λ text. HasRunOfAny g.C.Caller.asked g.C.Printer.printed b scripts c.args.words.now text
+    (g.R.Rig.logs rig) (g.R.Rig.states rig) (g.R.Rig.port_faults rig))) same
+    (if-ok (λ text. HasRunBy (g.R.Rig.board_of c.plugged.new.rig) (length scripts) (asks_in g.C.Caller.asked scripts)
+    (printed_in g.C.Printer.printed scripts) (HaveJournal ran) text (g.R.Rig.logs rig) (g.R.Rig.states rig) (g.R.Rig.port_faults rig))
+    (λ text. HasRunOfAny g.C.Caller.asked g.C.Printer.printed (g.R.Rig.board_of c.plugged.new.rig) scripts c.args.words.now text
+    (g.R.Rig.logs rig) (g.R.Rig.states rig) (g.R.Rig.port_faults rig))
+    (λ text run. record {
+      journal = run.journal;
+      is_told = run.is_told;
+      is_run = run.is_run;
+      ordered = of-journal (Follows c.args.words.now) ran (c.finished-ran.ensures.follows tell) run.journal run.ordered;
+    })
+    c.reported.result
+    (c.reported.ensures.run tells tell callers ports
+    (subst (λ (b : BoardView). IfOk ran (λ x. IsLeftOf g.R.P.Port g.C.Caller b callers ports (one_of x))) (sym same) c.finished-ran.ensures.left)))
