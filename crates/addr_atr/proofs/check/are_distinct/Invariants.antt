@@ -1,0 +1,6 @@
+use Rattle.std.proofs.Common.{◌≡◌, drop}
+use Rattle.addr_atr.specs.Lowering.{are_distinct}
+use Rattle.addr_atr.proofs.check.are_distinct.Given as goal
+
+abbrev pub invariant-loop-index : goal.invariant-loop-index
+invariant-loop-index l = are_distinct (drop l.index l.pairs) ≡ are_distinct l.fn.pairs

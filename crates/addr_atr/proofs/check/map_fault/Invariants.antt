@@ -1,0 +1,7 @@
+use Rattle.std.proofs.Common.{◌≡◌, [], take, drop}
+use Rattle.addr_atr.specs.Lowering.{fault_after}
+use Rattle.addr_atr.proofs.check.map_fault.Given as goal
+
+abbrev pub invariant-loop-index : goal.invariant-loop-index
+invariant-loop-index l =
+    fault_after l.board (take l.index l.translators) (drop l.index l.translators) ≡ fault_after l.fn.board [] l.fn.translators

@@ -1,0 +1,6 @@
+use Rattle.std.proofs.Common.{vec_capacity, vec_len}
+use Rattle.i2c_base.proofs.ListLemmas.{AreMade}
+use Rattle.addr_atr.proofs.lower.copy_runs.Given as goal
+
+abbrev pub invariant-loop-run : goal.invariant-loop-run
+invariant-loop-run l = AreMade (λ r. r) l.runs l.run-index l.copy.items (vec_len l.copy) (vec_capacity l.copy)

@@ -1,0 +1,22 @@
+use Rattle.std.proofs.Common.{◌∙◌, ap, map, arith}
+use Rattle.std.proofs.lemmas.List.{take_all}
+use Rattle.toml.specs.View.{view}
+use Rattle.i2c_base.proofs.ListLemmas.{one-made}
+use Rattle.addr_atr.specs.MapTexts.{pair_value}
+use Rattle.i2c_boardtext.proofs.DataLemmas.{mapped}
+use Rattle.addr_atr.proofs.text.pairs_of.Goals as goal
+
+pub push_reserved-requires : goal.push_reserved-requires
+push_reserved-requires c = omega (arith, c.loop-value.invariant.count, c.loop-value.invariant.room, c.loop-value-test.true)
+
+pub loop-value-preserved : goal.loop-value-preserved
+loop-value-preserved c =
+    one-made _ _ _ _ _ _ c.loop-value.invariant c.loop-value-test.true _ c.value-item.is _ c.pair.ensures _ _ _
+    c.push_reserved.ensures.items c.push_reserved.ensures.len c.push_reserved.ensures.capacity
+
+pub returns : goal.returns
+returns c =
+    let values = c.args.values.now in
+    c.loop-value.invariant.made ∙ ap (map (λ v. pair_value (view v)))
+    (take_all c.loop-value.value-index values (omega (arith, c.loop-value-test.false)))
+    ∙ mapped pair_value values

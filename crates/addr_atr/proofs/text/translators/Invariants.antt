@@ -1,0 +1,9 @@
+use Rattle.std.proofs.Common.{vec_capacity, vec_len}
+use Rattle.i2c_base.proofs.ListLemmas.{AreMade}
+use Rattle.addr_atr.specs.MapTexts.{translator_value}
+use Rattle.i2c_boardtext.specs.Rows.{row_of}
+use Rattle.addr_atr.proofs.text.translators.Given as goal
+
+abbrev pub invariant-loop-value : goal.invariant-loop-value
+invariant-loop-value l =
+    AreMade (λ v. translator_value (row_of v)) l.rows l.value-index l.translators.items (vec_len l.translators) (vec_capacity l.translators)
