@@ -5,3 +5,4 @@ pub mod Kept
 pub mod Callers
 pub mod MapTexts
 pub mod Runs
+pub mod Examples

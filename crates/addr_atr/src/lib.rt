@@ -16,6 +16,7 @@
 
 mod caller;
 mod check;
+mod examples;
 mod fault;
 mod laws;
 mod lower;
@@ -23,6 +24,12 @@ mod map;
 mod text;
 
 pub use caller::{AtrCaller, AtrData, scripts_behind_translators_are_fair};
+pub use examples::{
+    a_device_behind_stands_at_its_alias, a_mux_is_one_of_the_board, a_pair_is_two_addresses,
+    a_table_has_two_keys, a_transfer_goes_to_the_aliases, any_other_transfer_stays,
+    one_alias_for_two_clashes, the_mux_of_a_translator_is_single,
+    the_pairs_are_of_the_devices_behind, the_top_is_an_array_of_tables,
+};
 pub use fault::MapFault;
 pub use laws::{
     a_history_behind_translators_is_the_same, a_lowered_board_opens_the_same,
