@@ -1,5 +1,5 @@
--- A translated transfer has the same messages at other addresses, so it keeps the limits and what replies fit; and it has one hop less
--- before it, so it costs no more.
+-- A translated transfer has the same messages at other addresses, so it keeps the limits and what replies fit; it stays on its root, and
+-- has one hop less before it, so it costs no more.
 use Rattle.std.proofs.Common.{◌≡◌, ℕ, suc, ◌+◌, ◌*◌, ◌<◌, ◌≤◌, Bool, true, false, cond, ◌||◌, List, [], ◌∷◌, Option, Some, None, refl, sym, ◌∙◌, ap, arith, length, map, drop}
 use Rattle.std.specs.Prelude.{MatchBool}
 use Rattle.std.specs.List.{list_any}
@@ -16,11 +16,11 @@ use Rattle.i2c_base.specs.Alias.{alias_of, readdressed, redirected}
 use Rattle.i2c_base.proofs.AliasLemmas.{readdressed-sum, redirected-limits}
 use Rattle.i2c_spec.specs.Cost.{behind_by, behind_cost, inner_cost, full_cost, bytes_of, steps_of, cost_of}
 use Rattle.i2c_spec.specs.Flat.{block_limit}
-use Rattle.i2c_spec.specs.Tree.{Hop, hops, buses, locks_of}
+use Rattle.i2c_spec.specs.Tree.{Hop, hops, buses, locks_of, root_of}
 use Rattle.i2c_spec.specs.TreeFacts.{IsTree}
 use Rattle.addr_atr.specs.Maps.{TranslatorView, Route, route_of}
 use Rattle.addr_atr.specs.Lowering.{lowered, sent_by, translated}
-use Rattle.addr_atr.proofs.RouteLemmas.{IsRoute, route-is}
+use Rattle.addr_atr.proofs.RouteLemmas.{IsRoute, route-is, route-root}
 
 -- what doesn't look at an address is the same
 pub readdressed-reads : (f : ℕ → ℕ) (ms : List Msg) → list_any is_read (map (readdressed f) ms) ≡ list_any is_read ms
@@ -64,6 +64,15 @@ translated-fits b ts t r = by (route_of b ts t.bus)
     by : (o : Option Route) → Fits (sent_by o t) r → Fits t r
     by None h = h
     by (Some route) h = redirected-fits t route.bus (alias_of route.pairs) r h
+
+-- a transfer stays on its root
+pub translated-root : (b : BoardView) → IsTree b → (ts : List TranslatorView) (t : TransferView)
+    → root_of (lowered b ts) (translated b ts t).bus ≡ root_of b t.bus
+translated-root b tree ts t = by (route_of b ts t.bus) refl
+  where
+    by : (o : Option Route) → route_of b ts t.bus ≡ o → root_of b (sent_by o t).bus ≡ root_of b t.bus
+    by None e = refl
+    by (Some r) e = route-root b tree ts t.bus r (route-is b ts t.bus r e)
 
 -- one hop more costs no less
 behind_more : (by_line asks : Bool) (control job : ℕ) → job ≤ behind_by by_line asks control job

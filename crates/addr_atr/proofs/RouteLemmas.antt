@@ -18,7 +18,7 @@ use Rattle.i2c_base.specs.Board.{BoardView, DeviceView}
 use Rattle.i2c_base.specs.Limits.{POLLS, MOST_DEVICES}
 use Rattle.i2c_spec.specs.Grant.{way_through, way_of}
 use Rattle.i2c_spec.specs.Plain.{FitsChip, FitsForeign, IsPlainMux, IsPlainDevice, IsPlainBoard}
-use Rattle.i2c_spec.specs.Tree.{Hop, hops, buses, over, of_mux, is_absent, is_held, IsAmongHops}
+use Rattle.i2c_spec.specs.Tree.{Hop, hops, buses, root_of, over, of_mux, is_absent, is_held, IsAmongHops}
 use Rattle.i2c_spec.specs.TreeFacts.{IsTree}
 use Rattle.i2c_spec.specs.Rules.{MeetsRules}
 use Rattle.i2c_spec.proofs.AddressLemmas.{tree_of}
@@ -66,6 +66,13 @@ module _ (b : BoardView) (ts : List TranslatorView) (s : ℕ) (r : Route) where
       by true low = by_hops (hops b s) (ltb-true s (buses b) low) refl
           (sym (ap (λ (t : Bool). cond t (route_over ts (over b s)) None) low) ∙ e)
       by false high = absurd (let f : None ≡ Some r = sym (ap (λ (t : Bool). cond t (route_over ts (over b s)) None) high) ∙ e in cc)
+
+-- .. it is on the root of the child bus
+pub route-root : (b : BoardView) → IsTree b → (ts : List TranslatorView) (s : ℕ) (r : Route) → IsRoute b ts s r
+    → root_of b r.bus ≡ root_of b s
+route-root b tree ts s r i =
+    ap (λ (n : ℕ). root_of b n) (sym i.on)
+    ∙ tree.root_same s i.hop (subst (λ (hs : List Hop). IsAmongHops i.hop hs) (sym i.over) (inl refl))
 
 -- WHAT A MAP SAYS of the translator that a mux stands for
 pub record IsFound (b : BoardView) (m : ℕ) (ps : List AliasPair) : Type 0 where

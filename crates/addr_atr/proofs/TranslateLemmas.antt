@@ -1,7 +1,7 @@
 -- A transfer to paired addresses does the same on the board as written and, translated, on the lowered board: each address leads to the
 -- same device, the way is the same, and so is what is refused. It leaves each device that it doesn't name. The inductions go over
 -- the messages.
-use Rattle.std.proofs.Common.{◌≡◌, ℕ, ◌+◌, Bool, true, false, cond, not, ◌&&◌, ◌||◌, List, [], ◌∷◌, Option, Some, None, eqb, ltb, refl, sym, ◌∙◌, ap, subst, inl, arith, map, take, drop}
+use Rattle.std.proofs.Common.{◌≡◌, ℕ, ◌+◌, Bool, true, false, cond, not, ◌&&◌, ◌||◌, List, [], ◌∷◌, Option, Some, None, eqb, ltb, refl, sym, ◌∙◌, ap, arith, map, take, drop}
 use Rattle.std.specs.Prelude.{slice_get, unwrap_or, All}
 use Rattle.std.specs.List.{list_any}
 use Rattle.std.specs.Option.{option_map}
@@ -26,7 +26,7 @@ use Rattle.i2c_spec.specs.Messages.{MessageView, messages_from, messages_of, mes
 use Rattle.i2c_spec.specs.Plain.{IsPlainBoard}
 use Rattle.i2c_spec.specs.Rules.{MeetsRules}
 use Rattle.i2c_spec.specs.Targets.{TargetState}
-use Rattle.i2c_spec.specs.Tree.{buses, root_of, of_device, IsAmongHops}
+use Rattle.i2c_spec.specs.Tree.{buses, root_of, of_device}
 use Rattle.i2c_spec.specs.TreeFacts.{IsTree}
 use Rattle.i2c_spec.proofs.AddressLemmas.{tree_of}
 use Rattle.bus_laws.specs.Alike.{IsUnnamed}
@@ -37,7 +37,7 @@ use Rattle.addr_atr.specs.Lowering.{moved, lowered_device, lowered, sent_by, tra
 use Rattle.addr_atr.proofs.CostLemmas.{readdressed-reads}
 use Rattle.addr_atr.proofs.OwnLemmas.{own-grant}
 use Rattle.addr_atr.proofs.RenameLemmas.{renamed, AreGrantedAlike, all-renamed}
-use Rattle.addr_atr.proofs.RouteLemmas.{IsRoute, IsOf, route-is, route-way, route-before, paired-device, lowered-plain}
+use Rattle.addr_atr.proofs.RouteLemmas.{IsRoute, IsOf, route-is, route-root, route-way, route-before, paired-device, lowered-plain}
 
 -- MESSAGES with other addresses
 readdressed-messages : (f : ℕ → ℕ) (ms : List Msg) (out : List ℕ)
@@ -173,17 +173,12 @@ module _ (b : BoardView) (plain : IsPlainBoard b) (meets : MeetsRules b) (ts : L
     is_route : IsRoute b ts t.bus r
     is_route = route-is b ts t.bus r route
 
-    same_root : root_of b r.bus ≡ root_of b t.bus
-    same_root =
-        ap (λ (n : ℕ). root_of b n) (sym is_route.on)
-        ∙ the_tree.root_same t.bus is_route.hop (subst (λ hs. IsAmongHops is_route.hop hs) (sym is_route.over) (inl refl))
-
     pub same-told : (xs : List TargetState) (cut : Cut) → flat (lowered b ts) xs (translated b ts t) cut ≡ flat b xs t cut
     same-told xs cut =
         ap (λ (o : Option Route). flat (lowered b ts) xs (sent_by o t) cut) route
         ∙ flat-alike b (lowered b ts) t r.bus (alias_of r.pairs) refl (lt-ltb t.bus (buses b) is_route.within)
         (lt-ltb r.bus (buses b) (omega (arith, is_route.within, route-before b plain the_tree ts is_map t.bus r is_route)))
-        (ap (λ (n : ℕ). is_smbus_only b n) same_root) (route-way b plain the_tree ts is_map t.bus r is_route)
+        (ap (λ (n : ℕ). is_smbus_only b n) (route-root b the_tree ts t.bus r is_route)) (route-way b plain the_tree ts is_map t.bus r is_route)
         (λ k d low. lowered-grant t.bus r route _ t.force (paired k d low)) xs cut
 
     -- a device on another bus, or none, isn't granted

@@ -14,7 +14,7 @@ ghost use Rattle.i2c_spec.specs.History.{Asks, history};
 ghost use Rattle.i2c_spec.specs.Plain.{IsPlainBoard};
 ghost use Rattle.i2c_spec.specs.Rules.{MeetsRules};
 ghost use Rattle.i2c_spec.specs.Targets.{TargetState, opening_state};
-ghost use Rattle.i2c_spec.specs.Tree.{of_device};
+ghost use Rattle.i2c_spec.specs.Tree.{of_device, root_of};
 ghost use Rattle.addr_atr.specs.Runs.{translated_asks, AsksBehind};
 ghost use Rattle.addr_atr.specs.Maps.{TranslatorView, Route, route_of};
 ghost use Rattle.addr_atr.specs.Lowering.{lowered, translated, is_paired, IsMap, IsPaired};
@@ -63,6 +63,12 @@ pub fn a_history_behind_translators_is_the_same()
     ensures { (b : BoardView) (ts : List TranslatorView) → IsPlainBoard b → MeetsRules b → IsMap b ts → MeetsRules (lowered b ts)
         → (asks : Asks) → AsksBehind b ts asks → (order : List (ℕ × Cut))
         → history (lowered b ts) (translated_asks b ts asks) order ≡ history b asks order }
+{}
+
+/// A translated transfer stays on its root, whatever translators there are.
+pub fn a_translated_transfer_stays_on_its_root()
+    ensures { (b : BoardView) (ts : List TranslatorView) (t : TransferView) → IsPlainBoard b → MeetsRules b
+        → root_of (lowered b ts) (translated b ts t).bus ≡ root_of b t.bus }
 {}
 
 /// A translated transfer keeps the limits, costs no more than on the board as written, and gets replies that fit it.

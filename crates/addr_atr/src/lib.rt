@@ -34,7 +34,8 @@ pub use fault::MapFault;
 pub use laws::{
     a_history_behind_translators_is_the_same, a_lowered_board_opens_the_same,
     a_paired_address_leads_to_the_same_device, a_translated_transfer_costs_no_more,
-    a_translated_transfer_does_the_same, an_own_address_leads_to_its_device,
+    a_translated_transfer_does_the_same, a_translated_transfer_stays_on_its_root,
+    an_own_address_leads_to_its_device,
 };
 pub use map::{AtrMap, Translator};
 pub use text::read_map;
