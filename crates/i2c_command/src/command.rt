@@ -1,7 +1,8 @@
 //! A call of the top with the words of the command line, over the real files and output.
 ghost use Rattle.std.specs.Prelude.{◌≡◌, ◌⊎◌, ℕ, List, Some, map, string_bytes, IfOk, IsTrue, OnErr};
 ghost use Rattle.i2c_gen.specs.declared.plan.Plan.{Plan};
-ghost use Rattle.i2c_top.specs.forms.{Replay, Check, Generate, Verify, Clear, request_in, HasEnded};
+ghost use Rattle.i2c_top.specs.forms.{Replay, Check, Generate, Verify, Atr, Clear, request_in, HasEnded};
+ghost use Rattle.i2c_top.specs.forms.Atrs.{AtrNames, HasTranslated};
 ghost use Rattle.i2c_top.specs.forms.Checks.{HasChecked};
 ghost use Rattle.i2c_top.specs.forms.Clears.{HasCleared};
 ghost use Rattle.i2c_top.specs.forms.Generations.{HasGenerated};
@@ -47,6 +48,9 @@ fn run<H: Threads + Wait + Sync, S: Shelf, K: Sink, R: Rig>(
     ensures verified { IsTrue S.tells → IsTrue K.tells
         → (names : VerifyNames) → request_in (map string_bytes words.now) ≡ Some (Verify names) → result ≡ status.Ok
         → HasVerified (S.file shelf.old) names (K.bytes sink.old) (K.bytes sink.new) }
+    ensures translated { IsTrue S.tells → IsTrue K.tells → IsTrue R.tells → IsTrue R.P.tells
+        → (names : AtrNames) → request_in (map string_bytes words.now) ≡ Some (Atr names) → result ≡ status.Ok
+        → HasTranslated (S.file shelf.old) names (K.bytes sink.old) (K.bytes sink.new) (R.logs rig.new) (R.states rig.new) (R.port_faults rig.new) }
     ensures cleared { IsTrue S.tells → IsTrue K.tells
         → (board : List ℕ) (at : ClearAt) → request_in (map string_bytes words.now) ≡ Some (Clear board at) → result ≡ status.Ok
         → HasCleared (S.file shelf.old) board at (K.bytes sink.old) (K.bytes sink.new) }

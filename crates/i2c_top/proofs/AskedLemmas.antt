@@ -19,5 +19,5 @@ fourth true q r s first second third fourth_one rest a b c d = cc
 pub verify_asked : (words : List (List ℕ)) → is_replay words ≡ false → is_run words ≡ false → is_check words ≡ false → is_verify words ≡ true
     → request_in words ≡ Some (Verify (verify_names words))
 verify_asked words a b c d =
-    fourth (is_replay words) (is_run words) (is_check words) (is_verify words) _ _ _ (Some (Verify (verify_names words))) (or_clear (plan_in words) words)
+    fourth (is_replay words) (is_run words) (is_check words) (is_verify words) _ _ _ (Some (Verify (verify_names words))) _
     a b c d

@@ -31,6 +31,7 @@ named status.Memory = inr refl
 named status.Rig = refl
 named (status.Schedule word) = tt
 named (status.Verify fault) = tt
+named (status.Map fault) = tt
 named (status.NoRoot bus) = tt
 
 -- the line of a refusal is due for it, and nothing else

@@ -28,7 +28,7 @@ no_script file board name line word s b =
 not_words : (r : Result (List ℕ) ℕ) (cs : List ℕ) (w : ℕ) → r ≡ Ok cs → r ≡ Err w → ⊥
 not_words r cs w e f = absurd (let h : Ok cs ≡ Err w = sym e ∙ f in cc)
 
-no_schedule : (file : Files) (name : List ℕ) (callers word : ℕ) → HasSchedule file name callers → HasBadSchedule file name callers word → ⊥
+pub no_schedule : (file : Files) (name : List ℕ) (callers word : ℕ) → HasSchedule file name callers → HasBadSchedule file name callers word → ⊥
 no_schedule file name callers word s b =
     not_words (schedule_read callers b.text) s.words word
     (ap (schedule_read callers) (sym (one_text (file name) s.text b.text s.there b.there)) ∙ s.read) b.fault
@@ -58,7 +58,7 @@ abbrev word_or : ℕ → Result (List ℕ) ℕ → ℕ
 word_or w (Ok cs) = w
 word_or w (Err v) = v
 
-one_word : (file : Files) (name : List ℕ) (callers word word_now : ℕ) → HasBadSchedule file name callers word
+pub one_word : (file : Files) (name : List ℕ) (callers word word_now : ℕ) → HasBadSchedule file name callers word
     → HasBadSchedule file name callers word_now → word_now ≡ word
 one_word file name callers word word_now b n =
     ap (word_or word) (sym n.fault ∙ ap (schedule_read callers) (one_text (file name) n.text b.text n.there b.there) ∙ b.fault)
@@ -76,10 +76,10 @@ pub not_dear : (m a b : ℕ) → a ≤ m → m < b → a ≡ b → ⊥
 not_dear m a b low high same = absurd (omega arith)
 
 -- the five statuses that files decide, where all scripts are in the grammar and where they aren't
-record DecideBoard (file : Files) (names : Names) (s : Status) : Type 0 where
-  why : BoardRefusal
-  same : s ≡ status.Board why
-  board : HasRejected file names.board why
+pub record DecideBoard (file : Files) (names : Names) (s : Status) : Type 0 where
+  pub why : BoardRefusal
+  pub same : s ≡ status.Board why
+  pub board : HasRejected file names.board why
 
 pub record DecideScript (file : Files) (names : Names) (s : Status) : Type 0 where
   pub caller : ℕ

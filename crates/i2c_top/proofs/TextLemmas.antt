@@ -63,10 +63,10 @@ opened-scripts b (s ∷ ss) opened =
     ∙ ap (λ (ks : List ScriptView). script_on b s.script.text ∷ ks) (opened-scripts b ss (All-tail (λ x. IsOpened b x.script.text x) s ss opened))
 
 -- what is told of each, by what it was opened with, and of nobody else
-abbrev told_in : {S V : Type 0} → (S → List Reply → V) → V → List S → ℕ → List Reply → V
+abbrev pub told_in : {S V : Type 0} → (S → List Reply → V) → V → List S → ℕ → List Reply → V
 told_in tell none xs c rs = option_map_or (λ s. tell s rs) (slice_get xs c) none
 
-told-mapped : {X S V : Type 0} (tell : S → List Reply → V) (none : V) (f : X → S) (xs : List X)
+pub told-mapped : {X S V : Type 0} (tell : S → List Reply → V) (none : V) (f : X → S) (xs : List X)
     → told_in tell none (map f xs) ≡ told_in (λ x. tell (f x)) none xs
 told-mapped {X} {S} {V} tell none f xs = λ i. λ c rs. each c rs i
   where

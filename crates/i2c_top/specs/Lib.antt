@@ -8,6 +8,7 @@ pub mod Endings
 pub mod Faults
 pub mod Files
 pub mod Form
+pub mod MapFiles
 pub mod Names
 pub mod Numbers
 pub mod Readings

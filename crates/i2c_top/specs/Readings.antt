@@ -3,11 +3,15 @@ use Rattle.std.specs.Prelude.{⊤, All, Option, None, Some, ◌≡◌, ℕ, ◌+
 use Rattle.i2c_base.specs.Board.{BoardView}
 use Rattle.ports.specs.Causes.{Rose}
 use Rattle.i2c_top.specs.Boards.{HasAccepted, HasRejected}
+use Rattle.addr_atr.specs.Maps.{MapView}
+use Rattle.addr_atr.specs.declared.fault.MapFault.{MapFault}
 use Rattle.i2c_top.specs.Files.{Files}
+use Rattle.i2c_top.specs.MapFiles.{HasMap}
 use Rattle.caller_core.specs.View.{CallerView}
 use Rattle.i2c_top.specs.Scripts.{script_name, HasScript, HasBadScript, HasScripts, HasSchedule, HasBadSchedule, HasOrder, words_in, texts_in}
 use Rattle.i2c_top.specs.Traces.{IsUnread}
 use Rattle.i2c_top.specs.forms.Replays.{Names, IsPlaceIn, IsScheduleAt, IsReadInTurn, IsReplayCause}
+use Rattle.i2c_top.specs.forms.Atrs.{AtrNames}
 use Rattle.i2c_top.specs.forms.Verifies.{VerifyNames}
 use Rattle.i2c_top.specs.Runs.{AreOpened, texts_of, MOST_COST}
 use Rattle.i2c_top.specs.declared.status.BoardRefusal.{BoardRefusal}
@@ -63,6 +67,19 @@ pub record HasReadJournal (file : Files) (names : VerifyNames) (board : BoardVie
   pub texts_are : texts ≡ texts_in file names.scripts
   pub there : file names.journal ≡ Some text
 
+-- the map over a board is that of a file
+pub record IsMapIn (file : Files) (board : BoardView) (name : List ℕ) (map : MapView) : Type 0 where
+  pub has : HasMap file board name
+  pub same : map ≡ has.map
+
+-- .. behind a map of the board: its translators, the scripts' texts and the schedule's callers
+pub record HasReadMap (file : Files) (names : AtrNames) (board : BoardView) (map : MapView) (texts : List (List ℕ)) (words : List ℕ) : Type 0 where
+  pub board_in : IsAcceptedIn file names.board board
+  pub scripts : HasScripts file board names.scripts (length names.scripts)
+  pub texts_are : texts ≡ texts_in file names.scripts
+  pub map_in : IsMapIn file board names.map map
+  pub words_in : IsScheduleIn file names.schedule (length names.scripts) words
+
 -- the file at this place was not read, or there was no memory, or what was read was bad
 abbrev pub IsRefusedAt : ℕ → (Status → Type 0) → ℕ → ℕ → Status → Type 0
 IsRefusedAt place bad reads reads_now s = ((s ≡ status.Read place) × Rose reads reads_now) ⊎ ((s ≡ status.Memory) ⊎ bad s)
@@ -83,6 +100,11 @@ pub record IsBadSchedule (why : ℕ → Type 0) (s : Status) : Type 0 where
   pub word : ℕ
   pub same : s ≡ status.Schedule word
   pub is_bad : why word
+
+pub record IsBadMap (why : MapFault → Type 0) (s : Status) : Type 0 where
+  pub fault : MapFault
+  pub same : s ≡ status.Map fault
+  pub is_bad : why fault
 
 -- the schedule was refused, where there is one
 abbrev pub IsRefusedOrder : Bool → Files → Option (List ℕ) → ℕ → (ℕ → ℕ) → (ℕ → ℕ) → Status → Type 0

@@ -8,6 +8,8 @@ use Rattle.i2c_boardtext.specs.declared.fault.BoardFault.{BoardFault}
 use Rattle.i2c_boardtext.specs.declared.fault.BoardFault.TheVariants as fault
 use Rattle.i2c_boardtext.specs.declared.fault.TableName.{TableName}
 use Rattle.i2c_boardtext.specs.declared.fault.TableName.TheVariants as table
+use Rattle.addr_atr.specs.declared.fault.MapFault.{MapFault}
+use Rattle.addr_atr.specs.declared.fault.MapFault.TheVariants as atr_fault
 use Rattle.journal_check.specs.declared.fault.CheckFault.{CheckFault}
 use Rattle.journal_check.specs.declared.fault.CheckFault.TheVariants as verdict
 use Rattle.i2c_top.specs.declared.status.BoardRefusal.{BoardRefusal}
@@ -38,6 +40,7 @@ class_of status.Memory = Silent
 class_of status.Rig = NoRig
 class_of (status.Schedule word) = Refused
 class_of (status.Verify fault) = Refused
+class_of (status.Map fault) = Refused
 class_of (status.NoRoot bus) = Refused
 
 abbrev pub code_of : Status → ℕ
@@ -52,6 +55,7 @@ code_of status.Memory = 7
 code_of status.Rig = 8
 code_of (status.Schedule word) = 9
 code_of (status.Verify fault) = 10
+code_of (status.Map fault) = 11
 code_of (status.NoRoot bus) = 12
 
 -- whose table a fault is in, or which tables are too few or too many
@@ -98,6 +102,20 @@ verdict_text (verdict.Open caller) = codes "caller " ++ (decimal caller ++ codes
 verdict_text (verdict.Text line) = codes "text line " ++ (decimal line ++ codes "\n")
 verdict_text verdict.Memory = []
 
+-- what is at fault in the table of a translator, by its number
+abbrev pub row_text : List ℕ → ℕ → List ℕ
+row_text what index = what ++ (codes " in atr " ++ (decimal index ++ codes "\n"))
+
+-- what is wrong with a map's text; want of memory is told by a status of its own
+abbrev pub map_text : MapFault → List ℕ
+map_text atr_fault.NotToml = codes "not TOML\n"
+map_text (atr_fault.Key index) = row_text (codes "key") index
+map_text (atr_fault.Value index) = row_text (codes "value") index
+map_text (atr_fault.Mux index) = row_text (codes "mux") index
+map_text (atr_fault.Pairs index) = row_text (codes "pairs") index
+map_text (atr_fault.Rule r) = broken_text r
+map_text atr_fault.Memory = []
+
 abbrev pub unread_text : List ℕ → List ℕ
 unread_text name = codes "cannot read " ++ (name ++ codes "\n")
 
@@ -116,4 +134,5 @@ refusal_text status.Memory name = []
 refusal_text status.Rig name = codes "cannot plug the rig\n"
 refusal_text (status.Schedule word) name = codes "schedule word " ++ (decimal word ++ codes "\n")
 refusal_text (status.Verify fault) name = codes "not verified: " ++ verdict_text fault
+refusal_text (status.Map fault) name = codes "map: " ++ map_text fault
 refusal_text (status.NoRoot bus) name = codes "no root bus " ++ (decimal bus ++ codes "\n")

@@ -140,7 +140,7 @@ fn script_in<S: Shelf>(
     caller: u8,
     name: &str,
 ) -> Result<Script, Status>
-    requires low { first ≤ 3 }
+    requires low { first ≤ 4 }
     requires few { caller < MOST_CALLERS }
     requires named { slice_get (S.words shelf.old) (first + caller) ≡ Some name.now }
     ensures kept { KeepsBut (λ p. p ≡ first + caller) (shelf_view S.Shelf shelf.old) (shelf_view S.Shelf shelf.new) }
@@ -162,8 +162,8 @@ fn name_of(names: &[String], caller: usize) -> &str
     names[caller].as_str()
 }
 
-// How many callers scripts are.
-fn callers_of(scripts: &[Script]) -> u8
+/// How many callers scripts are.
+pub fn callers_of(scripts: &[Script]) -> u8
     requires { length scripts.now ≤ MOST_CALLERS }
     ensures { result ≡ length scripts.now }
 {
@@ -178,7 +178,7 @@ pub fn scripts_in<S: Shelf>(
     first: u8,
     names: &[String],
 ) -> Result<Vec<Script>, Status>
-    requires low { first ≤ 3 }
+    requires low { first ≤ 4 }
     requires few { length names.now ≤ MOST_CALLERS }
     requires named { AreNamesFrom first (S.words shelf.old) (map string_bytes names.now) }
     ensures kept { KeepsBut (λ p. (first ≤ p) × (p < first + length names.now)) (shelf_view S.Shelf shelf.old) (shelf_view S.Shelf shelf.new) }
@@ -195,20 +195,22 @@ pub fn scripts_in<S: Shelf>(
     Ok(scripts)
 }
 
-// Reads the schedule's file.
-fn schedule_in<S: Shelf>(
+/// Reads the schedule's file, which stands at a place.
+pub fn schedule_in<S: Shelf>(
     alloc: Global,
     shelf: &mut S,
+    place: u8,
     callers: u8,
     name: &str,
 ) -> Result<Vec<u8>, Status>
-    requires named { slice_get (S.words shelf.old) 2 ≡ Some name.now }
-    ensures kept { KeepsBut (λ p. p ≡ 2) (shelf_view S.Shelf shelf.old) (shelf_view S.Shelf shelf.new) }
+    requires low { place ≤ 15 }
+    requires named { slice_get (S.words shelf.old) place ≡ Some name.now }
+    ensures kept { KeepsBut (λ p. p ≡ place) (shelf_view S.Shelf shelf.old) (shelf_view S.Shelf shelf.new) }
     ensures named { IfOk result (λ words. All (λ c. c < callers) words.items) }
     ensures schedule { IsTrue S.tells → IfOk result (λ words. IsScheduleIn (S.file shelf.old) name.now callers words.items) }
-    ensures refused { IfErr result (IsRefusedAt 2 (IsBadSchedule (λ word. IsTrue S.tells → HasBadSchedule (S.file shelf.old) name.now callers word)) (S.faults shelf.old 2) (S.faults shelf.new 2)) }
+    ensures refused { IfErr result (IsRefusedAt place (IsBadSchedule (λ word. IsTrue S.tells → HasBadSchedule (S.file shelf.old) name.now callers word)) (S.faults shelf.old place) (S.faults shelf.new place)) }
 {
-    let text = bytes_at(alloc, shelf, SCHEDULE, name)?;
+    let text = bytes_at(alloc, shelf, place, name)?;
     words_of(alloc, text.as_slice(), callers)
 }
 
@@ -227,7 +229,7 @@ fn order_in<S: Shelf>(
 {
     match schedule {
         None => Ok(None),
-        Some(name) => Ok(Some(schedule_in(alloc, shelf, callers, name)?)),
+        Some(name) => Ok(Some(schedule_in(alloc, shelf, SCHEDULE, callers, name)?)),
     }
 }
 

@@ -2,6 +2,7 @@
 ghost use Rattle.std.specs.Prelude.{◌≡◌, ℕ, List};
 ghost use Rattle.i2c_base.specs.declared.reply.Reply.{Reply};
 
+use addr_atr::AtrCaller;
 use caller_core::Script;
 use i2c_base::Caller;
 
@@ -22,5 +23,16 @@ impl Printer for Script {
 
     fn text(&self) -> &[u8] {
         Script::text(self)
+    }
+}
+
+/// A script behind translators prints what it does over the board as written.
+impl<'m> Printer for AtrCaller<'m> {
+    ghost use Rattle.caller_core.specs.Scripts.{commands_of, section_text};
+
+    ghost printed = { λ s rs. section_text (commands_of s.script) rs };
+
+    fn text(&self) -> &[u8] {
+        Script::text(self.script())
     }
 }

@@ -1,9 +1,10 @@
 //! The lines that refusals write.
 ghost use Rattle.std.specs.Prelude.{◌≡◌, ◌++◌, OnOk, IfOk};
 ghost use Rattle.std.specs.Fmt.{decimal};
-ghost use Rattle.i2c_top.specs.Status.{table_text, placed_text, limit_text, fault_text, item_text, broken_text, board_text, verdict_text, refusal_text};
+ghost use Rattle.i2c_top.specs.Status.{table_text, placed_text, limit_text, fault_text, item_text, broken_text, board_text, verdict_text, row_text, map_text, refusal_text};
 
 use crate::{BoardRefusal, Status};
+use addr_atr::MapFault;
 use bus_journal::{push_bytes, push_number};
 use i2c_base::{Item, NoMemory, RuleBroken};
 use i2c_boardtext::{BoardFault, TableName};
@@ -111,6 +112,29 @@ fn push_verdict(out: &mut Vec<u8>, fault: CheckFault) -> Result<(), NoMemory>
     }
 }
 
+// What is at fault in the table of a translator, by its number.
+fn push_row(out: &mut Vec<u8>, what: &[u8], index: u16) -> Result<(), NoMemory>
+    ensures { OnOk result (out.new.items ≡ out.old.items ++ row_text what.now index) }
+{
+    push_bytes(out, what)?;
+    push_around(out, b" in atr ", u64::from(index), b"\n")
+}
+
+// What is wrong with a map's text.
+fn push_map(out: &mut Vec<u8>, fault: MapFault) -> Result<(), NoMemory>
+    ensures { OnOk result (out.new.items ≡ out.old.items ++ map_text fault) }
+{
+    match fault {
+        MapFault::NotToml => push_bytes(out, b"not TOML\n"),
+        MapFault::Key(index) => push_row(out, b"key", index),
+        MapFault::Value(index) => push_row(out, b"value", index),
+        MapFault::Mux(index) => push_row(out, b"mux", index),
+        MapFault::Pairs(index) => push_row(out, b"pairs", index),
+        MapFault::Rule(broken) => push_broken(out, broken),
+        MapFault::Memory => Ok(()),
+    }
+}
+
 // The line of a refusal; nothing for what is none.
 fn push_refusal(out: &mut Vec<u8>, status: Status, name: &[u8]) -> Result<(), NoMemory>
     ensures { OnOk result (out.new.items ≡ out.old.items ++ refusal_text status name.now) }
@@ -133,6 +157,10 @@ fn push_refusal(out: &mut Vec<u8>, status: Status, name: &[u8]) -> Result<(), No
         Status::Verify(fault) => {
             push_bytes(out, b"not verified: ")?;
             push_verdict(out, fault)
+        }
+        Status::Map(fault) => {
+            push_bytes(out, b"map: ")?;
+            push_map(out, fault)
         }
         Status::NoRoot(bus) => push_around(out, b"no root bus ", u64::from(bus), b"\n"),
     }

@@ -3,6 +3,7 @@ ghost use Rattle.std.specs.Prelude.{◌≡◌};
 ghost use Rattle.i2c_top.specs.Status.{code_of};
 ghost use Rattle.i2c_top.specs.declared.status.Status.TheVariants.{Memory as NoRoomToRun};
 
+use addr_atr::MapFault;
 use i2c_base::{NoMemory, RuleBroken};
 use i2c_boardtext::BoardFault;
 use journal_check::CheckFault;
@@ -42,6 +43,8 @@ pub enum Status {
     Schedule(u32),
     /// The first thing that is wrong with a journal's file. It is never want of memory.
     Verify(CheckFault),
+    /// The first thing that is wrong with a map's file. It is never want of memory.
+    Map(MapFault),
     /// The bus of this number is no root of the board.
     NoRoot(u16),
 }
@@ -63,6 +66,7 @@ impl Status {
             Status::Rig => 8,
             Status::Schedule(_) => 9,
             Status::Verify(_) => 10,
+            Status::Map(_) => 11,
             Status::NoRoot(_) => 12,
         }
     }

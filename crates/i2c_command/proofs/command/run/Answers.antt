@@ -21,5 +21,6 @@ returns g c =
       checked = c.top.ensures.checked;
       generated = c.top.ensures.generated;
       verified = c.top.ensures.verified;
+      translated = c.top.ensures.translated;
       cleared = c.top.ensures.cleared;
     }

@@ -1,0 +1,316 @@
+-- How a call of `atr` ends: what each refusal of its files comes from, and what a run of them comes to. No induction.
+use Rattle.std.proofs.Common.{◌≡◌, ℕ, ◌+◌, ◌<◌, ◌≤◌, ◌⊎◌, inl, inr, Bool, IsTrue, false, List, length, Some, Result, Ok, Err, refl, sym, ◌∙◌, ap, subst, arith}
+use Rattle.std.specs.Prelude.{IfOk, OnOk, IfErr}
+use Rattle.std.proofs.lemmas.List.{take_all}
+use Rattle.caller_core.specs.View.{CallerView}
+use Rattle.i2c_base.specs.Board.{BoardView}
+use Rattle.addr_atr.specs.Maps.{MapView}
+use Rattle.addr_atr.specs.MapTexts.{IsMapOf}
+use Rattle.addr_atr.specs.declared.fault.MapFault.{MapFault}
+use Rattle.addr_atr.specs.declared.fault.MapFault.TheVariants as fault
+use Rattle.ports.specs.Causes.{Rose, counted}
+use Rattle.i2c_top.specs.Endings.{CameToRefusal, CameToSuccess, HasEndedAs}
+use Rattle.i2c_top.specs.Files.{Files}
+use Rattle.i2c_top.specs.Form.{KeepsShelf}
+use Rattle.i2c_top.specs.MapFiles.{HasBadMap}
+use Rattle.i2c_top.specs.Readings.{AreScriptsIn, HasReadMap, IsAcceptedIn, IsMapIn, IsRejectedIn, IsRefusedAt, IsRefusedScript, IsScheduleIn, IsBadBoard, IsBadMap, IsBadSchedule, IsTooDear}
+use Rattle.i2c_top.specs.Runs.{MOST_COST, cost_of_texts, texts_of}
+use Rattle.i2c_top.specs.Scripts.{script_name, HasBadSchedule, HasBadScript, HasScripts, texts_in}
+use Rattle.i2c_top.specs.Traces.{ShelfView, RigView, Outside, KeepsBut, IsAtMostOnce, IsUntouched}
+use Rattle.i2c_top.specs.forms.Atrs.{AtrNames, HasAtrFiles, HasAtrRun, HasAtrTexts, HasMapped, HasTranslated, IsAtrAfter, IsAtrPlace, as_run, atr_form}
+use Rattle.i2c_top.specs.forms.Replays.{HasScriptsBefore}
+use Rattle.i2c_top.specs.declared.status.Status.{Status}
+use Rattle.i2c_top.specs.declared.status.Status.TheVariants as status
+use Rattle.i2c_top.proofs.EndingLemmas.{came_to_success, memory_wanting, file_unread, run_refused, text_refused}
+use Rattle.i2c_top.proofs.FileLemmas.{kept_then, same_bad, same_scripts, same_texts}
+
+-- ---- what is read after a place is another
+after_first : (other : ℕ) → IsAtrAfter 1 other → other ≡ 1 → ⊥
+after_first other a e =
+    elim a.later [
+      | inl h ↦ absurd (omega (arith, e, h))
+      | inr (inl h) ↦ absurd (omega (arith, e, h))
+      | inr (inr h) ↦ absurd (omega (arith, e, h))
+    ]
+
+-- ---- a map of the text of a file
+pub map_there : (file : Files) (b : BoardView) (name text : List ℕ) (r : Result MapView Status) → file name ≡ Some text → IfOk r (IsMapOf b text)
+    → IfOk r (IsMapIn file b name)
+map_there file b name text (Ok m) there is = record { has = record { text = text; there = there; map = m; is_map = is }; same = refl }
+map_there file b name text (Err e) there is = tt
+
+-- ---- a map's file that is the same
+pub same_map : (file file_now : Files) (b : BoardView) (name : List ℕ) (m : MapView) → ((n : List ℕ) → file_now n ≡ file n)
+    → IsMapIn file_now b name m → IsMapIn file b name m
+same_map file file_now b name m same is =
+    record {
+      has = record { text = is.has.text; there = sym (same name) ∙ is.has.there; map = is.has.map; is_map = is.has.is_map };
+      same = is.same;
+    }
+
+same_bad_map : (file file_now : Files) (b : BoardView) (name : List ℕ) (why : MapFault) → ((n : List ℕ) → file_now n ≡ file n)
+    → HasBadMap file_now b name why → HasBadMap file b name why
+same_bad_map file file_now b name why same is =
+    record { text = is.text; there = sym (same name) ∙ is.there; of_text = is.of_text; fails = is.fails }
+
+same_words : (file file_now : Files) (name : List ℕ) (callers : ℕ) (words : List ℕ) → ((n : List ℕ) → file_now n ≡ file n)
+    → IsScheduleIn file_now name callers words → IsScheduleIn file name callers words
+same_words file file_now name callers words same is =
+    record {
+      has = record { text = is.has.text; words = is.has.words; there = sym (same name) ∙ is.has.there; read = is.has.read };
+      same = is.same;
+    }
+
+-- what was read after other files is what was there at first
+pub map_read : (first second third fourth : Files) (names : AtrNames) (tells : Bool) (b : BoardView) (scripts : List CallerView) (m : MapView)
+    (words : List ℕ) (callers : ℕ) → ((n : List ℕ) → second n ≡ first n) → ((n : List ℕ) → third n ≡ first n)
+    → ((n : List ℕ) → fourth n ≡ first n) → IsTrue tells → IsAcceptedIn first names.board b → length scripts ≡ length names.scripts
+    → AreScriptsIn tells second names.scripts b scripts → IsMapIn third b names.map m → callers ≡ length names.scripts
+    → IsScheduleIn fourth names.schedule callers words → HasReadMap first names b m (texts_of scripts) words
+map_read first second third fourth names tells b scripts m words callers same2 same3 same4 t board count are map known words_in =
+    record {
+      board_in = board;
+      scripts = same_scripts first second same2 b names.scripts (length names.scripts)
+          (subst (HasScripts second b names.scripts) count (are.read t));
+      texts_are = are.same t ∙ ap (texts_in second) (take_all (length scripts) names.scripts (omega (arith, count)))
+          ∙ same_texts first second same2 names.scripts;
+      map_in = same_map first third b names.map m same3 map;
+      words_in = subst (λ n. IsScheduleIn first names.schedule n words) known
+          (same_words first fourth names.schedule callers words same4 words_in);
+    }
+
+-- what was read is what the files have
+abbrev pub has_mapped : (file : Files) (names : AtrNames) (b : BoardView) (m : MapView) → IsAcceptedIn file names.board b
+    → HasScripts file b names.scripts (length names.scripts) → IsMapIn file b names.map m → HasMapped file names
+has_mapped file names b m board scripts map =
+    record {
+      board = board.has;
+      scripts = subst (λ k. HasScripts file k names.scripts (length names.scripts)) board.same scripts;
+      mapped = record {
+        text = map.has.text;
+        there = map.has.there;
+        map = map.has.map;
+        is_map = subst (λ k. IsMapOf k map.has.text map.has.map) board.same map.has.is_map;
+      };
+    }
+
+abbrev pub has_atr_texts : (file : Files) (names : AtrNames) (b : BoardView) (m : MapView) (texts : List (List ℕ)) (words : List ℕ)
+    → HasReadMap file names b m texts words → HasAtrTexts file names
+has_atr_texts file names b m texts words read =
+    record { files = has_mapped file names b m read.board_in read.scripts read.map_in; schedule = read.words_in.has }
+
+untouched : (rig : RigView) → IsUntouched rig rig
+untouched rig = record { plugs = refl; unplugs = refl }
+
+-- ---- files that were not read, or refused
+module _ (names : AtrNames) (shelf shelf_now : ShelfView) (rig : RigView) (kept : KeepsShelf (atr_form names) shelf shelf_now) where
+  abbrev Refused : Status → Type 0
+  Refused = CameToRefusal (atr_form names) shelf shelf_now rig rig
+
+  pub starved : Refused status.Memory
+  starved = memory_wanting (atr_form names) shelf shelf_now rig rig (inl (untouched rig)) kept
+
+  -- the board
+  pub board_told : (s : Status) → ((place : ℕ) → (place ≡ 1 → ⊥) → shelf_now.faults place ≡ shelf.faults place)
+      → IsRefusedAt 1 (IsBadBoard (IsRejectedIn shelf.tells shelf.file names.board)) (shelf.faults 1) (shelf_now.faults 1) s → Refused s
+  board_told s others refused =
+      elim refused [
+        | inl h ↦ subst Refused (sym h.0)
+            (file_unread (atr_form names) shelf shelf_now rig 1 (λ t. inl refl)
+            (record { named = record { first = omega arith; last = omega arith }; rose = h.1 })
+            (λ other after. others other (after_first other after)) kept)
+        | inr (inl m) ↦ subst Refused (sym m) starved
+        | inr (inr b) ↦ subst Refused (sym b.same)
+            (text_refused (atr_form names) shelf shelf_now rig (status.Board b.why) refl b.is_bad tt
+            (λ other after. others other (after_first other after)) kept)
+      ]
+
+  -- a script, over the board that was read
+  pub script_told : (b : BoardView) (mid : ShelfView) (s : Status) → ((n : List ℕ) → mid.file n ≡ shelf.file n)
+      → ((place : ℕ) → (place ≡ 1 → ⊥) → mid.faults place ≡ shelf.faults place)
+      → ((place : ℕ) → ((4 ≤ place) × (place < 4 + length names.scripts) → ⊥) → shelf_now.faults place ≡ mid.faults place)
+      → (IsTrue shelf.tells → IsAcceptedIn shelf.file names.board b)
+      → IsRefusedScript 4 shelf.tells mid.file b names.scripts mid.faults shelf_now.faults s → Refused s
+  script_told b mid s same others behind board r =
+      elim r.refused [
+        | inl h ↦ subst Refused (sym h.0)
+            (file_unread (atr_form names) shelf shelf_now rig (4 + r.caller)
+            (λ t. inr (inl (record { caller = r.caller; at = refl; earlier = earlier t })))
+            (record {
+              named = record { first = omega arith; last = (let low = r.known in omega (arith, low)) };
+              rose = subst (λ (k : ℕ). Rose k (shelf_now.faults (4 + r.caller))) (others (4 + r.caller) (λ e. absurd (omega (arith, e)))) h.1;
+            }) rest kept)
+        | inr (inl m) ↦ subst Refused (sym m) starved
+        | inr (inr n) ↦ subst Refused (sym n.same)
+            (text_refused (atr_form names) shelf shelf_now rig (status.Script r.caller n.line n.word) refl
+            (λ t. (
+              earlier t,
+              subst (λ k. HasBadScript shelf.file k (script_name names.scripts r.caller) n.line n.word) (board t).same
+                  (same_bad shelf.file mid.file b (script_name names.scripts r.caller) n.line n.word same (n.is_bad t)),
+            )) tt rest kept)
+      ]
+    where
+      earlier : IsTrue shelf.tells → HasScriptsBefore shelf.file (as_run names) r.caller
+      earlier t = record {
+        known = r.known;
+        board = (board t).has;
+        before = subst (λ k. HasScripts shelf.file k names.scripts r.caller) (board t).same
+            (same_scripts shelf.file mid.file same b names.scripts r.caller (r.before t));
+      }
+
+      low : (other : ℕ) → other < 4 → (other ≡ 1 → ⊥) → shelf_now.faults other ≡ shelf.faults other
+      low other below away = behind other (λ h. absurd (omega (arith, h.0, below))) ∙ others other away
+
+      rest : (other : ℕ) → IsAtrAfter (4 + r.caller) other → shelf_now.faults other ≡ shelf.faults other
+      rest other after =
+          elim after.later [
+            | inl h ↦ low other (omega (arith, h)) (λ e. absurd (omega (arith, h, e)))
+            | inr (inl h) ↦ low other (omega (arith, h)) (λ e. absurd (omega (arith, h, e)))
+            | inr (inr h) ↦ r.kept other h ∙ others other (λ e. absurd (omega (arith, h, e)))
+          ]
+
+  -- the map, over that board
+  pub map_told : (b : BoardView) (mid : ShelfView) (s : Status) → ((n : List ℕ) → mid.file n ≡ shelf.file n)
+      → ((place : ℕ) → place < 4 → (place ≡ 1 → ⊥) → mid.faults place ≡ shelf.faults place)
+      → ((place : ℕ) → (place ≡ 2 → ⊥) → shelf_now.faults place ≡ mid.faults place)
+      → (IsTrue shelf.tells → IsAcceptedIn shelf.file names.board b)
+      → (IsTrue shelf.tells → HasScripts shelf.file b names.scripts (length names.scripts))
+      → IsRefusedAt 2 (IsBadMap (λ why. (why ≡ fault.Memory → ⊥) × (IsTrue shelf.tells → HasBadMap mid.file b names.map why)))
+      (mid.faults 2) (shelf_now.faults 2) s → Refused s
+  map_told b mid s same others behind board scripts refused =
+      elim refused [
+        | inl h ↦ subst Refused (sym h.0)
+            (file_unread (atr_form names) shelf shelf_now rig 2 (λ t. inr (inr (inl (refl, (board t).has, on t))))
+            (record {
+              named = record { first = omega arith; last = omega arith };
+              rose = subst (λ (k : ℕ). Rose k (shelf_now.faults 2)) (others 2 (omega arith) (λ e. absurd (omega (arith, e)))) h.1;
+            }) rest kept)
+        | inr (inl m) ↦ subst Refused (sym m) starved
+        | inr (inr n) ↦ subst Refused (sym n.same)
+            (text_refused (atr_form names) shelf shelf_now rig (status.Map n.fault) refl
+            (λ t. (
+              (board t).has,
+              on t,
+              subst (λ k. HasBadMap shelf.file k names.map n.fault) (board t).same
+                  (same_bad_map shelf.file mid.file b names.map n.fault same (n.is_bad.1 t)),
+            )) n.is_bad.0 rest kept)
+      ]
+    where
+      on : (t : IsTrue shelf.tells) → HasScripts shelf.file (board t).has.board names.scripts (length names.scripts)
+      on t = subst (λ k. HasScripts shelf.file k names.scripts (length names.scripts)) (board t).same (scripts t)
+
+      rest : (other : ℕ) → IsAtrAfter 2 other → shelf_now.faults other ≡ shelf.faults other
+      rest other after =
+          let last = after.last refl in
+          behind other (λ e. absurd (omega (arith, e, last))) ∙ others other (omega (arith, last)) (λ e. absurd (omega (arith, e, last)))
+
+  -- the schedule
+  pub word_told : (b : BoardView) (m : MapView) (mid : ShelfView) (callers : ℕ) (s : Status) → ((n : List ℕ) → mid.file n ≡ shelf.file n)
+      → mid.faults 3 ≡ shelf.faults 3 → (IsTrue shelf.tells → IsAcceptedIn shelf.file names.board b)
+      → (IsTrue shelf.tells → HasScripts shelf.file b names.scripts (length names.scripts))
+      → (IsTrue shelf.tells → IsMapIn shelf.file b names.map m) → callers ≡ length names.scripts
+      → IsRefusedAt 3 (IsBadSchedule (λ word. IsTrue shelf.tells → HasBadSchedule mid.file names.schedule callers word)) (mid.faults 3) (shelf_now.faults 3) s
+      → Refused s
+  word_told b m mid callers s same was board scripts map count refused =
+      elim refused [
+        | inl h ↦ subst Refused (sym h.0)
+            (file_unread (atr_form names) shelf shelf_now rig 3 (λ t. inr (inr (inr (refl, mapped t))))
+            (record {
+              named = record { first = omega arith; last = omega arith };
+              rose = subst (λ (k : ℕ). Rose k (shelf_now.faults 3)) was h.1;
+            }) (λ other after. absurd (after.not_last refl)) kept)
+        | inr (inl e) ↦ subst Refused (sym e) starved
+        | inr (inr n) ↦ subst Refused (sym n.same)
+            (text_refused (atr_form names) shelf shelf_now rig (status.Schedule n.word) refl
+            (λ t. let h = n.is_bad t in (
+              mapped t,
+              subst (λ k. HasBadSchedule shelf.file names.schedule k n.word) count
+                  (record { text = h.text; there = sym (same names.schedule) ∙ h.there; fault = h.fault }),
+            )) tt (λ other no. absurd no) kept)
+      ]
+    where
+      mapped : IsTrue shelf.tells → HasMapped shelf.file names
+      mapped t = has_mapped shelf.file names b m (board t) (scripts t) (map t)
+
+  -- the cost
+  pub cost_told : (b : BoardView) (m : MapView) (texts : List (List ℕ)) (words : List ℕ) (s : Status)
+      → (IsTrue shelf.tells → HasReadMap shelf.file names b m texts words) → IsTooDear (cost_of_texts b texts) s → Refused s
+  cost_told b m texts words s read d =
+      subst Refused (sym d.same)
+      (text_refused (atr_form names) shelf shelf_now rig (status.Cost (cost_of_texts b texts)) refl
+      (λ t. record {
+        texts = has_atr_texts shelf.file names b m texts words (read t);
+        same = ap (λ (k : BoardView). cost_of_texts k texts) (read t).board_in.same
+            ∙ ap (cost_of_texts (read t).board_in.has.board) (read t).texts_are;
+        dear = d.dear;
+      }) d.dear (λ place no. absurd no) kept)
+
+-- ---- a run of files that were read, over the rig
+module _ (names : AtrNames) (shelf shelf_now : ShelfView) (rig rig_now : RigView) (b : BoardView) (m : MapView) (texts : List (List ℕ))
+    (words : List ℕ) (read : IsTrue shelf.tells → HasReadMap shelf.file names b m texts words) (cheap : cost_of_texts b texts ≤ MOST_COST)
+    (kept : KeepsShelf (atr_form names) shelf shelf_now) (plugs : rig_now.plugs ≡ counted rig.plugs) (unplugged : rig_now.plugged ≡ false) where
+  files : IsTrue shelf.tells → HasAtrFiles shelf.file names
+  files t = record {
+    texts = has_atr_texts shelf.file names b m texts words (read t);
+    cheap = subst (λ (n : ℕ). n ≤ MOST_COST)
+        (ap (λ (k : BoardView). cost_of_texts k texts) (read t).board_in.same
+        ∙ ap (cost_of_texts (read t).board_in.has.board) (read t).texts_are) cheap;
+  }
+
+  -- one that ended is a success of the form by its report
+  pub atr_done : {X : Type 0} (r : Result X Status) (bytes_of : X → List ℕ) → OnOk r (rig_now.unplugs ≡ counted rig.unplugs)
+      → (IsTrue rig_now.tells → IsTrue rig_now.ports_tell
+      → IfOk r (λ x. HasAtrRun m texts words (bytes_of x) rig_now.logs rig_now.states rig_now.counts))
+      → IfOk r (λ x. CameToSuccess (atr_form names) shelf shelf_now rig rig_now (bytes_of x))
+  unfolding files
+  atr_done (Ok x) bytes_of unplugs run =
+      came_to_success (atr_form names) shelf shelf_now rig rig_now (bytes_of x) files
+      (record { plugs = plugs; unplugs = unplugs; unplugged = unplugged })
+      (record {
+        by_files = λ t tells ports. record {
+          files = files t;
+          run = subst (λ (k : MapView). HasAtrRun k (texts_in shelf.file names.scripts) (read t).words_in.has.words (bytes_of x)
+              rig_now.logs rig_now.states rig_now.counts) (read t).map_in.same
+              (subst (λ (ws : List ℕ). HasAtrRun m (texts_in shelf.file names.scripts) ws (bytes_of x) rig_now.logs rig_now.states rig_now.counts)
+              (read t).words_in.same
+              (subst (λ (ts : List (List ℕ)). HasAtrRun m ts words (bytes_of x) rig_now.logs rig_now.states rig_now.counts) (read t).texts_are
+              (run tells ports)));
+        };
+        by_rig = λ tells ports. record { map = m; texts = texts; words = words; run = run tells ports };
+      }) kept
+  atr_done (Err e) bytes_of unplugs run = tt
+
+  -- one that failed is a refusal of it
+  pub atr_failed : {X : Type 0} (r : Result X Status) → (r ≡ Err status.Rig → rig_now.unplugs ≡ rig.unplugs)
+      → IsAtMostOnce rig.unplugs rig_now.unplugs
+      → (r ≡ Err status.Rig → Rose rig.faults rig_now.faults) → IfErr r (λ e. (e ≡ status.Rig) ⊎ (e ≡ status.Memory))
+      → IfErr r (CameToRefusal (atr_form names) shelf shelf_now rig rig_now)
+  atr_failed r unplugs once rose failed =
+      run_refused (atr_form names) shelf shelf_now rig rig_now r refl files kept plugs unplugged unplugs once rose failed
+
+-- a success was the report
+pub ended_translated : (names : AtrNames) (old new : Outside) (result : Status) → HasEndedAs (atr_form names) old new result
+    → IsTrue old.shelf.tells → IsTrue old.sink.tells → IsTrue new.rig.tells → IsTrue new.rig.ports_tell → result ≡ status.Ok
+    → HasTranslated old.shelf.file names old.sink.bytes new.sink.bytes new.rig.logs new.rig.states new.rig.counts
+ended_translated names old new result h shelf sink rig ports ok =
+    let s = h.said ok in record { bytes = s.text; report = s.answer.by_files shelf rig ports; written = s.written sink }
+
+-- what is read one after the other is read of the form's files
+pub kept_scripts : (names : AtrNames) (n : ℕ) (a b c : ShelfView) → length names.scripts ≡ n → KeepsBut (λ p. p ≡ 1) a b
+    → KeepsBut (λ p. (4 ≤ p) × (p < 4 + n)) b c → KeepsBut (IsAtrPlace names) a c
+kept_scripts names n a b c many =
+    kept_then (λ p. p ≡ 1) (λ p. (4 ≤ p) × (p < 4 + n)) (IsAtrPlace names) a b c
+    (λ p e. record { first = omega (arith, e); last = omega (arith, e) })
+    (λ p h. record { first = omega (arith, h.0); last = omega (arith, h.1, many) })
+
+pub kept_more : (names : AtrNames) (place : ℕ) (a b c : ShelfView) → 1 ≤ place → place < 4 → KeepsBut (IsAtrPlace names) a b
+    → KeepsBut (λ p. p ≡ place) b c → KeepsBut (IsAtrPlace names) a c
+kept_more names place a b c low high =
+    kept_then (IsAtrPlace names) (λ p. p ≡ place) (IsAtrPlace names) a b c (λ p h. h)
+    (λ p e. record { first = omega (arith, e, low); last = omega (arith, e, high) })
+
+-- what was read at these places was read of the form's files
+pub some_kept : (names : AtrNames) (P : ℕ → Type 0) (a b : ShelfView) → ((p : ℕ) → P p → IsAtrPlace names p) → KeepsBut P a b
+    → KeepsShelf (atr_form names) a b
+some_kept names P a b within k =
+    record { words = k.words; files = k.files; others = λ p no. k.others p (λ at. no (within p at)) }

@@ -1,0 +1,79 @@
+use Rattle.std.proofs.Common.{◌≡◌, ◌<◌, ◌≤◌, ◌∙◌, List, ℕ, All, length, map, sym, ap, subst, arith}
+use Rattle.std.specs.Prelude.{IfOk}
+use Rattle.std.proofs.lemmas.List.{length-map}
+use Rattle.caller_core.specs.View.{CallerView}
+use Rattle.i2c_base.specs.Board.{BoardView}
+use Rattle.addr_atr.specs.Callers.{AtrCallerView}
+use Rattle.addr_atr.specs.Lowering.{lowered}
+use Rattle.i2c_top.specs.forms.Atrs.{behind_of, HasAtrRun}
+use Rattle.i2c_top.specs.Callers.{left_in, scripts_in, AreReady, HasRunOfAny}
+use Rattle.i2c_top.specs.Runs.{AreOpened, cost_of_texts, texts_of}
+use Rattle.i2c_top.proofs.AtrRun.{atr_row, behind-covered, behind-ready, behind-run, section_by}
+use Rattle.i2c_top.proofs.AtrLemmas.{atr_done, atr_failed}
+use Rattle.i2c_top.proofs.CoreLemmas.{if-ok}
+use Rattle.i2c_top.proofs.FileLemmas.{passed_on}
+use Rattle.i2c_top.proofs.forms.atr.atr.Goals as goal
+
+pub returns-in_err-board-clause-refused : goal.returns-in_err-board-clause-refused
+returns-in_err-board-clause-refused g c =
+    passed_on c.from_residual.result c.in_err-board.field-0.0 _ c.from_residual.ensures.1 (c.in_err-board.ensures.refused _)
+
+pub run_callers-requires-clause-ready : goal.run_callers-requires-clause-ready
+run_callers-requires-clause-ready g c κs within =
+    let f = c.in_ok-board.field-0 in
+    let opened = subst (λ (b : BoardView). AreOpened b f.scripts.items) (sym c.in_ok-board.ensures.board) c.in_ok-board.ensures.opened in
+    subst (λ (cs : List AtrCallerView). AreReady atr_row c.lowered.result.now cs) (sym c.in_ok-callers.ensures)
+    (subst (λ (b : BoardView). AreReady atr_row b (map (behind_of f.map) f.scripts.items)) (sym c.lowered.ensures.value)
+    (behind-ready f.map f.scripts.items opened))
+
+pub run_callers-requires-clause-named : goal.run_callers-requires-clause-named
+run_callers-requires-clause-named g c κs within =
+    let f = c.in_ok-board.field-0 in
+    let count : length c.in_ok-callers.callers.items ≡ length f.scripts.items =
+    ap (λ (cs : List AtrCallerView). length cs) c.in_ok-callers.ensures ∙ length-map f.scripts.items (behind_of f.map) in
+    subst (λ (ws : List ℕ). All (λ n. n < length c.in_ok-callers.callers.items) ws) (sym c.as_slice-2.ensures.value)
+    (subst (λ (n : ℕ). All (λ c. c < n) f.words.items) (sym count) c.in_ok-board.ensures.named)
+
+pub run_callers-requires-clause-covered : goal.run_callers-requires-clause-covered
+run_callers-requires-clause-covered g c κs within =
+    let f = c.in_ok-board.field-0 in
+    let opened = subst (λ (b : BoardView). AreOpened b f.scripts.items) (sym c.in_ok-board.ensures.board) c.in_ok-board.ensures.opened in
+    let below = behind-covered f.map c.lowered.ensures.kept.plain c.lowered.ensures.kept.rules
+    c.scripts_behind_translators_are_fair.ensures.covered f.scripts.items opened in
+    let cost : c.limit_of-limit.result ≡ cost_of_texts f.map.board (texts_of f.scripts.items) =
+    c.limit_of-limit.ensures ∙ ap (λ (ss : List CallerView). cost_of_texts f.board (texts_of ss)) c.as_slice.ensures.value
+    ∙ ap (λ (b : BoardView). cost_of_texts b (texts_of f.scripts.items)) (sym c.in_ok-board.ensures.board) in
+    subst (λ (cs : List AtrCallerView). left_in atr_row cs ≤ c.limit_of-limit.result) (sym c.in_ok-callers.ensures) (omega (arith, below, cost))
+
+pub returns-clause-done : goal.returns-clause-done
+returns-clause-done g c =
+    let f = c.in_ok-board.field-0 in
+    let read = c.in_ok-board.ensures in
+    let run = c.run_callers.ensures in
+    let rig = c.run_callers.new.rig in
+    let logs = g.R.Rig.logs rig in
+    let states = g.R.Rig.states rig in
+    let counts = g.R.Rig.port_faults rig in
+    let opened = subst (λ (b : BoardView). AreOpened b f.scripts.items) (sym read.board) read.opened in
+    let callers = map (behind_of f.map) f.scripts.items in
+    atr_done _ _ _ _ _ f.board f.map (texts_of f.scripts.items) f.words.items read.read read.cheap c.read_files.ensures.kept run.plugs run.unplugged
+    c.run_callers.result (λ v. v) run.unplugs
+    (λ tells ports. if-ok
+    (λ text. HasRunOfAny atr_row.asked section_by (lowered f.map.board f.map.translators) (scripts_in atr_row callers) f.words.items text logs states counts)
+    (λ text. HasAtrRun f.map (texts_of f.scripts.items) f.words.items text logs states counts)
+    (λ text h. behind-run f.map f.scripts.items opened f.words.items text logs states counts h) c.run_callers.result
+    (subst (λ (ws : List ℕ). IfOk c.run_callers.result (λ text. HasRunOfAny atr_row.asked section_by (lowered f.map.board f.map.translators)
+    (scripts_in atr_row callers) ws text logs states counts)) c.as_slice-2.ensures.value
+    (subst (λ (cs : List AtrCallerView). IfOk c.run_callers.result (λ text. HasRunOfAny atr_row.asked section_by
+    (lowered f.map.board f.map.translators) (scripts_in atr_row cs) c.as_slice-2.result.now text logs states counts)) c.in_ok-callers.ensures
+    (subst (λ (b : BoardView). IfOk c.run_callers.result (λ text. HasRunOfAny atr_row.asked section_by b
+    (scripts_in atr_row c.in_ok-callers.callers.items) c.as_slice-2.result.now text logs states counts)) c.lowered.ensures.value
+    (run.run tells ports)))))
+
+pub returns-clause-refused : goal.returns-clause-refused
+returns-clause-refused g c =
+    let f = c.in_ok-board.field-0 in
+    let read = c.in_ok-board.ensures in
+    let run = c.run_callers.ensures in
+    atr_failed _ _ _ _ _ f.board f.map (texts_of f.scripts.items) f.words.items read.read read.cheap c.read_files.ensures.kept run.plugs run.unplugged
+    c.run_callers.result run.none run.once run.rig run.failed
