@@ -1,5 +1,6 @@
 //! The laws of whole runs: a replay is a function of its files and of which calls of its ports fail, a run is a replay of its own
-//! steps, and what either reports is verified. No code rests on it. It stands on public functions with an empty body, whose contracts are the law.
+//! steps, what either reports is verified, and one behind address translators is of the board as it is written. No code rests on it. It
+//! stands on public functions with an empty body, whose contracts are the law.
 //!
 //! Definitions: `specs/Alike.antt`, and those of `i2c_top`.
 #![tactic(auto)]
@@ -7,5 +8,6 @@
 mod runs;
 
 pub use runs::{
-    a_replay_has_one_report, a_run_is_a_replay_of_its_own_steps, what_a_run_reports_is_verified,
+    a_replay_has_one_report, a_run_behind_translators_is_one_of_the_board_as_written,
+    a_run_is_a_replay_of_its_own_steps, what_a_run_reports_is_verified,
 };

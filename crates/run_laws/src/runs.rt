@@ -1,19 +1,28 @@
 //! One report at most: what the files and the failures of the ports leave open of a run.
-ghost use Rattle.std.specs.Prelude.{◌≡◌, ℕ, List, Option, None, Some, length};
+ghost use Rattle.std.specs.Prelude.{◌≡◌, ℕ, List, Option, None, Some, length, reverse};
+ghost use Rattle.addr_atr.specs.Lowering.{IsMap};
+ghost use Rattle.addr_atr.specs.Maps.{MapView};
+ghost use Rattle.addr_atr.specs.Runs.{AsksBehind};
+ghost use Rattle.bus_spec.specs.Readings.{order};
 ghost use Rattle.i2c_base.specs.Board.{BoardView};
 ghost use Rattle.i2c_base.specs.declared.entry.Entry.{Entry};
 ghost use Rattle.i2c_base.specs.declared.port.PortCall.{PortCall};
 ghost use Rattle.i2c_gen.specs.declared.plan.Plan.{Plan};
+ghost use Rattle.i2c_spec.specs.History.{history};
+ghost use Rattle.i2c_spec.specs.Plain.{IsPlainBoard};
+ghost use Rattle.i2c_spec.specs.Rules.{MeetsRules};
 ghost use Rattle.i2c_spec.specs.Targets.{TargetState};
 ghost use Rattle.i2c_top.specs.Checked.{checked_on};
 ghost use Rattle.i2c_top.specs.Files.{Files};
-ghost use Rattle.i2c_top.specs.Runs.{HasRun, HasRunTold};
+ghost use Rattle.i2c_top.specs.Runs.{HasRun, HasRunTold, asks_by};
+ghost use Rattle.i2c_top.specs.forms.Atrs.{HasAtrRun};
 ghost use Rattle.i2c_top.specs.forms.Generations.{HasSummary};
 ghost use Rattle.i2c_top.specs.forms.Replays.{Names, HasReport};
 ghost use Rattle.i2c_top.specs.forms.Verifies.{HasVerdict};
 ghost use Rattle.journal_check.specs.Faults.{IsVerified};
 ghost use Rattle.run_laws.specs.Alike.{ComesToTheSame, FaultsAlike, IsTheReplay, beside, steps_of};
 
+use addr_atr::a_history_behind_translators_is_the_same;
 use caller_core::scripts_are_fair;
 use i2c_spec::an_accepted_board_is_a_tree;
 use journal_laws::{a_legal_journal_is_stepwise, a_schedule_has_one_legal_journal};
@@ -67,3 +76,17 @@ pub fn what_a_run_reports_is_verified()
         (counts : List ℕ) → (report : HasReport file names x logs states counts) → file journal ≡ Some x
         → HasVerdict file (beside names journal) (length report.run.journal) }
 {}
+
+/// A run behind address translators, of scripts that ask for paired addresses on child buses alone, is one of the board as it is written:
+/// its replies, and the devices left, are those that the flat world of that board gives to the scripts' own transfers, in the order of the
+/// run's settles and wherever each is cut off.
+///
+/// Of a script that asks for an address in no pair, or for another bus, it says nothing.
+pub fn a_run_behind_translators_is_one_of_the_board_as_written()
+    ensures { (m : MapView) (texts : List (List ℕ)) (words x : List ℕ) (logs : List (List PortCall)) (states : List TargetState)
+        (counts : List ℕ) → IsPlainBoard m.board → MeetsRules m.board → IsMap m.board m.translators
+        → AsksBehind m.board m.translators (asks_by m.board texts) → (run : HasAtrRun m texts words x logs states counts)
+        → (history m.board (asks_by m.board texts) (order (reverse run.journal)) ≡ Some run.is_run.told) × (states ≡ run.is_run.told.states) }
+{
+    a_history_behind_translators_is_the_same();
+}
