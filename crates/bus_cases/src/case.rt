@@ -253,9 +253,20 @@ impl Call {
         }
     }
 
-    /// The place of the first script among the words, of `run` or else of `replay`.
+    /// The place of the schedule among the words, of `atr` or else of `replay`.
+    pub fn schedule(&self) -> usize {
+        if self.word(0) == "atr" { 3 } else { 2 }
+    }
+
+    /// The place of the first script, of `run`, of `atr` or else of `replay`.
     pub fn first_script(&self) -> usize {
-        if self.word(0) == "run" { 2 } else { 3 }
+        if self.word(0) == "run" {
+            2
+        } else if self.word(0) == "atr" {
+            4
+        } else {
+            3
+        }
     }
 
     /// It was one of `run` or `replay`, and wrote a report to the end.

@@ -32,7 +32,8 @@ const DIGITS: u8 = 13;
 const MANY_CALLS: u32 = 1000;
 
 /// Two callers over a board: their call, whose words are `replay` and the names of the files of the board, of the schedule
-/// and of the two scripts, or `run` and those names without a schedule's; and what fails in it.
+/// and of the two scripts, `atr` and those names with a map's behind the board's, or `run` and those without a schedule's; and
+/// what fails in it.
 #[derive(Drop)]
 struct Race {
     board: Accepted,
@@ -176,7 +177,8 @@ impl Race {
         alloc: Global,
         number: u16,
     ) -> Option<()> {
-        put_schedule(self.files.get_mut(self.call.word(2))?, number)?;
+        let name = self.call.word(self.call.schedule());
+        put_schedule(self.files.get_mut(name)?, number)?;
         self.run(rt, alloc)
     }
 
@@ -263,14 +265,14 @@ impl Tally {
         }
     }
 
-    /// Asks `verify` of the report of a run, and counts whether it is verified.
+    /// Asks `verify` of the report of a run, but for one behind translators, and counts whether it is verified.
     fn verify<H: Threads + Wait + Sync>(
         &mut self,
         rt: &H,
         alloc: Global,
         race: &Race,
     ) -> Option<()> {
-        if race.is_verified(rt, alloc)? {
+        if race.call.has_reported() && race.is_verified(rt, alloc)? {
             self.verified = self.verified.saturating_add(1);
         }
         Some(())

@@ -19,9 +19,10 @@
 //! - `device N EVENT..`: prints what device N, as the rig kept it, answers to these events
 //! - `mute`: what the program's own output answers where what is behind it takes nothing
 //! - `entry LINE`: reads a line of a journal back, and prints the line of its entry, or that it tells none
-//! - `interleavings`: replays the two scripts of the last call by each schedule of 1 to 12 words, and by their own with each
-//!   call on the first port failing in turn; those by a schedule of 1 to 9 words over two wires too. `verify` is asked of the reports
-//!   of the latter and of those with a failing call. Prints of both, in a line, how many runs there were, how many of their
+//! - `interleavings`: replays the two scripts of the last call, also of one behind address translators, by each schedule of 1 to 12
+//!   words, and by their own with each call on the first port failing in turn; those by a schedule of 1 to 9 words over two wires too.
+//!   `verify` is asked of the reports of the latter and of those with a failing call, but of no report of `atr`. The flat world is that
+//!   of the board as it is written. Prints of both, in a line, how many runs there were, how many of their
 //!   journals are different, how many replies they have, how many of the runs aren't those of the flat world, or are another over
 //!   two wires, and how many of the reports are verified
 //! - `words WORD..`: the words of a call that isn't made yet, for those that follow
