@@ -1,4 +1,5 @@
 pub mod Asked
+pub mod Others
 pub mod Rooted
 pub mod Same
 pub mod Steps

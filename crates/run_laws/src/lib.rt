@@ -8,6 +8,7 @@
 mod runs;
 
 pub use runs::{
-    a_replay_has_one_report, a_run_behind_translators_is_one_of_the_board_as_written,
-    a_run_is_a_replay_of_its_own_steps, what_a_run_reports_is_verified,
+    a_replay_has_one_report, a_run_behind_translators_changes_no_other_device,
+    a_run_behind_translators_is_one_of_the_board_as_written, a_run_is_a_replay_of_its_own_steps,
+    what_a_run_reports_is_verified,
 };

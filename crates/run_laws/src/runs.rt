@@ -1,5 +1,5 @@
 //! One report at most: what the files and the failures of the ports leave open of a run.
-ghost use Rattle.std.specs.Prelude.{◌≡◌, ℕ, List, Option, None, Some, length, reverse};
+ghost use Rattle.std.specs.Prelude.{◌≡◌, ℕ, List, Option, None, Some, length, map, reverse, slice_get};
 ghost use Rattle.addr_atr.specs.Lowering.{IsMap};
 ghost use Rattle.addr_atr.specs.Maps.{MapView};
 ghost use Rattle.addr_atr.specs.Runs.{AsksBehind};
@@ -7,11 +7,14 @@ ghost use Rattle.bus_spec.specs.Readings.{order};
 ghost use Rattle.i2c_base.specs.Board.{BoardView};
 ghost use Rattle.i2c_base.specs.declared.entry.Entry.{Entry};
 ghost use Rattle.i2c_base.specs.declared.port.PortCall.{PortCall};
+ghost use Rattle.i2c_base.specs.declared.reply.Reply.{Reply};
+ghost use Rattle.i2c_base.specs.Transfer.{TransferView};
 ghost use Rattle.i2c_gen.specs.declared.plan.Plan.{Plan};
 ghost use Rattle.i2c_spec.specs.History.{history};
 ghost use Rattle.i2c_spec.specs.Plain.{IsPlainBoard};
 ghost use Rattle.i2c_spec.specs.Rules.{MeetsRules};
-ghost use Rattle.i2c_spec.specs.Targets.{TargetState};
+ghost use Rattle.i2c_spec.specs.Targets.{TargetState, opening_state};
+ghost use Rattle.i2c_spec.specs.Tree.{of_device};
 ghost use Rattle.i2c_top.specs.Checked.{checked_on};
 ghost use Rattle.i2c_top.specs.Files.{Files};
 ghost use Rattle.i2c_top.specs.Runs.{HasRun, HasRunTold, asks_by};
@@ -22,7 +25,10 @@ ghost use Rattle.i2c_top.specs.forms.Verifies.{HasVerdict};
 ghost use Rattle.journal_check.specs.Faults.{IsVerified};
 ghost use Rattle.run_laws.specs.Alike.{ComesToTheSame, FaultsAlike, IsTheReplay, beside, steps_of};
 
-use addr_atr::a_history_behind_translators_is_the_same;
+use addr_atr::{
+    a_history_behind_translators_is_the_same, a_lowered_board_opens_the_same,
+    a_translated_transfer_does_the_same,
+};
 use caller_core::scripts_are_fair;
 use i2c_spec::an_accepted_board_is_a_tree;
 use journal_laws::{a_legal_journal_is_stepwise, a_schedule_has_one_legal_journal};
@@ -89,4 +95,17 @@ pub fn a_run_behind_translators_is_one_of_the_board_as_written()
         → (history m.board (asks_by m.board texts) (order (reverse run.journal)) ≡ Some run.is_run.told) × (states ≡ run.is_run.told.states) }
 {
     a_history_behind_translators_is_the_same();
+}
+
+/// Such a run changes no device but those on the child buses that the scripts name: any other is left as it was opened.
+pub fn a_run_behind_translators_changes_no_other_device()
+    ensures { (m : MapView) (texts : List (List ℕ)) (words x : List ℕ) (logs : List (List PortCall)) (states : List TargetState)
+        (counts : List ℕ) → IsPlainBoard m.board → MeetsRules m.board → IsMap m.board m.translators
+        → AsksBehind m.board m.translators (asks_by m.board texts) → HasAtrRun m texts words x logs states counts → (d : ℕ)
+        → ((c : ℕ) (rs : List Reply) (t : TransferView) → asks_by m.board texts c rs ≡ Some t
+        → of_device (λ y. Some y.bus) None m.board d ≡ Some t.bus → ⊥)
+        → slice_get states d ≡ slice_get (map opening_state m.board.devices) d }
+{
+    a_translated_transfer_does_the_same();
+    a_lowered_board_opens_the_same();
 }
