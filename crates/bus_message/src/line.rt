@@ -7,6 +7,7 @@ use i2c_base::MuxId;
 use ports::Port;
 
 /// Sets the line of a gpio mux to a level: 0 closes it, level k opens channel k - 1. True where the port failed.
+#[inline(always)]
 pub fn shift_line<P: Port>(port: &mut P, mux: MuxId, level: u8) -> bool
     requires { (root : ℕ) → MayShift P.tells mux level (root_port P.Port (root, port.old)) }
     ensures shifted { (root : ℕ) → Shifted P.tells mux level result (root_port P.Port (root, port.old)) (root_port P.Port (root, port.new)) }

@@ -81,6 +81,7 @@ fn send_control<P: Port>(
 /// Sends the message of a walk that comes next over the port of its root: the next one of the caller's transfer, or a
 /// control message, which writes its byte to the chip of its mux, or reads one there. `bytes` gets of a write those that
 /// were acknowledged, of a read all that came.
+#[inline(always)]
 pub fn send_next<P: Port>(
     board: &CachedBoard<'_>,
     port: &mut P,
