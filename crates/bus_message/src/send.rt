@@ -39,6 +39,7 @@ fn chip_addr(board: &Board, mux: MuxId) -> Addr
 }
 
 // Sends a control message to the chip of a mux: it writes a byte, or reads one where there is none to write.
+#[inline(always)]
 fn send_control<P: Port>(
     board: &CachedBoard<'_>,
     port: &mut P,
