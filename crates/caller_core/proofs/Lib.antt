@@ -6,6 +6,7 @@ pub mod NameLemmas
 pub mod PlaceLemmas
 pub mod PlacedLemmas
 pub mod QuietLemmas
+pub mod ReachLemmas
 pub mod RootLemmas
 pub mod ScriptLemmas
 pub mod SectionLemmas

@@ -1,6 +1,7 @@
 pub mod Callers
 pub mod HandleRuns
 pub mod Kept
+pub mod Reach
 pub mod Roots
 pub mod Runs
 pub mod ScriptSteps

@@ -4,6 +4,7 @@ ghost use Rattle.std.specs.Prelude.{◌≡◌, ◌+◌, ◌≤◌, ◌^◌, ◌+
 ghost use Rattle.tools.specs.Dialogues.{AreReplies};
 ghost use Rattle.caller_core.specs.Runs.{dialogue_of};
 ghost use Rattle.caller_core.specs.Callers.{IsOpened, ScriptsAreFair};
+ghost use Rattle.caller_core.specs.Reach.{IsReachOf};
 ghost use Rattle.caller_core.specs.Roots.{HasRoots};
 ghost use Rattle.caller_core.specs.Sections.{SectionsHaveNoJournalLine};
 ghost use Rattle.caller_core.specs.View.{script_on};
@@ -11,8 +12,9 @@ ghost use Rattle.caller_core.specs.Scripts.{script_read, commands_of, cost_of_sc
 ghost use Rattle.caller_core.specs.Turns.{quiet_front};
 
 use crate::commands::Commands;
+use crate::reach::Reach;
 use crate::run::CommandRun;
-use crate::script::{ScriptFault, read_script};
+use crate::script::{ReadScript, ScriptFault, read_script};
 use crate::totals::{Totals, front_room, room_from, totals_of};
 use i2c_base::{Caller, Kind, NoMemory, ReplyHead, Transfer};
 use i2c_board::Accepted;
@@ -43,6 +45,7 @@ pub struct Script {
     text: Snapshot<Vec<u8>>,
     commands: Commands,
     totals: Totals,
+    reach: Reach,
     taken: Packed<ReplyHead>,
     printed: Text,
     /// There is room for all replies, and for what is printed of them.
@@ -58,13 +61,15 @@ impl Model for Script {
     ghost use Rattle.caller_core.specs.View.{CallerView};
     ghost use Rattle.std.specs.Prelude.{if◌then◌else◌};
     ghost use Rattle.caller_core.specs.Kept.{IsCaller, IsReady};
+    ghost use Rattle.caller_core.specs.Reach.{IsReachOf};
 
     ghost Value = { CallerView };
 
     ghost view = { λ s. record { script = record { board = s.board.value; text = s.text.value.items }; taken = replies_of s.taken.items; spare = record { replies = if s.is_ready then s.taken.room else 0; bytes = s.printed.room } } };
 
     ghost invariant = { λ s. IsCaller (record { board = s.board.value; text = s.text.value.items }) s.commands s.taken.items s.printed.bytes s.turn s.from s.place s.totals
-        × IsReady s.commands s.taken s.printed s.turn s.is_ready };
+        × IsReady s.commands s.taken s.printed s.turn s.is_ready
+        × IsReachOf (record { board = s.board.value; text = s.text.value.items }) s.reach };
 }
 
 impl Script {
@@ -76,7 +81,7 @@ impl Script {
         ensures read { OnOk result (script_read (script_on board.now text.items) ≡ Ok (commands_of (script_on board.now text.items))) }
         ensures fault { IfErr result (ScriptFaultIs (script_read (script_on board.now text.items))) }
     {
-        let commands = read_script(alloc, board, text.as_slice())?;
+        let ReadScript { commands, reach } = read_script(alloc, board, text.as_slice())?;
         let totals = totals_of(board, &commands);
         let taken = Packed::with_room(alloc, 0, 0)?;
         let mut printed = Text::new(alloc);
@@ -87,6 +92,7 @@ impl Script {
             text: Snapshot::of(&text),
             commands,
             totals,
+            reach,
             taken,
             printed,
             is_ready: false,
@@ -109,6 +115,13 @@ impl Script {
         ensures { HasRoots self.now.script.board (commands_of self.now.script) result }
     {
         self.totals.roots
+    }
+
+    /// What its lines may reach by force, and which devices they write.
+    pub fn reach(&self) -> &Reach
+        ensures { IsReachOf self.now.script result.now }
+    {
+        &self.reach
     }
 
     /// What it has printed: each command that is over, and its answer.

@@ -16,6 +16,7 @@ mod caller;
 mod commands;
 mod examples;
 mod handle;
+mod reach;
 mod run;
 mod script;
 mod totals;
@@ -26,5 +27,6 @@ pub use examples::{
     a_handle_is_asked_before_its_messages_are, rdwr_has_the_force_of_its_handle,
     replies_go_to_the_commands_in_turn,
 };
+pub use reach::Reach;
 pub use run::CommandRun;
 pub use script::ScriptFault;

@@ -5,11 +5,13 @@ ghost use Rattle.dev_handle.specs.Handles.{AreOnBoard};
 ghost use Rattle.tools.specs.Lines.{line_read};
 ghost use Rattle.tools.specs.Splits.{words_of, joined_words, lines_of};
 ghost use Rattle.tools.specs.Readers.{FaultIs};
+ghost use Rattle.caller_core.specs.Reach.{commands_in, HasReach, HasReachedOn};
 ghost use Rattle.caller_core.specs.Scripts.{text_read, at_most, ScriptFaultIs, fault_at};
 ghost use Rattle.caller_core.specs.ScriptSteps.{IsStep, IsRefused};
 ghost use Rattle.caller_core.specs.declared.script.ScriptFault.TheVariants.{Memory as NoRoomForScript};
 
 use crate::commands::Commands;
+use crate::reach::Reach;
 use crate::run::CommandRun;
 use dev_handle::Handles;
 use i2c_base::NoMemory;
@@ -99,32 +101,41 @@ fn keep_command(
     Ok(())
 }
 
+/// What is read of a text: its commands, and what its lines reach.
+#[derive(Drop)]
+pub struct ReadScript {
+    pub commands: Commands,
+    pub reach: Reach,
+}
+
 // Reads a further line, of this number.
-#[tactic(auto, using(crate::proofs::ScriptLemmas::is_step_some, crate::proofs::ScriptLemmas::is_step_none, crate::proofs::ScriptLemmas::is_refused))]
+#[tactic(auto, using(crate::proofs::ScriptLemmas::is_step_some, crate::proofs::ScriptLemmas::is_step_none, crate::proofs::ScriptLemmas::is_refused, crate::proofs::ReachLemmas::reached_none))]
 fn take_line<'a>(
     alloc: Global,
     words: &mut LineWords<'a>,
     echo: &mut Vec<u8>,
-    commands: &mut Commands,
+    read: &mut ReadScript,
     handles: &mut Handles,
     board: &Accepted,
     line: &'a [u8],
     number: u32,
 ) -> Result<(), ScriptFault>
-    requires few { length handles.old ≤ length commands.old }
+    requires few { length handles.old ≤ length read.old.commands }
     requires on_board { AreOnBoard board.now handles.old }
-    ensures ok { OnOk result (IsStep board.now number commands.old commands.new line.now handles.old handles.new) }
-    ensures err { IfErr result (IsRefused board.now number commands.old line.now handles.old) }
-    ensures few { OnOk result (length handles.new ≤ length commands.new) }
+    ensures ok { OnOk result (IsStep board.now number read.old.commands read.new.commands line.now handles.old handles.new) }
+    ensures reach { OnOk result (HasReachedOn board.now line.now read.old.reach read.new.reach) }
+    ensures err { IfErr result (IsRefused board.now number read.old.commands line.now handles.old) }
+    ensures few { OnOk result (length handles.new ≤ length read.new.commands) }
     ensures on_board { AreOnBoard board.now handles.new }
 {
     let limit = board.board().limit();
-    match read_behind(alloc, words, line, limit, commands.len()) {
+    match read_behind(alloc, words, line, limit, read.commands.len()) {
         Err(fault) => Err(fault_at(fault, number)),
         Ok(None) => Ok(()),
         Ok(Some(cmd)) => {
+            read.reach.mark(board.board(), &cmd);
             let run = CommandRun::open(alloc, board, handles, cmd)?;
-            keep_command(echo, commands, run, line, words.joined)
+            keep_command(echo, &mut read.commands, run, line, words.joined)
         }
     }
 }
@@ -146,13 +157,18 @@ fn most_commands(text: &[u8]) -> usize {
 }
 
 /// Reads the commands of a script over a board.
-pub fn read_script(alloc: Global, board: &Accepted, text: &[u8]) -> Result<Commands, ScriptFault>
+pub fn read_script(alloc: Global, board: &Accepted, text: &[u8]) -> Result<ReadScript, ScriptFault>
     requires { length text.now ≤ 2 ^ 28 }
-    ensures { MatchResult result (λ cs. text_read board.now text.now ≡ Ok cs) (ScriptFaultIs (text_read board.now text.now)) }
+    ensures commands { MatchResult result (λ x. text_read board.now text.now ≡ Ok x.commands) (ScriptFaultIs (text_read board.now text.now)) }
+    ensures reach { IfOk result (λ x. HasReach board.now (commands_in board.now text.now) x.reach) }
 {
     let mut words = LineWords::new(alloc);
     let mut echo = Vec::new(alloc);
-    let mut commands = Commands::with_room(alloc, most_commands(text))?;
+    let commands = Commands::with_room(alloc, most_commands(text))?;
+    let mut read = ReadScript {
+        commands,
+        reach: Reach::of_no_line(board.board()),
+    };
     let mut handles = Handles::new(alloc);
     let mut at = 0;
     let mut number = 0u32;
@@ -164,7 +180,7 @@ pub fn read_script(alloc: Global, board: &Accepted, text: &[u8]) -> Result<Comma
             alloc,
             &mut words,
             &mut echo,
-            &mut commands,
+            &mut read,
             &mut handles,
             board,
             line,
@@ -175,5 +191,5 @@ pub fn read_script(alloc: Global, board: &Accepted, text: &[u8]) -> Result<Comma
         }
         at += skip;
     }
-    Ok(commands)
+    Ok(read)
 }

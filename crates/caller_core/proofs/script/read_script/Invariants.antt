@@ -2,6 +2,7 @@ use Rattle.std.proofs.Common.{◌≡◌, ◌+◌, ◌-◌, ◌≤◌, length, dr
 use Rattle.dev_handle.specs.Handles.{AreOnBoard}
 use Rattle.tools.specs.Splits.{lines_of}
 use Rattle.caller_core.specs.Scripts.{text_read, lines_read, behind_commands}
+use Rattle.caller_core.proofs.ReachLemmas.{IsReachBefore}
 use Rattle.caller_core.proofs.script.read_script.Given as goal
 
 abbrev pub decreases-loop-at : goal.decreases-loop-at
@@ -12,8 +13,9 @@ invariant-loop-at l =
     record {
       within : l.at ≤ length l.text;
       count : l.number ≤ l.at;
-      same : behind_commands l.commands
-          (lines_read l.board (l.number + 1) (length l.commands) (lines_of (drop l.at l.text)) l.handles) ≡ text_read l.board l.text;
-      few : length l.handles ≤ length l.commands;
+      same : behind_commands l.read.commands
+          (lines_read l.board (l.number + 1) (length l.read.commands) (lines_of (drop l.at l.text)) l.handles) ≡ text_read l.board l.text;
+      few : length l.handles ≤ length l.read.commands;
+      reach : IsReachBefore l.board l.text l.at l.read.reach;
       on_board : AreOnBoard l.board l.handles;
     }

@@ -5,8 +5,10 @@ use Rattle.i2c_spec.specs.Cost.{cost_of}
 use Rattle.packed.specs.View.{PackedView}
 use Rattle.i2c_base.specs.declared.reply.ReplyHead.{ReplyHead}
 use Rattle.caller_core.specs.Kept.{IsCaller, KeptReply}
+use Rattle.caller_core.specs.declared.reach.Reach.{Reach}
 use Rattle.caller_core.specs.Turns.{sum_of, quiet_front, IsAt}
 use Rattle.caller_core.specs.Roots.{HasRoots}
+use Rattle.caller_core.specs.Reach.{commands_in, HasReach}
 use Rattle.caller_core.specs.Scripts.{commands_of, commands_or_none, text_read, quiet_text}
 use Rattle.caller_core.specs.View.{CommandView, ScriptView}
 use Rattle.caller_core.proofs.ScriptLemmas.{few_commands}
@@ -15,18 +17,19 @@ use Rattle.caller_core.proofs.caller.Script.open.Goals as goal
 
 pub totals_of-totals-requires : goal.totals_of-totals-requires
 totals_of-totals-requires c = record {
-  few = few_commands c.args.board.now c.as_slice.result.now c.in_ok-commands.commands c.in_ok-commands.ensures;
+  few = few_commands c.args.board.now c.as_slice.result.now c.in_ok-commands.field-0.commands c.in_ok-commands.ensures.commands;
 }
 
 pub invariant_of-result : goal.invariant_of-result
 invariant_of-result c =
     let script : ScriptView = record { board = c.of.result.value; text = c.of-2.result.value.items } in
-    let cs : List CommandView = c.in_ok-commands.commands in
+    let cs : List CommandView = c.in_ok-commands.field-0.commands in
+    let reach : Reach = c.in_ok-commands.field-0.reach in
     let totals = c.totals_of-totals in
     let quiet = c.push_quiet-turn in
     let read : script.text ≡ c.as_slice.result.now = ap (λ t. t.items) c.of-2.ensures ∙ sym c.as_slice.ensures.value in
     let whole : commands_of script ≡ cs = ap (λ (b : BoardView). commands_or_none (text_read b script.text)) c.of.ensures
-    ∙ ap (λ t. commands_or_none (text_read c.args.board.now t)) read ∙ ap commands_or_none c.in_ok-commands.ensures in
+    ∙ ap (λ t. commands_or_none (text_read c.args.board.now t)) read ∙ ap commands_or_none c.in_ok-commands.ensures.commands in
     let zero : 0 + quiet_front cs ≡ quiet_front cs = omega arith in
     let to : quiet.result ≡ quiet_front cs = quiet.ensures.behind ∙ zero in
     let none : c.in_ok-taken.taken.items ≡ [] = ap (λ (p : PackedView ReplyHead). p.items) c.in_ok-taken.ensures in (
@@ -46,4 +49,7 @@ invariant_of-result c =
             bytes_are = totals.ensures.bytes;
           }),
       record { room = λ yes. absurd cc; untaken = λ no. none },
+      subst (λ (b : BoardView). HasReach b (commands_in b script.text) reach) (sym c.of.ensures)
+          (subst (λ (t : List ℕ). HasReach c.args.board.now (commands_in c.args.board.now t) reach) (sym read)
+          c.in_ok-commands.ensures.reach),
     )

@@ -36,7 +36,7 @@ pub invariant_of-self-2 : goal.invariant_of-self-2
 invariant_of-self-2 c =
     let g = (goal.at.invariant_of-self-2 c).After-make_room in
     let text = within_some c.room_from.result _ _ c.in_ok-make_room.ensures.some c.room_from.ensures c.in_ok-make_room.ensures.ok in
-    (same g, record { room = λ yes. room g text; untaken = λ other. absurd cc })
+    (same g, record { room = λ yes. room g text; untaken = λ other. absurd cc }, c.self.invariant.2)
 
 pub returns-clause-ok : goal.returns-clause-ok
 returns-clause-ok c =

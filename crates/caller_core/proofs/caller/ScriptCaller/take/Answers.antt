@@ -150,6 +150,7 @@ invariant_of-self c =
       further g c.behind-place.result (c.behind-place.ensures c.args.bytes.now)
           (omega (arith, c.if-place-places.true, c.places.ensures.value)),
       record { room = λ yes. further_room g; untaken = still g },
+      c.self.invariant.2,
     )
 
 pub invariant_of-self-else-place-places : goal.invariant_of-self-else-place-places
@@ -176,6 +177,7 @@ invariant_of-self-else-place-places c =
             ));
         untaken = still g;
       },
+      c.self.invariant.2,
     )
 
 pub returns-then-place-places-clause-room : goal.returns-then-place-places-clause-room

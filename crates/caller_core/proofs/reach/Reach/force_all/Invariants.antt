@@ -1,0 +1,11 @@
+use Rattle.std.proofs.Common.{◌≡◌, ◌==◌, take}
+use Rattle.std.specs.List.{list_any}
+use Rattle.caller_core.specs.Reach.{addrs_of, AreMarked}
+use Rattle.caller_core.proofs.reach.Reach.force_all.Given as goal
+
+abbrev pub invariant-loop-message : goal.invariant-loop-message
+invariant-loop-message l =
+    record {
+      forced : AreMarked (λ addr. list_any (λ a. a == addr) (addrs_of (take l.message-index l.messages))) l.fn.self.forced l.self.forced;
+      written : l.self.written ≡ l.fn.self.written;
+    }
