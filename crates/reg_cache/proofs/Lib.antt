@@ -1,0 +1,7 @@
+pub mod CacheLemmas
+pub mod DriverLemmas
+pub mod TouchLemmas
+pub mod TextLemmas
+pub mod LineLemmas
+pub mod ScriptLemmas
+pub mod ReachLemmas

@@ -1,0 +1,6 @@
+use Rattle.std.proofs.Common.{◌≡◌, drop}
+use Rattle.cache_laws.specs.Cache.{pair_at}
+use Rattle.reg_cache.proofs.known.pair_at.Given as goal
+
+abbrev pub invariant-loop-device : goal.invariant-loop-device
+invariant-loop-device l = pair_at (drop l.device-index l.kept) l.access ≡ pair_at l.kept l.access
