@@ -1,8 +1,7 @@
 -- What the words ask for, by the tests of the forms.
 use Rattle.std.proofs.Common.{◌≡◌, ℕ, Bool, true, false, if◌then◌else◌, List, Some, refl}
-use Rattle.i2c_top.specs.forms.{request_in, or_clear, Verify}
+use Rattle.i2c_top.specs.forms.{request_in, Verify}
 use Rattle.i2c_top.specs.forms.Checks.{is_check}
-use Rattle.i2c_top.specs.forms.Generations.{plan_in}
 use Rattle.i2c_top.specs.forms.Replays.{is_replay, is_run}
 use Rattle.i2c_top.specs.forms.Verifies.{is_verify, verify_names}
 

@@ -9,9 +9,9 @@ use Rattle.ports.specs.Causes.{Rose, counted}
 use Rattle.i2c_top.specs.Endings.{CameToSuccess, CameToRefusal, HasEndedAs}
 use Rattle.i2c_top.specs.Readings.{AreNamed, HasRead, IsOrderIn, IsFileRefusal}
 use Rattle.i2c_top.specs.Files.{Files}
-use Rattle.i2c_top.specs.Form.{KeepsShelf, KeepsSkipped}
+use Rattle.i2c_top.specs.Form.{Form, KeepsShelf, KeepsSkipped}
 use Rattle.i2c_top.specs.Scripts.{texts_in}
-use Rattle.i2c_top.specs.forms.Replays.{Names, HasFiles, HasReport, HasReplayed, replay_form}
+use Rattle.i2c_top.specs.forms.Replays.{Names, HasFiles, HasReport, HasReplayed, reading_form, replay_form}
 use Rattle.i2c_top.specs.Runs.{HasRun, cost_of_texts, MOST_COST}
 use Rattle.i2c_top.specs.Traces.{ShelfView, RigView, Outside, IsAtMostOnce}
 use Rattle.i2c_top.specs.declared.status.Status.{Status}
@@ -54,40 +54,44 @@ pub named_all : (callers : ℕ) (words : Option (List ℕ)) → AreNamed callers
 named_all callers None named = λ k d low. absurd (omega (arith, low))
 named_all callers (Some words) named = named
 
-read_order : (file : Files) (schedule : Option (List ℕ)) (callers : ℕ) (words : Option (List ℕ)) → IsSome schedule
+pub read_order : (file : Files) (schedule : Option (List ℕ)) (callers : ℕ) (words : Option (List ℕ)) → IsSome schedule
     → IsOrderIn file schedule callers words → Some (unwrap_or words []) ≡ words
 read_order file None callers words some is = absurd (false≢true some)
 read_order file (Some name) callers words some is = ap (λ (ws : Option (List ℕ)). Some (unwrap_or ws [])) is.same ∙ sym is.same
 
--- files that were refused are a refusal of the form; the rig is not plugged yet
-module _ (names : Names) (shelf shelf_now : ShelfView) (rig : RigView) where
-  pub files_refused : (s : Status) → KeepsShelf (replay_form names) shelf shelf_now
-      → KeepsSkipped (replay_form names) shelf.faults shelf_now.faults s
+-- files that were refused are a refusal of each form that reads them; the rig is not plugged yet
+module _ (names : Names) (answer : Files → RigView → List ℕ → Type 0) (leaves : RigView → List ℕ → Type 0) (shelf shelf_now : ShelfView)
+    (rig : RigView) where
+  abbrev form : Form
+  form = reading_form names answer leaves
+
+  pub files_refused : (s : Status) → KeepsShelf form shelf shelf_now
+      → KeepsSkipped form shelf.faults shelf_now.faults s
       → IsFileRefusal shelf.tells shelf.file names shelf.faults shelf_now.faults s
-      → CameToRefusal (replay_form names) shelf shelf_now rig rig s
+      → CameToRefusal form shelf shelf_now rig rig s
   files_refused status.Memory kept skipped h =
-      memory_wanting (replay_form names) shelf shelf_now rig rig (inl (record { plugs = refl; unplugs = refl })) kept
-  files_refused (status.Read place) kept skipped h = file_unread (replay_form names) shelf shelf_now rig place h.1 h.0 skipped kept
+      memory_wanting form shelf shelf_now rig rig (inl (record { plugs = refl; unplugs = refl })) kept
+  files_refused (status.Read place) kept skipped h = file_unread form shelf shelf_now rig place h.1 h.0 skipped kept
   files_refused (status.Board why) kept skipped h =
-      text_refused (replay_form names) shelf shelf_now rig (status.Board why) refl h
+      text_refused form shelf shelf_now rig (status.Board why) refl h
       (record {
         cost = λ cost e. absurd (let k : status.Board why ≡ status.Cost cost = e in cc);
         schedule = λ word e. absurd (let k : status.Board why ≡ status.Schedule word = e in cc);
       }) skipped kept
   files_refused (status.Script caller line word) kept skipped h =
-      text_refused (replay_form names) shelf shelf_now rig (status.Script caller line word) refl h
+      text_refused form shelf shelf_now rig (status.Script caller line word) refl h
       (record {
         cost = λ cost e. absurd (let k : status.Script caller line word ≡ status.Cost cost = e in cc);
         schedule = λ other e. absurd (let k : status.Script caller line word ≡ status.Schedule other = e in cc);
       }) skipped kept
   files_refused (status.Schedule word) kept skipped h =
-      text_refused (replay_form names) shelf shelf_now rig (status.Schedule word) refl h.1
+      text_refused form shelf shelf_now rig (status.Schedule word) refl h.1
       (record {
         cost = λ cost e. absurd (let k : status.Schedule word ≡ status.Cost cost = e in cc);
         schedule = λ other e. h.0;
       }) skipped kept
   files_refused (status.Cost cost) kept skipped h =
-      text_refused (replay_form names) shelf shelf_now rig (status.Cost cost) refl h.1
+      text_refused form shelf shelf_now rig (status.Cost cost) refl h.1
       (record {
         cost = λ other e. subst (λ n. MOST_COST < n) (let k : status.Cost cost ≡ status.Cost other = e in cc) h.0;
         schedule = λ word e. absurd (let k : status.Cost cost ≡ status.Schedule word = e in cc);
@@ -140,13 +144,19 @@ module _ (names : Names) (shelf shelf_now : ShelfView) (rig rig_now : RigView) (
       run_done r bytes_of None
       (λ t. sym (unread_order shelf.file names.schedule (length names.scripts) words free (read t).order_in)) unplugs run
 
-  -- one that failed is a refusal of it
+-- one that failed is a refusal of each form that runs it
+module _ (names : Names) (answer : Files → RigView → List ℕ → Type 0) (leaves : RigView → List ℕ → Type 0) (shelf shelf_now : ShelfView)
+    (rig rig_now : RigView) (b : BoardView) (texts : List (List ℕ)) (words : Option (List ℕ))
+    (read : IsTrue shelf.tells → HasRead shelf.file names b texts words) (cheap : cost_of_texts b texts ≤ MOST_COST)
+    (kept : KeepsShelf (reading_form names answer leaves) shelf shelf_now) (plugs : rig_now.plugs ≡ counted rig.plugs)
+    (unplugged : rig_now.plugged ≡ false) where
   pub run_failed : {X : Type 0} (r : Result X Status) → (r ≡ Err status.Rig → rig_now.unplugs ≡ rig.unplugs)
       → IsAtMostOnce rig.unplugs rig_now.unplugs
       → (r ≡ Err status.Rig → Rose rig.faults rig_now.faults) → IfErr r (λ e. (e ≡ status.Rig) ⊎ (e ≡ status.Memory))
-      → IfErr r (CameToRefusal (replay_form names) shelf shelf_now rig rig_now)
+      → IfErr r (CameToRefusal (reading_form names answer leaves) shelf shelf_now rig rig_now)
   run_failed r unplugs once rose failed =
-      run_refused (replay_form names) shelf shelf_now rig rig_now r refl files kept plugs unplugged unplugs once rose failed
+      run_refused (reading_form names answer leaves) shelf shelf_now rig rig_now r refl
+      (λ t. has_files shelf.file names b texts words (read t) cheap) kept plugs unplugged unplugs once rose failed
 
 -- a success was the report
 pub ended_replayed : (names : Names) (old new : Outside) (result : Status) → HasEndedAs (replay_form names) old new result

@@ -11,12 +11,14 @@ use Rattle.i2c_top.specs.declared.status.Status.TheVariants as status
 use Rattle.i2c_gen.specs.declared.plan.Plan.{Plan}
 use Rattle.i2c_top.specs.declared.forms.clear.ClearAt.{ClearAt}
 use Rattle.i2c_top.specs.forms.Atrs.{AtrNames, is_atr, atr_names, atr_form}
+use Rattle.i2c_top.specs.forms.Caches.{is_cached, cached_form}
 use Rattle.i2c_top.specs.forms.Checks.{is_check, check_form}
 use Rattle.i2c_top.specs.forms.Clears.{clear_in, clear_form}
 use Rattle.i2c_top.specs.forms.Generations.{plan_in, gen_form}
 use Rattle.i2c_top.specs.forms.Replays.{Names, is_replay, is_run, replay_names, run_names, replay_form}
 use Rattle.i2c_top.specs.forms.Verifies.{VerifyNames, is_verify, verify_names, verify_form}
 pub mod Atrs
+pub mod Caches
 pub mod Checks
 pub mod Clears
 pub mod Generations
@@ -25,13 +27,14 @@ pub mod Verifies
 
 -- to replay 1 to 8 scripts over a board, by the names of the files, or to run them, which is a replay without a schedule; to
 -- check the board of a file; to replay what is generated; to verify the journal of a file; to replay scripts behind address translators; to
--- cut a read off on a board, and clear its bus
+-- replay them with a register cache; to cut a read off on a board, and clear its bus
 pub data Request : Type 0 where
   Replay : (names : Names) → Request
   Check : (board : List ℕ) → Request
   Generate : (plan : Plan) → Request
   Verify : (names : VerifyNames) → Request
   Atr : (names : AtrNames) → Request
+  Cached : (names : Names) → Request
   Clear : (board : List ℕ) (at : ClearAt) → Request
 
 -- the row of each
@@ -41,6 +44,7 @@ form_of (Check board) = check_form board
 form_of (Generate plan) = gen_form plan
 form_of (Verify names) = verify_form names
 form_of (Atr names) = atr_form names
+form_of (Cached names) = cached_form names
 form_of (Clear board at) = clear_form board at
 
 -- where the words are no plan: a read that is cut off
@@ -55,11 +59,12 @@ request_in words =
     else if is_run words then Some (Replay (run_names words))
     else if is_check words then Some (Check (word_at words 1))
     else if is_verify words then Some (Verify (verify_names words))
-    else if is_atr words then Some (Atr (atr_names words)) else or_clear (plan_in words) words
+    else if is_atr words then Some (Atr (atr_names words))
+    else if is_cached words then Some (Cached (replay_names words)) else or_clear (plan_in words) words
 
 -- the line on usage
 abbrev pub usage_text : List ℕ
-usage_text = codes "usage: i2cbus run BOARD SCRIPT... | replay BOARD SCHEDULE SCRIPT... | check BOARD | gen SEED ROOTS LINES | verify BOARD JOURNAL SCRIPT... | atr BOARD MAP SCHEDULE SCRIPT... | clear BOARD BUS ADDR CUT\n"
+usage_text = codes "usage: i2cbus run BOARD SCRIPT... | replay BOARD SCHEDULE SCRIPT... | check BOARD | gen SEED ROOTS LINES | verify BOARD JOURNAL SCRIPT... | atr BOARD MAP SCHEDULE SCRIPT... | cached BOARD SCHEDULE SCRIPT... | clear BOARD BUS ADDR CUT\n"
 
 -- words in no form are turned down by the line on usage, or a front of it where the output failed; nothing is read or plugged
 pub record IsTurnedDown (old new : Outside) (result : Status) : Type 0 where

@@ -1,5 +1,5 @@
 //! The files of a call, read in order: the board, the scripts, the schedule.
-ghost use Rattle.std.specs.Prelude.{◌≡◌, ◌≢◌, ℕ, ◌+◌, ◌<◌, ◌≤◌, ◌^◌, ◌⊎◌, List, length, map, Some, Ok, Err, slice_get, string_bytes, All, OnOk, IfOk, IfErr, IsTrue};
+ghost use Rattle.std.specs.Prelude.{◌≡◌, ◌≢◌, ℕ, ◌+◌, ◌<◌, ◌≤◌, ◌^◌, ◌⊎◌, List, length, map, Some, Ok, Err, slice_get, string_bytes, All, [], unwrap_or, OnOk, IfOk, IfErr, IsTrue};
 ghost use Rattle.std.specs.Option.{option_map};
 ghost use Rattle.i2c_base.specs.Limits.{MOST_CALLERS};
 ghost use Rattle.i2c_boardtext.specs.BoardText.{board_of};
@@ -230,6 +230,16 @@ fn order_in<S: Shelf>(
     match schedule {
         None => Ok(None),
         Some(name) => Ok(Some(schedule_in(alloc, shelf, SCHEDULE, callers, name)?)),
+    }
+}
+
+/// The callers that a schedule names; without one there are none.
+pub fn listed(alloc: Global, words: Option<Vec<u8>>) -> Vec<u8>
+    ensures { result.items ≡ unwrap_or (option_map (λ v. v.items) words) [] }
+{
+    match words {
+        None => Vec::new(alloc),
+        Some(words) => words,
     }
 }
 

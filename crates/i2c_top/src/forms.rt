@@ -6,6 +6,7 @@ ghost use Rattle.i2c_top.specs.Traces.{outside, output_view};
 ghost use Rattle.i2c_top.specs.declared.status.Status.TheVariants as status;
 
 mod atr;
+mod cached;
 mod check;
 mod clear;
 mod generate;
@@ -16,6 +17,8 @@ use crate::Status;
 use crate::ending::write_due;
 pub use atr::atr_call;
 use atr::is_atr;
+pub use cached::cached_call;
+use cached::is_cached;
 pub use check::check_call;
 use check::is_check;
 use clear::clear_in;
@@ -32,7 +35,7 @@ use verify::is_verify;
 pub use verify::verify_call;
 
 const USAGE: &[u8] =
-    b"usage: i2cbus run BOARD SCRIPT... | replay BOARD SCHEDULE SCRIPT... | check BOARD | gen SEED ROOTS LINES | verify BOARD JOURNAL SCRIPT... | atr BOARD MAP SCHEDULE SCRIPT... | clear BOARD BUS ADDR CUT\n";
+    b"usage: i2cbus run BOARD SCRIPT... | replay BOARD SCHEDULE SCRIPT... | check BOARD | gen SEED ROOTS LINES | verify BOARD JOURNAL SCRIPT... | atr BOARD MAP SCHEDULE SCRIPT... | cached BOARD SCHEDULE SCRIPT... | clear BOARD BUS ADDR CUT\n";
 
 // Writes the line on usage.
 fn turn_down<K: Sink>(sink: &mut K) -> Status
@@ -67,6 +70,8 @@ pub fn answer<H: Threads + Wait + Sync, S: Shelf, K: Sink, R: Rig, G: Gate + Syn
         verify_call(alloc, words, shelf, sink)
     } else if is_atr(words) {
         atr_call(alloc, words, shelf, sink, rig)
+    } else if is_cached(words) {
+        cached_call(alloc, words, shelf, sink, rig)
     } else if let Some(plan) = plan_in(words) {
         gen_call(alloc, &plan, sink, rig)
     } else if let Some(at) = clear_in(words) {

@@ -1,5 +1,6 @@
 //! The names of the files of a replay, taken from the words.
 ghost use Rattle.std.specs.Prelude.{◌≡◌, true, map, string_bytes};
+ghost use Rattle.i2c_top.specs.forms.Caches.{is_cached};
 ghost use Rattle.i2c_top.specs.forms.Replays.{first_script, is_replay, is_run, names_told, replay_names, run_names, ArePlaced};
 
 use crate::words::{BOARD, word_at, words_from};
@@ -24,6 +25,19 @@ impl<'a> ReplayNames<'a> {
     /// Those among the words of a replay.
     pub fn of_replay(words: &'a [String]) -> Self
         requires { is_replay (map string_bytes words.now) ≡ true }
+        ensures value { names_told result ≡ replay_names (map string_bytes words.now) }
+        ensures placed { ArePlaced (map string_bytes words.now) (names_told result) }
+    {
+        ReplayNames {
+            board: word_at(words, BOARD as usize),
+            schedule: Some(word_at(words, SCHEDULE as usize)),
+            scripts: words_from(words, SCRIPT_OF_REPLAY as usize),
+        }
+    }
+
+    /// Those among the words of a replay with register caches, which stand at the same places.
+    pub fn of_cached(words: &'a [String]) -> Self
+        requires { is_cached (map string_bytes words.now) ≡ true }
         ensures value { names_told result ≡ replay_names (map string_bytes words.now) }
         ensures placed { ArePlaced (map string_bytes words.now) (names_told result) }
     {

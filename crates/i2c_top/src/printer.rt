@@ -5,6 +5,7 @@ ghost use Rattle.i2c_base.specs.declared.reply.Reply.{Reply};
 use addr_atr::AtrCaller;
 use caller_core::Script;
 use i2c_base::Caller;
+use reg_cache::CachedCaller;
 
 /// A caller that prints what came of its transfers: a section of the report.
 pub trait Printer: Caller {
@@ -34,5 +35,18 @@ impl<'m> Printer for AtrCaller<'m> {
 
     fn text(&self) -> &[u8] {
         Script::text(self.script())
+    }
+}
+
+/// Its section has all replies, hits included.
+impl Printer for CachedCaller {
+    ghost use Rattle.caller_core.specs.Scripts.{commands_of, section_text};
+    ghost use Rattle.cache_laws.specs.Cache.{answered};
+    ghost use Rattle.reg_cache.specs.Cached.{cached};
+
+    ghost printed = { λ s rs. section_text (commands_of s.script) (answered (cached s) rs) };
+
+    fn text(&self) -> &[u8] {
+        CachedCaller::text(self)
     }
 }

@@ -1,8 +1,9 @@
 //! `top`: what the program does with the words of its command line.
 ghost use Rattle.std.specs.Prelude.{◌≡◌, ℕ, List, Some, map, string_bytes, IsTrue};
 ghost use Rattle.i2c_gen.specs.declared.plan.Plan.{Plan};
-ghost use Rattle.i2c_top.specs.forms.{Replay, Check, Generate, Verify, Atr, Clear, request_in, HasEnded, UsesRig};
+ghost use Rattle.i2c_top.specs.forms.{Replay, Check, Generate, Verify, Atr, Cached, Clear, request_in, HasEnded, UsesRig};
 ghost use Rattle.i2c_top.specs.forms.Atrs.{AtrNames, HasTranslated};
+ghost use Rattle.i2c_top.specs.forms.Caches.{HasCached};
 ghost use Rattle.i2c_top.specs.forms.Checks.{HasChecked};
 ghost use Rattle.i2c_top.specs.forms.Clears.{HasCleared};
 ghost use Rattle.i2c_top.specs.forms.Generations.{HasGenerated};
@@ -41,7 +42,7 @@ pub fn top<H: Threads + Wait + Sync, S: Shelf, K: Sink, R: Rig, G: Gate + Sync>(
     ensures unplugged { (UsesRig (request_in (map string_bytes words.now)) → ⊥) → rig.new ≡ rig.old }
 
     // What a success wrote, as its form has it: the report of a run that is legal, complete and followed by the flat world; the
-    // line of a board; the summary of a generated run; the report of a run behind address translators.
+    // line of a board; the summary of a generated run; the report of a run behind address translators, or with register caches.
     ensures success { IsTrue S.tells → IsTrue K.tells → IsTrue R.tells → IsTrue R.P.tells
         → (names : Names) → request_in (map string_bytes words.now) ≡ Some (Replay names) → result ≡ status.Ok
         → HasReplayed (S.file shelf.old) names (K.bytes sink.old) (K.bytes sink.new) (R.logs rig.new) (R.states rig.new) (R.port_faults rig.new) }
@@ -57,6 +58,9 @@ pub fn top<H: Threads + Wait + Sync, S: Shelf, K: Sink, R: Rig, G: Gate + Sync>(
     ensures translated { IsTrue S.tells → IsTrue K.tells → IsTrue R.tells → IsTrue R.P.tells
         → (names : AtrNames) → request_in (map string_bytes words.now) ≡ Some (Atr names) → result ≡ status.Ok
         → HasTranslated (S.file shelf.old) names (K.bytes sink.old) (K.bytes sink.new) (R.logs rig.new) (R.states rig.new) (R.port_faults rig.new) }
+    ensures cached { IsTrue S.tells → IsTrue K.tells → IsTrue R.tells → IsTrue R.P.tells
+        → (names : Names) → request_in (map string_bytes words.now) ≡ Some (Cached names) → result ≡ status.Ok
+        → HasCached (S.file shelf.old) names (K.bytes sink.old) (K.bytes sink.new) (R.logs rig.new) (R.states rig.new) (R.port_faults rig.new) }
     ensures cleared { IsTrue S.tells → IsTrue K.tells
         → (board : List ℕ) (at : ClearAt) → request_in (map string_bytes words.now) ≡ Some (Clear board at) → result ≡ status.Ok
         → HasCleared (S.file shelf.old) board at (K.bytes sink.old) (K.bytes sink.new) }

@@ -14,6 +14,7 @@ use Rattle.i2c_top.specs.Form.{Form}
 use Rattle.i2c_top.specs.Names.{are_names, AreNamesFrom}
 use Rattle.i2c_top.specs.Runs.{cost_of_texts, MOST_COST, HasRun, HasSomeRun}
 use Rattle.i2c_top.specs.Scripts.{script_name, HasBadScript, HasScripts, texts_in, HasOrder, HasBadOrder, words_in}
+use Rattle.i2c_top.specs.Traces.{RigView}
 use Rattle.i2c_top.specs.declared.names.ReplayNames.{ReplayNames}
 use Rattle.i2c_top.specs.declared.status.Status.{Status}
 use Rattle.i2c_top.specs.declared.status.Status.TheVariants as status
@@ -163,16 +164,22 @@ pub record HasReplayed (file : Files) (names : Names) (before now : List ℕ) (l
   pub report : HasReport file names bytes logs states counts
   pub written : now ≡ before ++ bytes
 
--- THE ROW, of both: it reads the board, the scripts and the schedule, where there is one; it plugs the rig, and a success
--- writes the report of a run over it, which is some run whatever the files are
-abbrev pub replay_form : Names → Form
-replay_form names = record {
+-- the row of a form that reads the board, the scripts and the schedule, where there is one, and plugs the rig; a success writes this
+-- answer, of which this is so whatever the files are
+abbrev pub reading_form : Names → (Files → RigView → List ℕ → Type 0) → (RigView → List ℕ → Type 0) → Form
+reading_form names answer leaves = record {
   reads = IsPlaceIn names;
   turn = λ file place. IsReadInTurn file names place;
   skips = IsSkipped names.schedule;
   refuses = IsReplayRefusal names;
   cause = λ file s. IsReplayCause file names s;
   plugs = true;
-  answer = λ file rig text. IsTrue rig.tells → IsTrue rig.ports_tell → HasReport file names text rig.logs rig.states rig.counts;
-  leaves = λ rig text. IsTrue rig.tells → IsTrue rig.ports_tell → HasSomeRun text rig.logs rig.states rig.counts;
+  answer = answer;
+  leaves = leaves;
 }
+
+-- THE ROW, of both: a success writes the report of a run over the rig, which is some run whatever the files are
+abbrev pub replay_form : Names → Form
+replay_form names = reading_form names
+    (λ file rig text. IsTrue rig.tells → IsTrue rig.ports_tell → HasReport file names text rig.logs rig.states rig.counts)
+    (λ rig text. IsTrue rig.tells → IsTrue rig.ports_tell → HasSomeRun text rig.logs rig.states rig.counts)

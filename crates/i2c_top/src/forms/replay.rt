@@ -1,6 +1,5 @@
 //! The forms `replay BOARD SCHEDULE SCRIPT...` and `run BOARD SCRIPT...`: scripts over a board, and their report.
-ghost use Rattle.std.specs.Prelude.{◌≡◌, true, [], None, map, unwrap_or, string_bytes, IfOk, IfErr, IsSome, IsTrue};
-ghost use Rattle.std.specs.Option.{option_map};
+ghost use Rattle.std.specs.Prelude.{◌≡◌, true, None, map, string_bytes, IfOk, IfErr, IsSome, IsTrue};
 ghost use Rattle.i2c_top.specs.Endings.{CameToSuccess, CameToRefusal, HasEndedAs};
 ghost use Rattle.i2c_top.specs.Traces.{shelf_view, rig_view, outside};
 ghost use Rattle.i2c_top.specs.forms.Replays.{is_replay, is_run, replay_names, run_names, replay_form, names_told, ArePlaced, HasReplayed};
@@ -8,7 +7,7 @@ ghost use Rattle.i2c_top.specs.declared.status.Status.TheVariants as status;
 
 use crate::Status;
 use crate::ending::write_outcome;
-use crate::files::{ReplayFiles, read_files};
+use crate::files::{ReplayFiles, listed, read_files};
 use crate::names::{ReplayNames, SCRIPT_OF_REPLAY, SCRIPT_OF_RUN};
 use crate::run::{run_at_once, run_scripts};
 use crate::text::Text;
@@ -37,16 +36,6 @@ pub fn is_run(words: &[String]) -> bool
         && words.len() <= SCRIPT_OF_RUN as usize + MOST_CALLERS as usize
         && word_at(words, 0) == "run"
         && are_names(words)
-}
-
-// The callers that a schedule names; without one there are none.
-fn listed(alloc: Global, words: Option<Vec<u8>>) -> Vec<u8>
-    ensures { result.items ≡ unwrap_or (option_map (λ v. v.items) words) [] }
-{
-    match words {
-        None => Vec::new(alloc),
-        Some(words) => words,
-    }
 }
 
 // Reads the files and runs the scripts by the schedule: the report, or the refusal.

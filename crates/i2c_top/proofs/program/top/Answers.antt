@@ -2,6 +2,7 @@ use Rattle.std.proofs.Common.{subst}
 use Rattle.i2c_top.specs.Traces.{outside}
 use Rattle.i2c_top.specs.forms.{HasEnded}
 use Rattle.i2c_top.proofs.AtrLemmas.{ended_translated}
+use Rattle.i2c_top.proofs.CachedLemmas.{ended_cached}
 use Rattle.i2c_top.proofs.CheckLemmas.{ended_checked}
 use Rattle.i2c_top.proofs.ClearLemmas.{ended_cleared}
 use Rattle.i2c_top.proofs.GenerationLemmas.{ended_generated}
@@ -45,6 +46,14 @@ returns-clause-translated g c =
     let new = outside g.S.Shelf g.K.Sink g.R.Rig g.R.P.Port.tells c.answer.new.shelf c.answer.new.sink c.answer.new.rig in
     λ shelf sink rig ports names same ok.
     ended_translated names old new c.answer.result
+    (subst (λ q. HasEnded q old new c.answer.result) same c.answer.ensures.ended) shelf sink rig ports ok
+
+pub returns-clause-cached : goal.returns-clause-cached
+returns-clause-cached g c =
+    let old = outside g.S.Shelf g.K.Sink g.R.Rig g.R.P.Port.tells c.args.shelf.now c.args.sink.now c.args.rig.now in
+    let new = outside g.S.Shelf g.K.Sink g.R.Rig g.R.P.Port.tells c.answer.new.shelf c.answer.new.sink c.answer.new.rig in
+    λ shelf sink rig ports names same ok.
+    ended_cached names old new c.answer.result
     (subst (λ q. HasEnded q old new c.answer.result) same c.answer.ensures.ended) shelf sink rig ports ok
 
 pub returns-clause-cleared : goal.returns-clause-cleared

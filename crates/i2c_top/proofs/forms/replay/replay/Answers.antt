@@ -28,5 +28,5 @@ pub returns-clause-refused : goal.returns-clause-refused
 returns-clause-refused g c =
     let read = c.in_ok-board.ensures in
     let run = c.run_scripts.ensures in
-    run_failed _ _ _ _ _ _ _ _ read.read read.cheap c.read_files.ensures.kept run.plugs run.unplugged c.run_scripts.result
+    run_failed _ _ _ _ _ _ _ _ _ _ read.read read.cheap c.read_files.ensures.kept run.plugs run.unplugged c.run_scripts.result
     run.none run.once run.rig run.failed

@@ -12,5 +12,5 @@ pub returns-clause-refused : goal.returns-clause-refused
 returns-clause-refused g c =
     let read = c.in_ok-board.ensures in
     let run = c.run_at_once.ensures in
-    run_failed _ _ _ _ _ _ _ _ read.read read.cheap c.read_files.ensures.kept run.plugs run.unplugged c.run_at_once.result
+    run_failed _ _ _ _ _ _ _ _ _ _ read.read read.cheap c.read_files.ensures.kept run.plugs run.unplugged c.run_at_once.result
     run.none run.once run.rig run.failed

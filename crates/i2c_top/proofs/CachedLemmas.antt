@@ -1,0 +1,67 @@
+-- How a call of `cached` ends: its report, and what its status tells. No induction.
+use Rattle.std.proofs.Common.{◌≡◌, ℕ, ◌≤◌, false, IsTrue, IsSome, List, [], length, Option, Some, Result, Ok, Err, sym, ◌∙◌, subst}
+use Rattle.std.specs.Prelude.{IfOk, OnOk, unwrap_or}
+use Rattle.i2c_base.specs.declared.port.PortCall.{PortCall}
+use Rattle.i2c_base.specs.Board.{BoardView}
+use Rattle.i2c_spec.specs.Targets.{TargetState}
+use Rattle.ports.specs.Causes.{counted}
+use Rattle.i2c_top.specs.Endings.{CameToSuccess, HasEndedAs}
+use Rattle.i2c_top.specs.Readings.{HasRead}
+use Rattle.i2c_top.specs.Files.{Files}
+use Rattle.i2c_top.specs.Form.{KeepsShelf}
+use Rattle.i2c_top.specs.forms.Caches.{cached_form, HasCached, HasCachedReport, HasCachedRun}
+use Rattle.i2c_top.specs.forms.Replays.{Names}
+use Rattle.i2c_top.specs.Runs.{cost_of_texts, MOST_COST}
+use Rattle.i2c_top.specs.Traces.{ShelfView, RigView, Outside}
+use Rattle.i2c_top.specs.declared.status.Status.{Status}
+use Rattle.i2c_top.specs.declared.status.Status.TheVariants as status
+use Rattle.i2c_top.proofs.EndingLemmas.{came_to_success}
+use Rattle.i2c_top.proofs.ReplayLemmas.{has_files, read_order}
+
+-- the run of what was read is the report that the files ask for
+has_report : (file : Files) (names : Names) (b : BoardView) (texts : List (List ℕ)) (words : Option (List ℕ)) (listed bytes : List ℕ)
+    (logs : List (List PortCall)) (states : List TargetState) (counts : List ℕ) → HasRead file names b texts words
+    → cost_of_texts b texts ≤ MOST_COST → Some listed ≡ words → HasCachedRun b texts listed bytes logs states counts
+    → HasCachedReport file names bytes logs states counts
+has_report file names b texts words listed bytes logs states counts read cheap same run =
+    record {
+      files = has_files file names b texts words read cheap;
+      words = listed;
+      by = sym read.order_in.same ∙ sym same;
+      run =
+          let board : BoardView = read.board_in.has.board in
+          let over : HasCachedRun board texts listed bytes logs states counts =
+          subst (λ x. HasCachedRun x texts listed bytes logs states counts) read.board_in.same run in
+          subst (λ ts. HasCachedRun board ts listed bytes logs states counts) read.texts_are over;
+    }
+
+-- a run of files that were read, over the rig
+module _ (names : Names) (shelf shelf_now : ShelfView) (rig rig_now : RigView) (b : BoardView) (texts : List (List ℕ))
+    (words : Option (List ℕ))
+    (read : IsTrue shelf.tells → HasRead shelf.file names b texts words) (cheap : cost_of_texts b texts ≤ MOST_COST)
+    (kept : KeepsShelf (cached_form names) shelf shelf_now) (plugs : rig_now.plugs ≡ counted rig.plugs)
+    (unplugged : rig_now.plugged ≡ false) where
+  -- one that ended is a success of the form by its report
+  pub cached_done : {X : Type 0} (r : Result X Status) (bytes_of : X → List ℕ) → IsSome names.schedule
+      → OnOk r (rig_now.unplugs ≡ counted rig.unplugs)
+      → (IsTrue rig_now.tells → IsTrue rig_now.ports_tell
+      → IfOk r (λ x. HasCachedRun b texts (unwrap_or words []) (bytes_of x) rig_now.logs rig_now.states rig_now.counts))
+      → IfOk r (λ x. CameToSuccess (cached_form names) shelf shelf_now rig rig_now (bytes_of x))
+  cached_done (Ok x) bytes_of some unplugs run =
+      came_to_success (cached_form names) shelf shelf_now rig rig_now (bytes_of x)
+      (λ t. has_files shelf.file names b texts words (read t) cheap)
+      (record { plugs = plugs; unplugs = unplugs; unplugged = unplugged })
+      (record {
+        by_files = λ t tells ports.
+            has_report shelf.file names b texts words (unwrap_or words []) (bytes_of x) rig_now.logs rig_now.states rig_now.counts (read t)
+            cheap (read_order shelf.file names.schedule (length names.scripts) words some (read t).order_in) (run tells ports);
+        by_rig = λ tells ports. record { board = b; texts = texts; words = unwrap_or words []; run = run tells ports };
+      }) kept
+  cached_done (Err e) bytes_of some unplugs run = tt
+
+-- a success was the report
+pub ended_cached : (names : Names) (old new : Outside) (result : Status) → HasEndedAs (cached_form names) old new result
+    → IsTrue old.shelf.tells → IsTrue old.sink.tells → IsTrue new.rig.tells → IsTrue new.rig.ports_tell → result ≡ status.Ok
+    → HasCached old.shelf.file names old.sink.bytes new.sink.bytes new.rig.logs new.rig.states new.rig.counts
+ended_cached names old new result h shelf sink rig ports ok =
+    let s = h.said ok in record { bytes = s.text; report = s.answer.by_files shelf rig ports; written = s.written sink }

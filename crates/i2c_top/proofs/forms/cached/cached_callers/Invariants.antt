@@ -1,0 +1,15 @@
+use Rattle.std.proofs.Common.{◌≡◌, [], All, map}
+use Rattle.std.specs.Prelude.{vec_capacity}
+use Rattle.std.specs.Vec.Iter.{into_iter_items, into_iter_len}
+use Rattle.i2c_top.specs.Runs.{texts_of}
+use Rattle.i2c_top.proofs.CachedRun.{all_cached}
+use Rattle.i2c_top.proofs.Numbering.{GoesOver}
+use Rattle.i2c_top.proofs.forms.cached.cached_callers.Given as goal
+
+abbrev pub invariant-loop-script : goal.invariant-loop-script
+invariant-loop-script l =
+    record {
+      over : GoesOver (all_cached l.board (texts_of l.fn.scripts.items)) l.fn.scripts.items l.yielded (into_iter_items l.script-iterator)
+          (into_iter_len l.script-iterator) (map (λ c. c.script) l.callers.items) (vec_capacity l.callers);
+      untaken : All (λ c. c.taken ≡ []) l.callers.items;
+    }
