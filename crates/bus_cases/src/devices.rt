@@ -7,6 +7,9 @@ use targets::DeviceState;
 /// How many bytes are read of each device: as many as a register device has.
 const LENGTH: u16 = 256;
 
+/// How many pointers a temperature sensor has.
+const POINTERS: u8 = 4;
+
 /// Both are one answer.
 pub fn same_answer(one: Answer, other: Answer) -> bool {
     match (one, other) {
@@ -51,6 +54,31 @@ pub fn same_devices(alloc: Global, devices: &[DeviceState], others: &[DeviceStat
     for (one, other) in devices.iter().zip(others.iter()) {
         if !same_device(alloc, one, other) {
             return false;
+        }
+    }
+    devices.len() == others.len()
+}
+
+// Both answer alike to a write of a pointer, to a start that reads, to a get of each byte of a word, and to a stop.
+fn same_word(one: &mut DeviceState, other: &mut DeviceState, pointer: u8) -> bool {
+    same_at(one, other, Event::Start { reading: false })
+        && same_at(one, other, Event::Put(pointer))
+        && same_at(one, other, Event::Start { reading: true })
+        && same_at(one, other, Event::Get { ack: true })
+        && same_at(one, other, Event::Get { ack: false })
+        && same_at(one, other, Event::Stop)
+}
+
+/// These devices hold the same words behind their first pointers, as many as a temperature sensor has.
+pub fn same_registers(alloc: Global, devices: &[DeviceState], others: &[DeviceState]) -> bool {
+    for (one, other) in devices.iter().zip(others.iter()) {
+        let (Ok(mut one), Ok(mut other)) = (one.copied(alloc), other.copied(alloc)) else {
+            return false;
+        };
+        for pointer in 0..POINTERS {
+            if !same_word(&mut one, &mut other, pointer) {
+                return false;
+            }
         }
     }
     devices.len() == others.len()

@@ -25,6 +25,8 @@
 //!   of the board as it is written. Prints of both, in a line, how many runs there were, how many of their
 //!   journals are different, how many replies they have, how many of the runs aren't those of the flat world, or are another over
 //!   two wires, and how many of the reports are verified
+//! - `replayed`: makes the last call, one of `cached`, and makes it as a replay. Prints whether the sections are the same, and the
+//!   devices but for their pointers, and how many entries the journals of both have
 //! - `words WORD..`: the words of a call that isn't made yet, for those that follow
 //! - `again N`: makes the call of two callers so many times, and prints how many replies the runs have, and how many of them
 //!   aren't those of the flat world
@@ -68,6 +70,7 @@ mod lines;
 mod mute;
 mod on_wires;
 mod page;
+mod replayed;
 mod show;
 mod table;
 mod transfers;

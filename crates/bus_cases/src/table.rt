@@ -8,6 +8,7 @@ use crate::interleavings::{put_again, put_interleavings};
 use crate::mute::put_mute;
 use crate::on_wires::WiredCall;
 use crate::page::Page;
+use crate::replayed::put_replayed;
 use crate::show::{put_answers, put_call, put_calls};
 use crate::turns::put_turns;
 use crate::verified::is_verified;
@@ -280,6 +281,10 @@ impl Table {
             "calls" => put_calls(page, &self.call),
             "device" => put_answers(page, alloc, &self.call, rest),
             "edges" => self.put_edges(page),
+            "replayed" => {
+                let put = put_replayed(rt, page, alloc, &self.case, &self.files, &mut self.call);
+                page.require(put.is_some());
+            }
             _ => page.require(false),
         }
     }
