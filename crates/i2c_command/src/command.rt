@@ -1,8 +1,9 @@
 //! A call of the top with the words of the command line, over the real files and output.
-ghost use Rattle.std.specs.Prelude.{◌≡◌, ◌⊎◌, ℕ, List, Some, map, string_bytes, IfOk, IsTrue, OnErr};
+ghost use Rattle.std.specs.Prelude.{◌≡◌, ℕ, List, Some, map, string_bytes, IsTrue};
 ghost use Rattle.i2c_gen.specs.declared.plan.Plan.{Plan};
-ghost use Rattle.i2c_top.specs.forms.{Replay, Check, Generate, Verify, Atr, Clear, request_in, HasEnded};
+ghost use Rattle.i2c_top.specs.forms.{Replay, Check, Generate, Verify, Atr, Cached, Clear, request_in, HasEnded};
 ghost use Rattle.i2c_top.specs.forms.Atrs.{AtrNames, HasTranslated};
+ghost use Rattle.i2c_top.specs.forms.Caches.{HasCached};
 ghost use Rattle.i2c_top.specs.forms.Checks.{HasChecked};
 ghost use Rattle.i2c_top.specs.forms.Clears.{HasCleared};
 ghost use Rattle.i2c_top.specs.forms.Generations.{HasGenerated};
@@ -11,12 +12,12 @@ ghost use Rattle.i2c_top.specs.forms.Verifies.{VerifyNames, HasVerified};
 ghost use Rattle.i2c_top.specs.declared.forms.clear.ClearAt.{ClearAt};
 ghost use Rattle.i2c_top.specs.declared.status.Status.TheVariants as status;
 ghost use Rattle.i2c_top.specs.Traces.{outside, rig_view};
-ghost use Rattle.i2c_command.specs.Starts.{HasCalled};
+ghost use Rattle.i2c_command.specs.Starts.{HasCome};
 
-use crate::words::words_of;
+use crate::words::{Words, words_of};
 use i2c_outside::{FileShelf, OpenGate, Rig, Shelf, Sink, StdoutSink};
 use i2c_top::{Status, top};
-use std::alloc::{AllocError, Global};
+use std::alloc::Global;
 use std::env::Env;
 use std::rt::Files;
 use std::sync::Wait;
@@ -35,7 +36,6 @@ fn run<H: Threads + Wait + Sync, S: Shelf, K: Sink, R: Rig>(
     requires { S.words shelf.old ≡ map string_bytes words.now }
     ensures ended { HasEnded (request_in (map string_bytes words.now))
         (outside S.Shelf K.Sink R.Rig R.P.tells shelf.old sink.old rig.old) (outside S.Shelf K.Sink R.Rig R.P.tells shelf.new sink.new rig.new) result }
-    ensures called { HasCalled (rig_view R.Rig R.P.tells rig.old) (rig_view R.Rig R.P.tells rig.new) result }
     ensures success { IsTrue S.tells → IsTrue K.tells → IsTrue R.tells → IsTrue R.P.tells
         → (names : Names) → request_in (map string_bytes words.now) ≡ Some (Replay names) → result ≡ status.Ok
         → HasReplayed (S.file shelf.old) names (K.bytes sink.old) (K.bytes sink.new) (R.logs rig.new) (R.states rig.new) (R.port_faults rig.new) }
@@ -51,6 +51,9 @@ fn run<H: Threads + Wait + Sync, S: Shelf, K: Sink, R: Rig>(
     ensures translated { IsTrue S.tells → IsTrue K.tells → IsTrue R.tells → IsTrue R.P.tells
         → (names : AtrNames) → request_in (map string_bytes words.now) ≡ Some (Atr names) → result ≡ status.Ok
         → HasTranslated (S.file shelf.old) names (K.bytes sink.old) (K.bytes sink.new) (R.logs rig.new) (R.states rig.new) (R.port_faults rig.new) }
+    ensures cached { IsTrue S.tells → IsTrue K.tells → IsTrue R.tells → IsTrue R.P.tells
+        → (names : Names) → request_in (map string_bytes words.now) ≡ Some (Cached names) → result ≡ status.Ok
+        → HasCached (S.file shelf.old) names (K.bytes sink.old) (K.bytes sink.new) (R.logs rig.new) (R.states rig.new) (R.port_faults rig.new) }
     ensures cleared { IsTrue S.tells → IsTrue K.tells
         → (board : List ℕ) (at : ClearAt) → request_in (map string_bytes words.now) ≡ Some (Clear board at) → result ≡ status.Ok
         → HasCleared (S.file shelf.old) board at (K.bytes sink.old) (K.bytes sink.new) }
@@ -58,32 +61,33 @@ fn run<H: Threads + Wait + Sync, S: Shelf, K: Sink, R: Rig>(
     top(rt, alloc, words, shelf, sink, rig, &OpenGate)
 }
 
-// Reads the words and does what they say, over the real files and output: the status is that of `run`. `Err` is want of memory
-// for the words.
-fn start<E: Env + Files + Print + AllocGlobal + Threads + Wait + Sync, R: Rig>(
-    rt: &E,
-    rig: &mut R,
-) -> Result<Status, AllocError>
-    ensures called { IfOk result (HasCalled (rig_view R.Rig R.P.tells rig.old) (rig_view R.Rig R.P.tells rig.new)) }
-    ensures idle { OnErr result (rig.new ≡ rig.old) }
-{
-    let alloc = rt.alloc();
-    let words = words_of(rt, alloc)?;
-    let mut shelf = FileShelf::new(rt, words.as_slice());
-    let mut sink = StdoutSink::new(rt);
-    Ok(run(rt, alloc, words.as_slice(), &mut shelf, &mut sink, rig))
+/// What came of the words of the command line: these, where there was memory for them, and the status.
+#[derive(Drop)]
+pub struct Called {
+    pub words: Option<Words>,
+    pub status: Status,
 }
 
-/// Reads the words of the command line and does what they say, over the real files, the standard output and a rig. The status
-/// that the program ends with: it is that of `top`, or Memory where memory was wanting for the words.
+/// Reads the words of the command line and does what they say, over the real files, the standard output and a rig. The status is that of
+/// `top` for just these words, over files and an output that counted no fault, or Memory where memory was wanting for the words.
 pub fn call<E: Env + Files + Print + AllocGlobal + Threads + Wait + Sync, R: Rig>(
     rt: &E,
     rig: &mut R,
-) -> Status
-    ensures { HasCalled (rig_view R.Rig R.P.tells rig.old) (rig_view R.Rig R.P.tells rig.new) result ⊎ ((result ≡ status.Memory) × (rig.new ≡ rig.old)) }
+) -> Called
+    ensures { HasCome result.words (rig_view R.Rig R.P.tells rig.old) (rig_view R.Rig R.P.tells rig.new) result.status }
 {
-    match start(rt, rig) {
-        Ok(status) => status,
-        Err(AllocError) => Status::Memory,
+    let alloc = rt.alloc();
+    let Ok(words) = words_of(rt, alloc) else {
+        return Called {
+            words: None,
+            status: Status::Memory,
+        };
+    };
+    let mut shelf = FileShelf::new(rt, words.as_slice());
+    let mut sink = StdoutSink::new(rt);
+    let status = run(rt, alloc, words.as_slice(), &mut shelf, &mut sink, rig);
+    Called {
+        words: Some(words),
+        status,
     }
 }

@@ -7,4 +7,5 @@
 mod command;
 mod words;
 
-pub use command::call;
+pub use command::{Called, call};
+pub use words::Words;

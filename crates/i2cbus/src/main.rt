@@ -8,6 +8,6 @@ use i2c_physics::BitRig;
 use std::process::ExitCode;
 
 fn main(rt: HostRuntime) -> ExitCode {
-    let status = i2c_command::call(&rt, &mut BitRig::new());
-    ExitCode::from(status.code())
+    let called = i2c_command::call(&rt, &mut BitRig::new());
+    ExitCode::from(called.status.code())
 }

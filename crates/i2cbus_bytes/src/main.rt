@@ -6,6 +6,6 @@ use i2c_physics::SimRig;
 use std::process::ExitCode;
 
 fn main(rt: HostRuntime) -> ExitCode {
-    let status = i2c_command::call(&rt, &mut SimRig::new());
-    ExitCode::from(status.code())
+    let called = i2c_command::call(&rt, &mut SimRig::new());
+    ExitCode::from(called.status.code())
 }

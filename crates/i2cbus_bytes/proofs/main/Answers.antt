@@ -3,5 +3,5 @@ use Rattle.i2c_physics.proofs.SendLemmas.{port-send}
 use Rattle.i2cbus_bytes.proofs.main.Goals as goal
 
 -- a port may go to another thread, with all that it holds
-pub call-status-requires-send-R-P : goal.call-status-requires-send-R-P
-call-status-requires-send-R-P g c κs = search (sendable, port-send)
+pub call-called-requires-send-R-P : goal.call-called-requires-send-R-P
+call-called-requires-send-R-P g c κs = search (sendable, port-send)
