@@ -1,5 +1,8 @@
 pub mod Asked
+pub mod Faultless
 pub mod Others
 pub mod Rooted
+pub mod Ruled
 pub mod Same
 pub mod Steps
+pub mod Told

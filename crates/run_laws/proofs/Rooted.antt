@@ -39,6 +39,23 @@ listed_past : {X : Type 0} (f : ℕ → X) (n r : ℕ) → n ≤ r → slice_get
 listed_past f n r high =
     slice_get_past (map f (range_with_len 0 n)) r (subst (λ (k : ℕ). k ≤ r) (sym (length-map-range_with_len f 0 n)) high)
 
+module _ (b : BoardView) (asks : Asks) where
+  -- the calls of a past are those of the logs
+  abbrev AreItsLogs : List Entry → List (List PortCall) → Type 0
+  AreItsLogs past logs = logs ≡ map (calls_of b asks past) (range_with_len 0 (length b.roots))
+
+  pub log-told : (past : List Entry) (logs : List (List PortCall)) → AreItsLogs past logs → (r : ℕ) (log : List PortCall)
+      → slice_get logs r ≡ Some log → log ≡ calls_of b asks past r
+  log-told past logs called r log here =
+      elim (cases_lt r (length b.roots)) [
+        | inl low ↦ (let same : Some log ≡ Some (calls_of b asks past r) = sym here
+            ∙ ap (λ (xs : List (List PortCall)). slice_get xs r) called ∙ listed_at (calls_of b asks past) (length b.roots) r low in
+            cc)
+        | inr high ↦ absurd (let none : Some log ≡ None = sym here
+            ∙ ap (λ (xs : List (List PortCall)). slice_get xs r) called ∙ listed_past (calls_of b asks past) (length b.roots) r high in
+            cc)
+      ]
+
 module _ (b : BoardView) (tree : IsTree b) (plain : IsPlainBoard b) (lines : LinesAreLocked b) (asks : Asks) (some : AsksForMessages asks)
     (callers : ℕ) where
   -- a call of a root that is there is none of one that isn't
@@ -70,26 +87,14 @@ module _ (b : BoardView) (tree : IsTree b) (plain : IsPlainBoard b) (lines : Lin
       (tree.root_is (home_of_mux b (line_mux job)) (home_there b plain (line_mux job))))
       (calls_nowhere r nowhere past steps.1))
 
-  -- the calls of a past are those of the logs
-  abbrev AreItsLogs : List Entry → List (List PortCall) → Type 0
-  AreItsLogs past logs = logs ≡ map (calls_of b asks past) (range_with_len 0 (length b.roots))
-
-  fault_failed : (past : List Entry) (logs : List (List PortCall)) → AreItsLogs past logs → (r n : ℕ) → FaultAt logs r n
+  fault_failed : (past : List Entry) (logs : List (List PortCall)) → AreItsLogs b asks past logs → (r n : ℕ) → FaultAt logs r n
       → HasFailed b asks past r n
   fault_failed past logs called r n at =
-      elim (cases_lt r (length b.roots)) [
-        | inl low ↦ (let same : Some at.log ≡ Some (calls_of b asks past r) = sym at.here
-            ∙ ap (λ (xs : List (List PortCall)). slice_get xs r) called ∙ listed_at (calls_of b asks past) (length b.roots) r low in
-            let log_is : at.log ≡ calls_of b asks past r = cc in
-            ap (λ (cs : List PortCall). slice_get cs n) (sym log_is) ∙ at.fault)
-        | inr high ↦ absurd (let none : Some at.log ≡ None = sym at.here
-            ∙ ap (λ (xs : List (List PortCall)). slice_get xs r) called ∙ listed_past (calls_of b asks past) (length b.roots) r high in
-            cc)
-      ]
+      ap (λ (cs : List PortCall). slice_get cs n) (sym (log-told b asks past logs called r at.log at.here)) ∙ at.fault
 
-  failed_fault : (past : List Entry) → IsStepwise b callers asks past → (logs : List (List PortCall)) → AreItsLogs past logs → (r n : ℕ)
+  pub failed-fault : (past : List Entry) → IsStepwise b callers asks past → (logs : List (List PortCall)) → AreItsLogs b asks past logs → (r n : ℕ)
       → HasFailed b asks past r n → FaultAt logs r n
-  failed_fault past steps logs called r n failed =
+  failed-fault past steps logs called r n failed =
       elim (cases_lt r (length b.roots)) [
         | inl low ↦ record {
           log = calls_of b asks past r;
@@ -102,9 +107,9 @@ module _ (b : BoardView) (tree : IsTree b) (plain : IsPlainBoard b) (lines : Lin
 
   -- so where the same calls of the logs are faults, the same calls failed
   pub fail-alike : (past other : List Entry) → IsStepwise b callers asks past → IsStepwise b callers asks other
-      → (logs others : List (List PortCall)) → AreItsLogs past logs → AreItsLogs other others → FaultsAlike logs others
+      → (logs others : List (List PortCall)) → AreItsLogs b asks past logs → AreItsLogs b asks other others → FaultsAlike logs others
       → FailAlike b asks past other
   fail-alike past other steps steps_too logs others called called_too alike = λ r n. (
-    λ failed. fault_failed other others called_too r n ((alike r n).0 (failed_fault past steps logs called r n failed)),
-    λ failed. fault_failed past logs called r n ((alike r n).1 (failed_fault other steps_too others called_too r n failed)),
+    λ failed. fault_failed other others called_too r n ((alike r n).0 (failed-fault past steps logs called r n failed)),
+    λ failed. fault_failed past logs called r n ((alike r n).1 (failed-fault other steps_too others called_too r n failed)),
   )

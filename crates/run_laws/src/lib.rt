@@ -1,12 +1,17 @@
 //! The laws of whole runs: a replay is a function of its files and of which calls of its ports fail, a run is a replay of its own
-//! steps, what either reports is verified, and one behind address translators is of the board as it is written. No code rests on it. It
-//! stands on public functions with an empty body, whose contracts are the law.
+//! steps, what either reports is verified and tells its journal, each keeps the rules of the bus, and one behind address translators is
+//! of the board as it is written. No code rests on it. It stands on public functions with an empty body, whose contracts are the law.
 //!
 //! Definitions: `specs/Alike.antt`, and those of `i2c_top`.
 #![tactic(auto)]
 
+mod rules;
 mod runs;
 
+pub use rules::{
+    a_report_tells_its_run, a_run_keeps_the_rules_of_the_bus,
+    a_run_where_no_port_counts_has_no_failed_entry, scripts_ask_for_messages,
+};
 pub use runs::{
     a_replay_has_one_report, a_run_behind_translators_changes_no_other_device,
     a_run_behind_translators_is_one_of_the_board_as_written, a_run_is_a_replay_of_its_own_steps,

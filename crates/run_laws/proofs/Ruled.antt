@@ -1,0 +1,35 @@
+-- A run's journal is legal, and its scripts ask for messages within the limits, so each entry of it might come where it did: what is so
+-- of all such journals is so of it. No induction.
+use Rattle.std.proofs.Common.{ℕ, List, Option, length, reverse}
+use Rattle.i2c_base.specs.declared.entry.Entry.{Entry}
+use Rattle.i2c_base.specs.declared.port.PortCall.{PortCall}
+use Rattle.i2c_base.specs.Board.{BoardView}
+use Rattle.i2c_spec.specs.Plain.{IsPlainBoard}
+use Rattle.i2c_spec.specs.Rules.{MeetsRules}
+use Rattle.i2c_spec.specs.Targets.{TargetState}
+use Rattle.i2c_spec.specs.History.{Asks}
+use Rattle.bus_spec.specs.Legal.{IsLegal}
+use Rattle.bus_spec.specs.Stepwise.{IsStepwise}
+use Rattle.bus_laws.specs.Reach.{AsksForMessages, AsksWithinLimits}
+use Rattle.i2c_top.specs.Runs.{asks_by, HasRunTold}
+
+module _ (messages : (b : BoardView) (texts : List (List ℕ)) → AsksForMessages (asks_by b texts))
+    (limits : (b : BoardView) (texts : List (List ℕ)) → AsksWithinLimits (asks_by b texts))
+    (stepwise : (b : BoardView) (callers : ℕ) (asks : Asks) (past : List Entry) → IsPlainBoard b → MeetsRules b → AsksForMessages asks
+    → AsksWithinLimits asks → IsLegal b callers asks past → IsStepwise b callers asks past) where
+  pub run-steps : (told : List Entry → List ℕ) (b : BoardView) (texts : List (List ℕ)) (words : Option (List ℕ)) (x : List ℕ)
+      (logs : List (List PortCall)) (states : List TargetState) (counts : List ℕ) (run : HasRunTold told b texts words x logs states counts)
+      → IsStepwise b (length texts) (asks_by b texts) (reverse run.journal)
+  run-steps told b texts words x logs states counts run =
+      stepwise b (length texts) (asks_by b texts) (reverse run.journal) run.is_run.plain run.is_run.rules (messages b texts)
+      (limits b texts) run.is_run.legal
+
+  pub run-keeps : (P : BoardView → Asks → List Entry → Type 0)
+      → ((b : BoardView) (callers : ℕ) (asks : Asks) (past : List Entry) → IsPlainBoard b → MeetsRules b → AsksForMessages asks
+      → IsStepwise b callers asks past → P b asks past)
+      → (told : List Entry → List ℕ) (b : BoardView) (texts : List (List ℕ)) (words : Option (List ℕ)) (x : List ℕ)
+      (logs : List (List PortCall)) (states : List TargetState) (counts : List ℕ) (run : HasRunTold told b texts words x logs states counts)
+      → P b (asks_by b texts) (reverse run.journal)
+  run-keeps P law told b texts words x logs states counts run =
+      law b (length texts) (asks_by b texts) (reverse run.journal) run.is_run.plain run.is_run.rules (messages b texts)
+      (run-steps told b texts words x logs states counts run)
