@@ -1,6 +1,7 @@
 pub mod Asked
 pub mod Faultless
 pub mod Others
+pub mod Planned
 pub mod Rooted
 pub mod Ruled
 pub mod Same

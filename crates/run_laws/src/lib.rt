@@ -1,13 +1,16 @@
 //! The laws of whole runs: a replay is a function of its files and of which calls of its ports fail, a run is a replay of its own
-//! steps, what either reports is verified and tells its journal, each keeps the rules of the bus, and one behind address translators is
-//! of the board as it is written. No code rests on it. It stands on public functions with an empty body, whose contracts are the law.
+//! steps, what either reports is verified and tells its journal, each keeps the rules of the bus, generated scripts are read whole, and
+//! a run behind address translators is of the board as it is written. No code rests on it. It stands on public functions with an empty
+//! body, whose contracts are the law.
 //!
 //! Definitions: `specs/Alike.antt`, and those of `i2c_top`.
 #![tactic(auto)]
 
+mod generated;
 mod rules;
 mod runs;
 
+pub use generated::generated_scripts_are_read_whole;
 pub use rules::{
     a_report_tells_its_run, a_run_keeps_the_rules_of_the_bus,
     a_run_where_no_port_counts_has_no_failed_entry, scripts_ask_for_messages,
