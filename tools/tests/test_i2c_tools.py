@@ -92,7 +92,7 @@ class Page(unittest.TestCase):
     def test_every_example(self) -> None:
         """A file is written, or compared with the one that is there. A console is run, with all that was exported before."""
         exported: list[str] = []
-        page = (TOP / "docs/manual/tools-runs.md").read_text()
+        page = (TOP / "docs/manual/tools_runs.md").read_text()
         with tempfile.TemporaryDirectory() as folder:
             for kind, name, block in re.findall(r"^```(\w+)(?: file=(\S+))?\n(.*?)^```$", page, re.MULTILINE | re.DOTALL):
                 if name:

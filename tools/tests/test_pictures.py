@@ -40,7 +40,7 @@ class Pictures(unittest.TestCase):
             self.assertIn("this is no ", tool("journal2chart", "/dev/stdin", given=text, status=1))
 
     def test_the_page_has_the_chart_of_its_report(self) -> None:
-        page = (TOP / "docs/manual/tools-runs.md").read_text()
+        page = (TOP / "docs/manual/tools_runs.md").read_text()
         (report, chart), = re.findall(r"`tools/journal2chart (examples\S+)` prints\n\n```mermaid\n(.*?)```", page, re.DOTALL)
         self.assertEqual(tool("journal2chart", str(TOP / report)), chart)
 
