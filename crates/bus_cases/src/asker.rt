@@ -1,6 +1,6 @@
 //! A caller without a core: what its script asks for next.
 
-use crate::words::parted;
+use case_parts::parted;
 use i2c_base::{Kind, Reply, Transfer};
 use i2c_board::Accepted;
 use std::alloc::Global;

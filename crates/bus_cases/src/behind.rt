@@ -1,8 +1,7 @@
 //! Callers whose entries come before those of all others.
 
 use crate::case::{Call, Case, Files};
-use crate::page::Page;
-use crate::words::parted;
+use case_parts::{Page, parted};
 use std::alloc::Global;
 use std::sync::Wait;
 use std::thread::Threads;

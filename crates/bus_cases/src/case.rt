@@ -8,7 +8,7 @@ ghost use Rattle.i2c_top.specs.forms.{Replay, request_in};
 ghost use Rattle.i2c_top.specs.forms.Replays.{Names, HasReplayed};
 ghost use Rattle.i2c_top.specs.declared.status.Status.TheVariants as status;
 
-use crate::words::parted;
+use case_parts::parted;
 use i2c_base::SegId;
 use i2c_outside::{Gate, MapShelf, OpenGate, VecSink};
 use i2c_physics::FailRig;

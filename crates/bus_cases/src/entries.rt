@@ -1,6 +1,6 @@
 //! Worked examples of journal lines that are read back.
-use crate::page::Page;
 use bus_journal::{entry_text, read_entry};
+use case_parts::Page;
 use i2c_base::Entry;
 use std::alloc::Global;
 

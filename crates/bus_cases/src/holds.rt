@@ -1,8 +1,8 @@
 //! Two callers on two roots, whose ports wait for each other.
 
 use crate::case::{Case, Files, shelf_of, sink_of};
-use crate::page::Page;
 use crate::turns::put_lines;
+use case_parts::Page;
 use i2c_base::SegId;
 use i2c_outside::OpenGate;
 use i2c_physics::HoldRig;

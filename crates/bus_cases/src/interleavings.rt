@@ -2,13 +2,11 @@
 //! world.
 
 use crate::asker::Asker;
-use crate::boards;
 use crate::case::{Call, Case, Files};
-use crate::devices::same_devices;
 use crate::on_wires::WiredCall;
-use crate::page::Page;
 use crate::verified::is_verified;
 use bus_journal::{entry_text, read_entry};
+use case_parts::{Page, board_of, same_devices};
 use flat_world::Flat;
 use i2c_base::{Cut, Entry, Reply};
 use i2c_board::Accepted;
@@ -146,7 +144,7 @@ impl Race {
     /// A race over these files, on the board of a call. None where memory is wanting, as in each of these.
     fn open(alloc: Global, files: &Files, call: &Call) -> Option<Self> {
         Some(Race {
-            board: boards::accepted(alloc, text_of(files, call.word(1)).as_bytes())?,
+            board: board_of(alloc, text_of(files, call.word(1)).as_bytes())?,
             files: files.clone().ok()?,
             case: Case::new(alloc),
             call: Call::new(alloc)?,

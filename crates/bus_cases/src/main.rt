@@ -1,5 +1,5 @@
-//! The program of cases: what no row of the program shows. It reads a table from the standard input, and prints what each
-//! line asks for. First come whole calls of the top over files, an output and a rig in memory:
+//! The program of cases: what no row of the program shows, in whole calls of the top over files, an output and a rig in memory. It reads a
+//! table from the standard input, and prints what each line asks for:
 //!
 //! - `file NAME`: the lines up to a line `.` are a file of every call behind it
 //! - `case NAME`: a new case, whose output has room for 4,096 bytes, and in which nothing fails
@@ -38,59 +38,34 @@
 //! - `behind N TIMES`: makes the call so many times, and prints in how many of the runs each entry of the first N callers comes
 //!   before all those of the others
 //!
-//! Then come worked examples of what stands below the core. Each is a front, a colon and words, and is answered by a line
-//! of the same front with an answer for each word:
-//!
-//! - `chip KIND:` events for the chip of a mux (`chips::answer_all`)
-//! - `tree BOARD:` questions on the tree of a board of `data/` (`trees::answer_all`)
-//! - `wires BOARD:` calls on the wires of its first root (`wires::answer_all`)
-//! - `held LOOKS..:` calls on a port over two wires of no board, with register devices that hold the clock (`held::answer_all`)
-//! - `flat BOARD:` transfers in the flat world, with a semicolon between them (`transfers::answer_all`)
-//! - `line LIMIT:` lines of a script over a board with this block limit, with a semicolon between them (`lines::answer_all`)
-//!
-//! Lines that are empty or begin with `#` are for the reader. The file `stdout` has what is due, by hand: the answers of
-//! chips by the data sheets of NXP, of trees by Linux i2c-topology, of wires by UM10204 section 3.1, of transfers by SMBus
-//! 3.2, Linux fault-codes and the tables of the devices, of lines by docs/manual/scripts.md. The journals of calls that fail one by one, and of several
-//! callers, are those of a model of the rules apart from the program. None is taken from what the program printed.
+//! Lines that are empty or begin with `#` are for the reader. The file `stdout` has what is due, by hand, from the rules. The journals of
+//! calls that fail one by one, and of several callers, are those of a model of the rules apart from the program. None is taken from what the
+//! program printed.
 #![tactic(auto)]
 
 mod asker;
 mod behind;
-mod bench;
-mod boards;
 mod case;
-mod chips;
-mod devices;
-mod driver;
 mod entries;
-mod held;
 mod holds;
 mod interleavings;
-mod lines;
 mod mute;
 mod on_wires;
-mod page;
 mod replayed;
 mod show;
 mod table;
-mod transfers;
-mod trees;
 mod turns;
 mod verified;
-mod watched;
-mod wires;
-mod words;
 
-use page::Page;
+use case_parts::Page;
 use std::alloc::AllocError;
 use std::io;
-use std::rt::Files;
 use std::sync::Wait;
 use std::thread::Threads;
 use table::Table;
 
 // Takes a line that was read, and prints what it asks for.
-fn take<H: Files + Print + AllocGlobal + Threads + Wait + Sync>(
+fn take<H: Print + AllocGlobal + Threads + Wait + Sync>(
     rt: &H,
     table: &mut Table,
     page: &mut Page,
@@ -101,7 +76,7 @@ fn take<H: Files + Print + AllocGlobal + Threads + Wait + Sync>(
 }
 
 // Takes each line of the table.
-fn take_all<H: Input + Files + Print + AllocGlobal + Threads + Wait + Sync>(
+fn take_all<H: Input + Print + AllocGlobal + Threads + Wait + Sync>(
     rt: &H,
     table: &mut Table,
     page: &mut Page,

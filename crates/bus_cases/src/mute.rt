@@ -1,5 +1,5 @@
 //! An output that takes nothing, under the program's own sink.
-use crate::page::Page;
+use case_parts::Page;
 use i2c_outside::{Sink, StdoutSink};
 use std::fmt::Display;
 use std::io;

@@ -1,7 +1,7 @@
 //! A call over ports that drive two wires, beside the same call over ports that don't.
 
 use crate::case::{Call, Case, Files, shelf_of, sink_of};
-use crate::devices::same_devices;
+use case_parts::same_devices;
 use i2c_outside::{OpenGate, VecSink};
 use i2c_physics::BitRig;
 use i2c_top::{Status, top};

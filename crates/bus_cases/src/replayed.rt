@@ -1,8 +1,7 @@
 //! A call with register caches beside the same call without them.
 
 use crate::case::{Call, Case, Files};
-use crate::devices::same_registers;
-use crate::page::Page;
+use case_parts::{Page, same_registers};
 use std::alloc::Global;
 use std::sync::Wait;
 use std::thread::Threads;

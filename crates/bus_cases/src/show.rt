@@ -1,7 +1,6 @@
 //! What a call left, as text: its status, its output, what was counted, the ports' logs and the devices.
 use crate::case::Call;
-use crate::page::Page;
-use crate::words::parted;
+use case_parts::{Page, parted};
 use i2c_base::{Answer, Event, PortCall, Target};
 use std::alloc::Global;
 use targets::DeviceState;

@@ -1,28 +1,25 @@
 //! The table of cases, read line by line.
 use crate::behind::put_behind;
-use crate::bench::answer_line;
-use crate::case::{Call, Case, Files as Shelf};
+use crate::case::{Call, Case, Files};
 use crate::entries::put_entry;
 use crate::holds::put_holds;
 use crate::interleavings::{put_again, put_interleavings};
 use crate::mute::put_mute;
 use crate::on_wires::WiredCall;
-use crate::page::Page;
 use crate::replayed::put_replayed;
 use crate::show::{put_answers, put_call, put_calls};
 use crate::turns::put_turns;
 use crate::verified::is_verified;
-use crate::words::parted;
+use case_parts::{Page, parted};
 use std::alloc::Global;
 use std::collections::BTreeMap;
-use std::rt::Files;
 use std::sync::Wait;
 use std::thread::Threads;
 
 /// A table that is read line by line: the files so far, the case, and its last call.
 #[derive(Drop)]
 pub struct Table {
-    files: Shelf,
+    files: Files,
     /// The file whose lines come.
     file: Option<String>,
     case: Case,
@@ -51,7 +48,7 @@ impl Table {
     }
 
     /// Takes a line, and does what it asks for.
-    pub fn take<H: Files + AllocGlobal + Threads + Wait + Sync>(
+    pub fn take<H: AllocGlobal + Threads + Wait + Sync>(
         &mut self,
         rt: &H,
         page: &mut Page,
@@ -59,8 +56,6 @@ impl Table {
     ) {
         if self.file.is_some() {
             self.take_file_line(page, line);
-        } else if line.contains(':') && !line.starts_with('#') {
-            answer_line(rt, page, line);
         } else if !line.is_empty() && !line.starts_with('#') {
             self.take_command(rt, page, rt.alloc(), line);
         }

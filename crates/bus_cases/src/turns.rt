@@ -1,7 +1,7 @@
 //! Two callers as running threads that take turns at a gate.
 
 use crate::case::{Call, Case, Files};
-use crate::page::Page;
+use case_parts::Page;
 use i2c_base::{LockId, SegId};
 use i2c_outside::{Point, TurnGate};
 use std::alloc::Global;

@@ -1,6 +1,5 @@
 //! Worked examples of mux chips, event by event.
-use crate::page::Page;
-use crate::words::{byte, put_said};
+use case_parts::{Page, byte, put_said};
 use i2c_base::{Addr, Event, Idle, LockMode, MuxKind, MuxSpec, SegId, Target};
 use tgt_mux::Chip;
 

@@ -1,10 +1,8 @@
 //! Worked examples of the wires of a root, call by call.
-use crate::devices::same_answer;
 use crate::driver::Driver;
-use crate::page::Page;
 use crate::watched::{Watched, same_ends};
-use crate::words::{addr, byte, put_said};
 use bus_lines::BusLines;
+use case_parts::{Page, addr, byte, put_said, same_answer};
 use i2c_base::{Answer, MuxId, NoMemory, PortCall, SegId};
 use i2c_bits::BitPort;
 use i2c_board::Accepted;

@@ -1,7 +1,7 @@
 //! Worked examples of lines of a script: the word at which each is refused.
 ghost use Rattle.std.specs.Prelude.{◌≤◌};
 
-use crate::page::Page;
+use case_parts::Page;
 use std::alloc::Global;
 use tools::{LineFault, LineWords, read_line};
 

@@ -1,7 +1,6 @@
 //! Transfers in the flat world, and their replies.
 
-use crate::page::Page;
-use crate::words::{addr, byte, parted};
+use case_parts::{Page, addr, byte, parted};
 use flat_world::Flat;
 use i2c_base::{Addr, ByteList, Cut, Kind, MOST_LENGTH, Reply, Transfer};
 use i2c_board::Accepted;

@@ -5,10 +5,9 @@ ghost use Rattle.wire_spec.specs.Bus.{bus_of};
 ghost use Rattle.i2c_bits.specs.Wiring.{AreLetGo};
 
 use crate::driver::Driver;
-use crate::page::Page;
 use crate::wires::call_of;
-use crate::words::put_said;
 use bus_lines::WireState;
+use case_parts::{Page, put_said};
 use i2c_base::{Answer, Event, MuxId, Target};
 use i2c_bits::{BitPort, ByteLines, Lines};
 use std::alloc::Global;

@@ -3,8 +3,8 @@ ghost use Rattle.std.specs.Prelude.{◌≡◌, IfOk, false};
 ghost use Rattle.i2c_bits.specs.Stands.{IsFree};
 ghost use Rattle.i2c_bits.specs.Wiring.{AreLetGo};
 
-use crate::devices::same_device;
 use bus_lines::BusLines;
+use case_parts::same_device;
 use i2c_base::{MuxId, NoMemory, SegId};
 use i2c_bits::{BitPort, ByteLines, Lines, PortParts};
 use i2c_board::Accepted;

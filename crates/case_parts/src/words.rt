@@ -1,4 +1,4 @@
-//! The words of the worked examples: bytes, addresses and answers.
+//! The words of cases and worked examples: bytes, addresses and answers.
 use crate::page::Page;
 use i2c_base::{Addr, Answer};
 

@@ -2,8 +2,7 @@
 ghost use Rattle.std.specs.Prelude.{◌<◌, IfSome};
 ghost use Rattle.i2c_spec.specs.Tree.{buses};
 
-use crate::page::Page;
-use crate::words::addr;
+use case_parts::{Page, addr};
 use i2c_base::SegId;
 use i2c_board::{Board, Grant, Way};
 

@@ -1,8 +1,8 @@
 use denote.Param.Send.{sendable}
 use Rattle.std.proofs.Crossing.{crosses}
 use Rattle.bus_lines.proofs.SendLemmas.{lines-send}
-use Rattle.bus_cases.proofs.SendLemmas.{watched-send}
-use Rattle.bus_cases.proofs.wires.Wires.put_answer.Goals as goal
+use Rattle.worked_examples.proofs.SendLemmas.{watched-send}
+use Rattle.worked_examples.proofs.wires.Wires.put_answer.Goals as goal
 
 pub make-requires-send-L : goal.make-requires-send-L
 make-requires-send-L c κs = search (crosses, sendable, lines-send) depth 20

@@ -1,4 +1,4 @@
-//! The text that the cases print, put together piece by piece.
+//! The text that a program of cases prints, put together piece by piece.
 use std::alloc::Global;
 use std::fmt::Debug;
 use std::io;

@@ -1,7 +1,6 @@
 //! Worked examples of the parts of a board, each told apart by the front of its line.
-use crate::page::Page;
-use crate::words::parted;
-use crate::{boards, chips, held, lines, transfers, trees, wires};
+use crate::{chips, held, lines, transfers, trees, wires};
+use case_parts::{Page, board_in, parted};
 use i2c_board::Accepted;
 use std::alloc::Global;
 use std::rt::Files;
@@ -24,7 +23,7 @@ fn answer_by_name<R: Files + AllocGlobal>(
     kind: &str,
     words: &str,
 ) {
-    match boards::read(rt, name) {
+    match board_in(rt, name) {
         Some(board) => answer_on(page, rt.alloc(), &board, kind, words),
         None => page.put(" no board"),
     }
