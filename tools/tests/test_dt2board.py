@@ -1,4 +1,4 @@
-"""The board of a devicetree is the stored one, and is accepted; and the commands of docs/manual/tools-boards.md print what it says."""
+"""The board of a devicetree is the stored one, and is accepted; and the commands of docs/manual/tools_boards.md print what it says."""
 import importlib.util
 import os
 import re
@@ -27,7 +27,7 @@ class DevicetreeTest(unittest.TestCase):
         self.assertEqual(self.printed('"$I2CBUS" check b.toml'), "accepted: 2 roots 6 muxes 8 devices 22 buses")
 
     def test_commands_of_the_page(self) -> None:
-        page = (TOP / "docs/manual/tools-boards.md").read_text()
+        page = (TOP / "docs/manual/tools_boards.md").read_text()
         for name, text in re.findall(r"^```[a-z]+ file=(\S+)\n(.*?)^```$", page, re.M | re.S):
             Path(self.folder, name).write_text(text)
         for command, due in re.findall(r"^\$ (?!i2cbus)(.*)\n((?:(?!\$ |```).*\n)*)", page, re.M):
