@@ -23,12 +23,12 @@ use Rattle.i2c_spec.specs.Targets.{TargetState, state_table}
 use Rattle.i2c_spec.specs.World.{World, opens_hop, has_heard}
 use Rattle.i2c_spec.specs.Flat.{refusal}
 use Rattle.i2c_spec.specs.History.{Asks, History, history}
-use Rattle.bus_spec.specs.Walk.{WalkTree, Ends}
-use Rattle.bus_spec.specs.Grammar.{walk_for, seen, first_act, rest_of}
+use Rattle.bus_spec.specs.Walk.{Ends}
 use Rattle.bus_spec.specs.Readings.{MessageEntry, of_message, OfMessage, rank, caller_of, holder, replies, order, is_on_root, is_call_of, is_settle_of, last_cut, Everywhere}
-use Rattle.bus_spec.specs.Past.{Now, is_due, now, world_at}
-use Rattle.bus_spec.specs.Places.{transfer_at, outcome_of}
-use Rattle.bus_spec.specs.Tells.{HearsIn, Tells}
+use Rattle.bus_spec.specs.Past.{now, world_at}
+use Rattle.bus_spec.specs.Places.{transfer_at}
+use Rattle.bus_spec.specs.Tells.{HearsIn}
+use Rattle.bus_spec.specs.WalkRule.{Step, AreTransfers}
 
 -- LOCKS: a lock is taken only while nobody has it, in falling rank, and freed only by who has it (i2c-topology)
 abbrev pub LocksAt : BoardView → Entry → List Entry → Type 0
@@ -48,39 +48,7 @@ pub record KeepsWhole (b : BoardView) (past : List Entry) : Type 0 where
       → is_call_of b r c x ≡ true → is_call_of b r c y ≡ true → list_any (is_settle_of c) middle ≡ false
       → AllByRecursion (λ e. is_on_root b r e ≡ true → is_call_of b r c e ≡ true) middle
 
--- WALKS: the entries of each caller, in order, are its transfers one after the other. A step is an entry, and where
--- everything stood before it
-pub record Step : Type 0 where
-  pub before : Now
-  pub entry : Entry
-
--- these steps lead through a walk, and leave so much of it: each is the next step of what is left there, and tells all
--- of it. So a message's bytes and its end are those of its conversation with the world of its root where it stands
-abbrev pub Leads : BoardView → WalkTree → List Step → WalkTree → Type 0
-Leads b w [] rest = rest ≡ w
-Leads b w (s ∷ ss) rest =
-    Tells b s.before (seen s.before.slot w) s.entry × Leads b (rest_of (seen s.before.slot w) (outcome_of s.entry)) ss rest
-
--- the replies that steps settle
-abbrev pub replies_in : List Step → List Reply
-replies_in [] = []
-replies_in (s ∷ ss) = reply_in s.entry (replies_in ss)
-  where
-    reply_in : Entry → List Reply → List Reply
-    reply_in (entry.Settle c r cut) rs = r ∷ rs
-    reply_in e rs = rs
-
--- the steps of one caller, which asks for this after these replies: whole walks, and at last maybe the front of one,
--- which doesn't part a deciding message or line step from its settle
-pub data AreWalks (b : BoardView) (asks : List Reply → Option TransferView) : List Reply → List Step → Type 0 where
-  none : (rs : List Reply) → AreWalks b asks rs []
-  whole : (rs : List Reply) (t : TransferView) (mine rest all : List Step) (r : Reply)
-      → asks rs ≡ Some t → Leads b (walk_for b t) mine Ends → replies_in mine ≡ r ∷ []
-      → AreWalks b asks (rs ++ r ∷ []) rest → all ≡ mine ++ rest → AreWalks b asks rs all
-  front : (rs : List Reply) (t : TransferView) (mine : List Step) (left : WalkTree)
-      → asks rs ≡ Some t → Leads b (walk_for b t) mine left → is_due (first_act left) ≡ false
-      → AreWalks b asks rs mine
-
+-- WALKS: the entries of each caller, in order, are its transfers one after the other, each what the walk rule lists for it
 -- the steps of a caller in a past, in order
 abbrev pub steps_in : BoardView → Asks → ℕ → List Entry → List Step
 steps_in b asks c [] = []
@@ -88,7 +56,7 @@ steps_in b asks c (e ∷ past) =
     if caller_of e == c then steps_in b asks c past ++ (record { before = now b asks past; entry = e }) ∷ [] else steps_in b asks c past
 
 abbrev pub KeepsWalks : BoardView → Asks → List Entry → Type 0
-KeepsWalks b asks past = (c : ℕ) → AreWalks b (asks c) [] (steps_in b asks c past)
+KeepsWalks b asks past = (c : ℕ) → AreTransfers b (asks c) [] (steps_in b asks c past)
 
 -- REACH: each message reached the target that its bus and address name, or nobody, on an open path
 abbrev pub starts : Option TargetState → Bool → Bool

@@ -9,6 +9,7 @@ pub mod Places
 pub mod Failures
 pub mod Tells
 pub mod Stepwise
+pub mod WalkRule
 pub mod Legal
 pub mod Schedule
 pub mod Play

@@ -1,5 +1,3 @@
--- The paths of a walk are the lists of the walk rule.
-pub mod walk
 -- What the entries of a past tell together.
 pub mod past
 -- One journal at most that follows a schedule.

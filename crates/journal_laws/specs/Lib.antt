@@ -1,6 +1,4 @@
--- The walk rule as lists of steps, and walks that keep and break it.
-pub mod Paths
-pub mod WalkRule
+-- Walks that keep and break the walk rule.
 pub mod WalkRows
 -- What a journal tells of a whole: what was spent, what failed, what is in flight; and journals that break a rule.
 pub mod Spent

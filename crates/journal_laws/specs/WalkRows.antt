@@ -11,7 +11,7 @@ use Rattle.i2c_base.specs.Transfer.{TransferView}
 use Rattle.i2c_spec.specs.Tree.{Hop}
 use Rattle.i2c_spec.specs.Messages.{messages_of}
 use Rattle.bus_spec.specs.Walk.{Job, Call, Select, SwitchOff, Deselect, Close, Take, Free, Send, Shift, Settle, Passed, Sent, Lined, MarkOf, KeptOf}
-use Rattle.journal_laws.specs.Paths.{PathStep, Saw, Did}
+use Rattle.bus_spec.specs.WalkRule.{PathStep, Saw, Did}
 use Rattle.bus_spec.specs.Rows as row
 
 -- steps, shortly

@@ -8,9 +8,10 @@ ghost use Rattle.i2c_spec.specs.Tree.{Hop};
 ghost use Rattle.i2c_spec.specs.History.{Asks};
 ghost use Rattle.bus_spec.specs.Walk.{Job, JobOutcome, Note, WalkTree, Ends};
 ghost use Rattle.bus_spec.specs.Grammar.{full, inner, walk_for};
-ghost use Rattle.bus_spec.specs.Legal.{Step, AreWalks, steps_in, KeepsWalks};
-ghost use Rattle.journal_laws.specs.Paths.{PathStep, IsPath, IsDoneBy};
-ghost use Rattle.journal_laws.specs.WalkRule.{IsFull, IsInner, IsWalk, AreTransfers};
+ghost use Rattle.bus_spec.specs.WalkRule.{Step, PathStep, IsFull, IsInner, IsWalk, AreTransfers};
+ghost use Rattle.bus_spec.specs.Legal.{KeepsWalks};
+ghost use Rattle.flat_laws.specs.Paths.{IsPath, IsDoneBy};
+ghost use Rattle.flat_laws.specs.Led.{AreWalks, AreAllWalks};
 
 /// A job with locks of its own takes all of them, in the order of `locks_of`, before anything else; then comes the whole
 /// of the job; then the same locks are freed, the last one taken first.
@@ -43,5 +44,5 @@ pub fn a_journal_keeps_the_walk_rule()
     ensures caller { (b : BoardView) (asks : List Reply → Option TransferView) (replies : List Reply) (steps : List Step)
         → AreWalks b asks replies steps ↔ AreTransfers b asks replies steps }
     ensures journal { (b : BoardView) (asks : Asks) (past : List Entry)
-        → KeepsWalks b asks past ↔ ((c : ℕ) → AreTransfers b (asks c) [] (steps_in b asks c past)) }
+        → AreAllWalks b asks past ↔ KeepsWalks b asks past }
 {}

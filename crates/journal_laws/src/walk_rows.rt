@@ -1,6 +1,6 @@
 //! Worked examples of the walk rule, computed by the checker itself.
 ghost use Rattle.bus_spec.specs.Rows as row;
-ghost use Rattle.journal_laws.specs.WalkRule.{IsWalk};
+ghost use Rattle.bus_spec.specs.WalkRule.{IsWalk};
 ghost use Rattle.journal_laws.specs.WalkRows as walk;
 
 /// Lists of steps that are walks: of each part of the rule, and of what a failure leaves out.

@@ -15,7 +15,7 @@ use Rattle.bus_laws.proofs.past.Laws.{locks-kept}
 use Rattle.bus_laws.proofs.past.Asked.{reach-kept}
 use Rattle.bus_laws.proofs.past.Whole.{whole-kept}
 use Rattle.bus_laws.proofs.past.Placed.{settles-kept}
-use Rattle.flat_laws.proofs.past.Walks.{walks-kept}
+use Rattle.flat_laws.proofs.walk.Rule.{transfers-kept}
 use Rattle.bus_laws.proofs.past.Known.{entry_known}
 
 callers_known : (b : BoardView) (callers : ℕ) (asks : Asks) (past : List Entry) → IsStepwise b callers asks past
@@ -32,7 +32,7 @@ legal-with b tree plain lines asks some callers past steps none_due replies_kept
       known = callers_known b callers asks past steps;
       locks = locks-kept b tree plain lines asks some callers past steps;
       whole = whole-kept b tree plain lines asks some callers past steps;
-      walks = walks-kept b asks some callers past steps none_due;
+      walks = transfers-kept b asks some callers past steps none_due;
       reach = reach-kept b tree plain lines asks some callers past steps;
       replies_kept = replies_kept;
       settles = settles-kept b asks some callers past steps;

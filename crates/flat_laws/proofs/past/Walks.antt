@@ -16,7 +16,9 @@ use Rattle.bus_spec.specs.Past.{Now, begun, current, step, now, is_due, sent_by,
 use Rattle.bus_spec.specs.Tells.{Tells}
 use Rattle.bus_spec.specs.Stepwise.{TellsNext, May, IsStepwise}
 use Rattle.bus_spec.specs.Places.{outcome_of}
-use Rattle.bus_spec.specs.Legal.{Step, Leads, replies_in, AreWalks, none, whole, front, steps_in, KeepsWalks}
+use Rattle.bus_spec.specs.WalkRule.{Step, replies_in}
+use Rattle.bus_spec.specs.Legal.{steps_in}
+use Rattle.flat_laws.specs.Led.{Leads, AreWalks, none, whole, front, AreAllWalks}
 use Rattle.bus_laws.specs.Reach.{AsksForMessages}
 use Rattle.bus_laws.specs.Settles.{NoSettle, Settles}
 use Rattle.bus_laws.proofs.tree.Slots.{eqb-apart}
@@ -367,5 +369,5 @@ module _ (b : BoardView) (asks : Asks) (callers : ℕ) (c : ℕ) where
       quiet (Some (Settle verdict)) e = absurd (no_settle ((now b asks past).walk c) verdict starts e)
 
 pub walks-kept : (b : BoardView) (asks : Asks) → AsksForMessages asks → (callers : ℕ) (past : List Entry) → IsStepwise b callers asks past
-    → (now b asks past).due ≡ None → KeepsWalks b asks past
+    → (now b asks past).due ≡ None → AreAllWalks b asks past
 walks-kept b asks some callers past steps none_due = λ c. walks-of b asks callers c some past steps none_due

@@ -15,7 +15,9 @@ use Rattle.bus_spec.specs.Past.{Now, begun, talk_of}
 use Rattle.bus_spec.specs.Readings.{MessageEntry}
 use Rattle.bus_spec.specs.Tells.{TellsMessage, TellsLine, Tells}
 use Rattle.bus_spec.specs.Places.{outcome_of}
-use Rattle.bus_spec.specs.Legal.{Step, Leads, replies_in, AreWalks, none, whole, front}
+use Rattle.bus_spec.specs.WalkRule.{Step, replies_in, AreTransfers}
+use Rattle.flat_laws.proofs.walk.Rule.{transfers-walks}
+use Rattle.flat_laws.specs.Led.{Leads, AreWalks, none, whole, front}
 use Rattle.flat_laws.proofs.past.Walks.{reply_at, replies_first}
 use Rattle.flat_laws.proofs.past.Walks.{tells_none}
 
@@ -152,3 +154,6 @@ module _ (b : BoardView) (asks : List Reply → Option TransferView) where
   walks-follow rs steps (front xs t mine left asked leads not_due) =
       renamed xs Ends (walk_for b t) mine (begins xs t asked)
       (subst (λ (ss : List Step). Follow xs (walk_for b t) ss) (append-nil mine) (led-follow xs (walk_for b t) left mine [] leads tt))
+
+  pub transfers-follow : (rs : List Reply) (steps : List Step) → AreTransfers b asks rs steps → Follow rs Ends steps
+  transfers-follow rs steps transfers = walks-follow rs steps (transfers-walks b asks rs steps transfers)

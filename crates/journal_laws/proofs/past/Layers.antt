@@ -16,7 +16,9 @@ use Rattle.bus_spec.specs.Past.{current, now, is_due}
 use Rattle.bus_spec.specs.Tells.{Tells}
 use Rattle.bus_spec.specs.Stepwise.{TellsNext}
 use Rattle.bus_spec.specs.Places.{outcome_of, walk_left}
-use Rattle.bus_spec.specs.Legal.{Step, Leads, replies_in, AreWalks, none, whole, front, steps_in, KeepsWalks}
+use Rattle.bus_spec.specs.WalkRule.{Step, replies_in}
+use Rattle.bus_spec.specs.Legal.{steps_in}
+use Rattle.flat_laws.specs.Led.{Leads, AreWalks, none, whole, front, AreAllWalks}
 use Rattle.bus_laws.proofs.tree.Slots.{eqb-apart}
 use Rattle.bus_laws.proofs.past.Asked.{settled-told}
 use Rattle.flat_laws.proofs.past.Walks.{reply_at, replies_first, replies_more}
@@ -189,9 +191,9 @@ module _ (b : BoardView) (asks : Asks) where
   )
 
   -- no settle is due behind all of a caller's walks
-  pub walks-due : (past : List Entry) → KeepsWalks b asks past → (c : ℕ) → is_due (first_act ((now b asks past).walk c)) ≡ false
+  pub walks-due : (past : List Entry) → AreAllWalks b asks past → (c : ℕ) → is_due (first_act ((now b asks past).walk c)) ≡ false
   walks-due past walks c =
       ap (λ (w : WalkTree). is_due (first_act w)) (sym (walk_steps past c)) ∙ not-due b (asks c) [] (steps_in b asks c past) (walks c)
 
-  pub walks-tell : (past : List Entry) → KeepsWalks b asks past → Everywhere (λ e before. TellsNext b asks (now b asks before) e) past
+  pub walks-tell : (past : List Entry) → AreAllWalks b asks past → Everywhere (λ e before. TellsNext b asks (now b asks before) e) past
   walks-tell past walks = each-tells past (λ c. walks-follow b (asks c) [] (steps_in b asks c past) (walks c))

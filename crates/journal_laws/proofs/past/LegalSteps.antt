@@ -29,6 +29,7 @@ use Rattle.flat_laws.proofs.device.Law.{replies-kept}
 use Rattle.journal_laws.proofs.past.Layers.{own_replies, other_replies, walks-tell, walks-due}
 use Rattle.journal_laws.proofs.past.Due.{IsDue, IsParted, due-told, tells-due, parts, stays-parted}
 use Rattle.flat_laws.proofs.past.Legal.{legal-with}
+use Rattle.flat_laws.proofs.walk.Rule.{walks-led}
 use Rattle.std.proofs.lemmas.Option.{same_Some}
 use Rattle.bus_laws.proofs.tree.Falls.{is_below_all}
 
@@ -179,11 +180,11 @@ module _ (b : BoardView) (tree : IsTree b) (plain : IsPlainBoard b) (lines : Lin
 
   whole_parts : (past : List Entry) → IsLegal b callers asks past → (c : ℕ) → IsParted b asks past c → ⊥
   whole_parts past legal c p =
-      let f : true ≡ false = sym (ap is_due p.due.next) ∙ walks-due b asks past legal.walks c in cc
+      let f : true ≡ false = sym (ap is_due p.due.next) ∙ walks-due b asks past (walks-led b asks past legal.walks) c in cc
 
   pub legal-steps : (past : List Entry) → IsLegal b callers asks past → IsStepwise b callers asks past
   legal-steps past legal =
-      steps_of past legal.known legal.locks (walks-tell b asks past legal.walks) legal.settles (whole_parts past legal) legal.replies_kept
+      steps_of past legal.known legal.locks (walks-tell b asks past (walks-led b asks past legal.walks)) legal.settles (whole_parts past legal) legal.replies_kept
 
   pub legal-due : (past : List Entry) → IsLegal b callers asks past → (now b asks past).due ≡ None
   legal-due past legal = by (now b asks past).due refl
@@ -192,7 +193,7 @@ module _ (b : BoardView) (tree : IsTree b) (plain : IsPlainBoard b) (lines : Lin
       by None none = none
       by (Some c) due =
           let h : IsDue b asks past c = due-told b asks some callers past c (legal-steps past legal) due in
-          absurd (let f : true ≡ false = sym (ap is_due h.next) ∙ walks-due b asks past legal.walks c in cc)
+          absurd (let f : true ≡ false = sym (ap is_due h.next) ∙ walks-due b asks past (walks-led b asks past legal.walks) c in cc)
 
   -- A PREFIX that doesn't end between a message or line step and its settle
   pub steps-front : (later past : List Entry) → IsStepwise b callers asks (later ++ past) → IsStepwise b callers asks past

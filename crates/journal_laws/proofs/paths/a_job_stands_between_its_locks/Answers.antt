@@ -1,6 +1,6 @@
 use Rattle.journal_laws.proofs.paths.a_job_stands_between_its_locks.Goals as goal
-use Rattle.journal_laws.proofs.walk.Paths.{keeps-inner, keeps-full, by-rule}
-use Rattle.journal_laws.specs.WalkRule.{IsInner, IsFull}
+use Rattle.flat_laws.proofs.walk.Paths.{keeps-inner, keeps-full, by-rule}
+use Rattle.bus_spec.specs.WalkRule.{IsInner, IsFull}
 
 pub returns : goal.returns
 returns c =

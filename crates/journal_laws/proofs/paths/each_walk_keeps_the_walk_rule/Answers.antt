@@ -1,5 +1,5 @@
 use Rattle.journal_laws.proofs.paths.each_walk_keeps_the_walk_rule.Goals as goal
-use Rattle.journal_laws.proofs.walk.Rule.{path-walk, walk-path, path-front, front-path}
+use Rattle.flat_laws.proofs.walk.Rule.{path-walk, walk-path, path-front, front-path}
 
 pub returns : goal.returns
 returns c =

@@ -5,7 +5,7 @@ use Rattle.i2c_spec.specs.Messages.{messages_of}
 use Rattle.bus_spec.specs.Walk.{Call, Select, Send, Settle}
 use Rattle.bus_spec.specs.Rows as row
 use Rattle.journal_laws.specs.WalkRows as walk
-use Rattle.journal_laws.proofs.walk.Rule.{path-walk, walk-path}
+use Rattle.flat_laws.proofs.walk.Rule.{path-walk, walk-path}
 use Rattle.journal_laws.proofs.walk_rows.an_arbitrator_is_asked_and_a_line_is_shifted.Goals as goal
 
 pub returns : goal.returns

@@ -5,7 +5,7 @@ use Rattle.i2c_base.specs.declared.errno.Errno.TheVariants.{Enxio, Enodev}
 use Rattle.bus_spec.specs.Walk.{Select, Take, Free, Send, Settle}
 use Rattle.bus_spec.specs.Rows as row
 use Rattle.journal_laws.specs.WalkRows as walk
-use Rattle.journal_laws.proofs.walk.Rule.{walk-path}
+use Rattle.flat_laws.proofs.walk.Rule.{walk-path}
 use Rattle.journal_laws.proofs.walk_rows.these_are_no_walks.Goals as goal
 
 pub returns : goal.returns

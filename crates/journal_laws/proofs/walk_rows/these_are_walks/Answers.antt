@@ -2,7 +2,7 @@
 use Rattle.std.proofs.Common.{refl}
 use Rattle.bus_spec.specs.Rows as row
 use Rattle.journal_laws.specs.WalkRows as walk
-use Rattle.journal_laws.proofs.walk.Rule.{path-walk}
+use Rattle.flat_laws.proofs.walk.Rule.{path-walk}
 use Rattle.journal_laws.proofs.walk_rows.these_are_walks.Goals as goal
 
 pub returns : goal.returns

@@ -1,7 +1,7 @@
 use Rattle.std.proofs.Common.{◌≡◌, [], Some, ap, arith}
 use Rattle.i2c_spec.specs.Messages.{messages_of}
 use Rattle.bus_spec.specs.Walk.{Call, Send}
-use Rattle.journal_laws.proofs.past.Follow.{Head, walks-follow, head-told}
+use Rattle.journal_laws.proofs.past.Follow.{Head, transfers-follow, head-told}
 use Rattle.bus_spec.specs.Rows as row
 use Rattle.bus_spec.specs.Legal.{steps_in}
 use Rattle.journal_laws.specs.Wrong.{top_asks, cut_at_another_part}
@@ -9,7 +9,7 @@ use Rattle.journal_laws.proofs.wrong.a_failed_message_tells_its_part.Goals as go
 
 pub returns : goal.returns
 returns c = λ callers legal.
-    (let steps = walks-follow row.one_device (top_asks 0) [] (steps_in row.one_device top_asks 0 cut_at_another_part) (legal.walks 0) in
+    (let steps = transfers-follow row.one_device (top_asks 0) [] (steps_in row.one_device top_asks 0 cut_at_another_part) (legal.walks 0) in
     let told = steps.1.0 in
     let f : 9 ≡ 1 = ap (λ (h : Head). h.part)
     (head-told _ _ (Some (Send (Call 0 (messages_of (row.read 0 0x20 255))) 1)) told.0 told.1 _ told.2 told.3) in

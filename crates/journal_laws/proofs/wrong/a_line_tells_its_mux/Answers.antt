@@ -4,7 +4,7 @@ use Rattle.bus_spec.specs.Rows as row
 use Rattle.bus_spec.specs.Walk.{Act, Select, Shift}
 use Rattle.bus_spec.specs.Legal.{steps_in}
 use Rattle.journal_laws.specs.Wrong.{line_asks, another_line, another_level}
-use Rattle.journal_laws.proofs.past.Follow.{walks-follow, level-told}
+use Rattle.journal_laws.proofs.past.Follow.{transfers-follow, level-told}
 use Rattle.journal_laws.proofs.wrong.a_line_tells_its_mux.Goals as goal
 
 -- the line step that comes next
@@ -15,12 +15,12 @@ pub returns : goal.returns
 returns c =
     record {
       mux = λ callers legal.
-          (let steps = walks-follow row.gpio (line_asks 0) [] (steps_in row.gpio line_asks 0 another_line) (legal.walks 0) in
+          (let steps = transfers-follow row.gpio (line_asks 0) [] (steps_in row.gpio line_asks 0 another_line) (legal.walks 0) in
           let told = steps.1.1.0 in
           let f : 7 ≡ 0 = ap (λ (p : ℕ × ℕ). p.0) (level-told shifts told.0 7 0 told.1 told.2) in
           absurd (omega (arith, f)));
       level = λ callers legal.
-          (let steps = walks-follow row.gpio (line_asks 0) [] (steps_in row.gpio line_asks 0 another_level) (legal.walks 0) in
+          (let steps = transfers-follow row.gpio (line_asks 0) [] (steps_in row.gpio line_asks 0 another_level) (legal.walks 0) in
           let told = steps.1.1.0 in
           let f : 1 ≡ 2 = ap (λ (p : ℕ × ℕ). p.1) (level-told shifts told.0 0 1 told.1 told.2) in
           absurd (omega (arith, f)));

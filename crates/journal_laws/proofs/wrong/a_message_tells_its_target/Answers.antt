@@ -1,7 +1,7 @@
 use Rattle.std.proofs.Common.{◌≡◌, [], Some, ap, arith}
 use Rattle.i2c_spec.specs.Messages.{messages_of}
 use Rattle.bus_spec.specs.Walk.{Call, Send}
-use Rattle.journal_laws.proofs.past.Follow.{Head, walks-follow, head-told}
+use Rattle.journal_laws.proofs.past.Follow.{Head, transfers-follow, head-told}
 use Rattle.bus_spec.specs.Rows as row
 use Rattle.bus_spec.specs.Legal.{steps_in}
 use Rattle.journal_laws.specs.Wrong.{one_asks, another_target, neighbours}
@@ -9,7 +9,7 @@ use Rattle.journal_laws.proofs.wrong.a_message_tells_its_target.Goals as goal
 
 pub returns : goal.returns
 returns c = λ callers legal.
-    (let steps = walks-follow neighbours (one_asks 0) [] (steps_in neighbours one_asks 0 another_target) (legal.walks 0) in
+    (let steps = transfers-follow neighbours (one_asks 0) [] (steps_in neighbours one_asks 0 another_target) (legal.walks 0) in
     let told = steps.1.0 in
     let f : 0x21 ≡ 0x20 = ap (λ (h : Head). h.addr)
     (head-told _ _ (Some (Send (Call 0 (messages_of (row.read 0 0x20 5))) 1)) told.0 told.1 _ told.2 told.3) in

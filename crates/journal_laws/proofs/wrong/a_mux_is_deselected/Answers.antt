@@ -5,14 +5,14 @@ use Rattle.bus_spec.specs.Rows as row
 use Rattle.bus_spec.specs.Walk.{SwitchOff, Deselect, Send, Free}
 use Rattle.bus_spec.specs.Legal.{steps_in}
 use Rattle.journal_laws.specs.Wrong.{deep_asks, not_deselected}
-use Rattle.journal_laws.proofs.past.Follow.{walks-follow}
+use Rattle.journal_laws.proofs.past.Follow.{transfers-follow}
 use Rattle.journal_laws.proofs.wrong.a_mux_is_deselected.Goals as goal
 
 pub returns : goal.returns
 returns c =
     record {
       legal = λ callers legal.
-          (let steps = walks-follow row.parent_locked (deep_asks 0) [] (steps_in row.parent_locked deep_asks 0 not_deselected)
+          (let steps = transfers-follow row.parent_locked (deep_asks 0) [] (steps_in row.parent_locked deep_asks 0 not_deselected)
           (legal.walks 0) in
           let freed = steps.1.1.1.1.1.1.0 in
           let f : Some (Send (SwitchOff (Deselect hop)) 0) ≡ Some (Free (lock.Bus 0)) = freed in cc);

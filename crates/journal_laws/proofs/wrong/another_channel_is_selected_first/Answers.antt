@@ -2,14 +2,14 @@ use Rattle.std.proofs.Common.{◌≡◌, true, [], Some, ap}
 use Rattle.i2c_base.specs.declared.board.MuxKind.TheVariants.{Pca9548}
 use Rattle.i2c_base.specs.declared.entry.Purpose.TheVariants as purpose
 use Rattle.bus_spec.specs.Legal.{steps_in}
-use Rattle.journal_laws.proofs.past.Follow.{Head, walks-follow, head-told}
+use Rattle.journal_laws.proofs.past.Follow.{Head, transfers-follow, head-told}
 use Rattle.bus_spec.specs.Walk.{Select, Send}
 use Rattle.journal_laws.specs.Wrong.{kept_board, keep_asks, select_left_out}
 use Rattle.journal_laws.proofs.wrong.another_channel_is_selected_first.Goals as goal
 
 pub returns : goal.returns
 returns c = λ callers legal.
-    (let steps = walks-follow kept_board (keep_asks 0) [] (steps_in kept_board keep_asks 0 select_left_out) (legal.walks 0) in
+    (let steps = transfers-follow kept_board (keep_asks 0) [] (steps_in kept_board keep_asks 0 select_left_out) (legal.walks 0) in
     let told = steps.1.1.1.1.1.1.1.1.1.1.1.1.1.1.1.1.1.0 in
     let next = Some (Send (Select (record { bus = 1; mux = 0; channel = 0; on = 0; parent = true; stays = true; kind = Pca9548 })) 0) in
     let f : purpose.Call ≡ purpose.Control 0 = ap (λ (h : Head). h.purpose) (head-told _ _ next told.0 told.1 _ told.2 told.3) in cc)

@@ -6,12 +6,12 @@ use Rattle.bus_spec.specs.Walk.{SwitchOff, Close, Send}
 use Rattle.bus_spec.specs.Past.{now}
 use Rattle.bus_spec.specs.Legal.{steps_in}
 use Rattle.journal_laws.specs.Wrong.{two_asks, behind_a_failed_deselect, select_over_the_mark}
-use Rattle.journal_laws.proofs.past.Follow.{walks-follow, bytes-told}
+use Rattle.journal_laws.proofs.past.Follow.{transfers-follow, bytes-told}
 use Rattle.journal_laws.proofs.wrong.no_select_before_the_close.Goals as goal
 
 pub returns : goal.returns
 returns c = λ callers byte some legal.
-    (let steps = walks-follow row.parent_locked (two_asks 0) [] (steps_in row.parent_locked two_asks 0 (select_over_the_mark byte))
+    (let steps = transfers-follow row.parent_locked (two_asks 0) [] (steps_in row.parent_locked two_asks 0 (select_over_the_mark byte))
     (legal.walks 0) in
     let sent = steps.1.1.1.1.1.1.1.1.1.1.1.0 in
     let closes : byte ∷ [] ≡ 0 ∷ [] =

@@ -10,17 +10,21 @@ use Rattle.i2c_base.specs.Transfer.{TransferView}
 use Rattle.i2c_spec.specs.Tree.{hops, root_of}
 use Rattle.i2c_spec.specs.Messages.{messages_of}
 use Rattle.i2c_spec.specs.Flat.{refusal}
+use Rattle.i2c_spec.specs.History.{Asks}
 use Rattle.bus_spec.specs.Walk.{Call, Act, Settle, ActOutcome, Note, WalkTree, Ends, Look, Then}
 use Rattle.bus_spec.specs.Slots.{answer_to}
 use Rattle.bus_spec.specs.Grammar.{plain, walk_by, walk_for, seen, first_act, rest_of}
-use Rattle.bus_spec.specs.Past.{Now, is_due}
+use Rattle.bus_spec.specs.Past.{Now, now, is_due}
 use Rattle.bus_spec.specs.Places.{outcome_of}
 use Rattle.bus_spec.specs.Tells.{Tells}
-use Rattle.bus_spec.specs.Legal.{Step, Leads, AreWalks, none, whole, front}
-use Rattle.journal_laws.specs.Paths.{PathStep, Saw, Did, IsPath, act_of}
-use Rattle.journal_laws.specs.WalkRule.{IsWalkBy, IsWalk, TellsAct, AreTold, first_done, AreTransfers, no_more, one_more, under_way}
-use Rattle.flat_laws.proofs.past.Walks.{tells_none}
-use Rattle.journal_laws.proofs.walk.Paths.{path_split, path_append, some_path, first_step, no_acts, keeps-full}
+use Rattle.bus_spec.specs.Stepwise.{IsStepwise}
+use Rattle.bus_spec.specs.Legal.{steps_in, KeepsWalks}
+use Rattle.bus_laws.specs.Reach.{AsksForMessages}
+use Rattle.bus_spec.specs.WalkRule.{Step, PathStep, Saw, Did, act_of, IsWalkBy, IsWalk, TellsAct, AreTold, first_done, AreTransfers, no_more, one_more, under_way}
+use Rattle.flat_laws.proofs.past.Walks.{tells_none, walks-kept}
+use Rattle.flat_laws.specs.Paths.{IsPath}
+use Rattle.flat_laws.specs.Led.{Leads, AreWalks, none, whole, front, AreAllWalks}
+use Rattle.flat_laws.proofs.walk.Paths.{path_split, path_append, some_path, first_step, no_acts, keeps-full}
 
 -- THE WALK of a transfer
 at_end : (steps : List PathStep) → IsPath steps Ends Ends → steps ≡ []
@@ -43,7 +47,7 @@ path-walk b t steps path = by (refusal b t) path
     by None p =
         let s = (keeps-full b (root_of b t.bus) (hops b t.bus)).splits (Call t.bus (messages_of t)) plain (λ o. Ends) steps p in (
           s.out,
-          subst (λ (xs : List PathStep). Rattle.journal_laws.specs.WalkRule.IsFull b (root_of b t.bus) (hops b t.bus)
+          subst (λ (xs : List PathStep). Rattle.bus_spec.specs.WalkRule.IsFull b (root_of b t.bus) (hops b t.bus)
               (Call t.bus (messages_of t)) true xs s.out)
               (sym (s.all ∙ ap (λ (xs : List PathStep). s.done ++ xs) (at_end s.rest s.goes_on) ∙ append-nil s.done)) s.kept,
         )
@@ -153,3 +157,14 @@ module _ (b : BoardView) (asks : List Reply → Option TransferView) where
   transfers-walks rs steps (under_way xs t done rest mine asked keeps told quiet) =
       let way = front-path b t done rest keeps in
       front xs t mine way.0 asked (told-leads b done mine (walk_for b t) way.0 way.1 told) (ap is_due (first_next rest way.0 way.2) ∙ quiet)
+
+-- OF A JOURNAL: each caller's
+pub walks-led : (b : BoardView) (asks : Asks) (past : List Entry) → KeepsWalks b asks past → AreAllWalks b asks past
+walks-led b asks past keeps c = transfers-walks b (asks c) [] (steps_in b asks c past) (keeps c)
+
+pub led-walks : (b : BoardView) (asks : Asks) (past : List Entry) → AreAllWalks b asks past → KeepsWalks b asks past
+led-walks b asks past led c = walks-transfers b (asks c) [] (steps_in b asks c past) (led c)
+
+pub transfers-kept : (b : BoardView) (asks : Asks) → AsksForMessages asks → (callers : ℕ) (past : List Entry)
+    → IsStepwise b callers asks past → (now b asks past).due ≡ None → KeepsWalks b asks past
+transfers-kept b asks some callers past steps none_due = led-walks b asks past (walks-kept b asks some callers past steps none_due)

@@ -4,20 +4,32 @@ use Rattle.std.specs.Prelude.{◌≡◌, ℕ, zero, suc, Bool, true, false, ◌&
 use Rattle.i2c_base.specs.declared.ids.LockId.{LockId}
 use Rattle.i2c_base.specs.declared.errno.Errno.{Errno}
 use Rattle.i2c_base.specs.declared.entry.Entry.{Entry}
+use Rattle.i2c_base.specs.declared.entry.Entry.TheVariants as entry
 use Rattle.i2c_base.specs.declared.reply.Reply.{Reply}
 use Rattle.i2c_base.specs.Board.{BoardView}
 use Rattle.i2c_base.specs.Transfer.{TransferView}
 use Rattle.i2c_spec.specs.Tree.{Hop, hops, root_of, locks_of}
 use Rattle.i2c_spec.specs.Messages.{messages_of}
 use Rattle.i2c_spec.specs.Flat.{refusal}
-use Rattle.bus_spec.specs.Walk.{Job, Call, Select, SwitchOff, Deselect, Close, Act, Take, Free, Send, Shift, Settle, ActOutcome, JobOutcome, Good, Refused, Unsent, Failed, MarkOf, Ends, Then, Go, On, Last, Over, goes, job_outcome, verdict_of, decides, is_line, more_of, KeptOf}
+use Rattle.bus_spec.specs.Walk.{Job, Call, Select, SwitchOff, Deselect, Close, Act, Take, Free, Send, Shift, Settle, ActOutcome, JobOutcome, Ask, Good, Refused, Unsent, Failed, MarkOf, Ends, Then, Go, On, Last, Over, goes, job_outcome, verdict_of, decides, is_line, more_of, KeptOf}
 use Rattle.bus_spec.specs.Slots.{answer_to}
 use Rattle.bus_spec.specs.Grammar.{kind_of, plain, keeps}
 use Rattle.bus_spec.specs.Tells.{Tells}
 use Rattle.bus_spec.specs.Past.{Now, is_due}
 use Rattle.bus_spec.specs.Places.{outcome_of}
-use Rattle.journal_laws.specs.Paths.{PathStep, Saw, Did, act_of, Rule}
-use Rattle.bus_spec.specs.Legal.{Step, replies_in}
+
+-- a look and its answer; a step and what came of it
+pub data PathStep : Type 0 where
+  Saw : (ask : Ask) → (mark : Option ℕ) → PathStep
+  Did : (act : Act) → (out : ActOutcome) → PathStep
+
+abbrev pub act_of : PathStep → Option Act
+act_of (Saw ask mark) = None
+act_of (Did act out) = Some act
+
+-- what the steps of a job are: of this job, on the way to the caller's messages or not, these steps, and what came of it
+abbrev pub Rule : Type 1
+Rule = Job → Bool → List PathStep → JobOutcome → Type 0
 
 -- A JOB ON THE BUS ITSELF. Behind its last message or line step there is the settle, directly, where it decides
 abbrev pub settle_where : Bool → Option Errno → List (Option Act)
@@ -153,6 +165,20 @@ IsWalkBy b t None steps = (out : JobOutcome) × IsFull b (root_of b t.bus) (hops
 
 abbrev pub IsWalk : BoardView → TransferView → List PathStep → Type 0
 IsWalk b t steps = IsWalkBy b t (refusal b t) steps
+
+-- A step is an entry, and where everything stood before it
+pub record Step : Type 0 where
+  pub before : Now
+  pub entry : Entry
+
+-- the replies that steps settle
+abbrev pub replies_in : List Step → List Reply
+replies_in [] = []
+replies_in (s ∷ ss) = reply_in s.entry (replies_in ss)
+  where
+    reply_in : Entry → List Reply → List Reply
+    reply_in (entry.Settle c r cut) rs = r ∷ rs
+    reply_in e rs = rs
 
 -- THE STEPS OF A CALLER. A look is answered by what is known of its bus where the next entry stands; an entry is the step that
 -- is done there, tells all of it, and what came of it

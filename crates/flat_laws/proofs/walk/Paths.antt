@@ -9,8 +9,8 @@ use Rattle.i2c_spec.specs.Tree.{Hop, locks_of}
 use Rattle.bus_spec.specs.Walk.{Job, Select, SwitchOff, Deselect, Close, Act, Take, Free, Send, Shift, Settle, ActOutcome, Passed, JobOutcome, Good, Refused, Unsent, Failed, Note, Ask, MarkOf, KeptOf, WalkTree, Ends, Look, Then, Go, On, Last, Over, goes, job_outcome, verdict_of, decides, is_line, more_of}
 use Rattle.bus_spec.specs.Grammar.{Doer, plain, settled, over, by_go, messages, at_bus, locked, part, with_mark, aside, if_sent, if_good, kind_of, closing, left_behind, opened, chosen, crossed, behind, inner, full}
 use Rattle.bus_spec.specs.Grammar as grammar
-use Rattle.journal_laws.specs.Paths.{Rule, PathStep, Saw, Did, IsPath, act_of, IsDoneBy}
-use Rattle.journal_laws.specs.WalkRule.{settle_where, IsJobEnd, next_by, next_message, NextOr, AreMessages, IsLineStep, AtBus, IsLocked, IsLeft, IsOpened, IsCrossed, IsPassed, IfGood, IsChosen, IfSent, IsClosed, IsBehindMux, IsPart, IsInner, IsFull}
+use Rattle.flat_laws.specs.Paths.{IsPath, IsDoneBy}
+use Rattle.bus_spec.specs.WalkRule.{Rule, PathStep, Saw, Did, act_of, settle_where, IsJobEnd, next_by, next_message, NextOr, AreMessages, IsLineStep, AtBus, IsLocked, IsLeft, IsOpened, IsCrossed, IsPassed, IfGood, IsChosen, IfSent, IsClosed, IsBehindMux, IsPart, IsInner, IsFull}
 
 pub path_append : (xs ys : List PathStep) (u v w : WalkTree) → IsPath xs u v → IsPath ys v w → IsPath (xs ++ ys) u w
 path_append [] ys u v w p q = subst (λ (x : WalkTree). IsPath ys x w) (sym p) q

@@ -1,12 +1,8 @@
 -- The paths of a walk: what is done on the way from one tree to another, whatever its looks are answered and whatever
 -- comes of its steps.
-use Rattle.std.specs.Prelude.{◌≡◌, ℕ, Bool, List, [], ◌∷◌, ◌++◌, Option, Some, None}
-use Rattle.bus_spec.specs.Walk.{Job, Act, ActOutcome, JobOutcome, Note, Ask, WalkTree, Ends, Look, Then}
-
--- a look and its answer; a step and what came of it
-pub data PathStep : Type 0 where
-  Saw : (ask : Ask) → (mark : Option ℕ) → PathStep
-  Did : (act : Act) → (out : ActOutcome) → PathStep
+use Rattle.std.specs.Prelude.{◌≡◌, List, [], ◌∷◌, ◌++◌}
+use Rattle.bus_spec.specs.Walk.{Job, JobOutcome, Note, WalkTree, Ends, Look, Then}
+use Rattle.bus_spec.specs.WalkRule.{PathStep, Saw, Did, Rule}
 
 -- these lead from one tree to another
 abbrev pub IsPath : List PathStep → WalkTree → WalkTree → Type 0
@@ -17,14 +13,6 @@ IsPath (Saw asked mark ∷ steps) (Then act note next) to = ⊥
 IsPath (Did done out ∷ steps) Ends to = ⊥
 IsPath (Did done out ∷ steps) (Look ask next) to = ⊥
 IsPath (Did done out ∷ steps) (Then act note next) to = (done ≡ act) × IsPath steps (next out) to
-
-abbrev pub act_of : PathStep → Option Act
-act_of (Saw ask mark) = None
-act_of (Did act out) = Some act
-
--- what the steps of a job are: of this job, on the way to the caller's messages or not, these steps, and what came of it
-abbrev pub Rule : Type 1
-Rule = Job → Bool → List PathStep → JobOutcome → Type 0
 
 -- steps that begin with those of a job by a rule, and go on as is said for what came of it
 pub record IsDoneBy (rule : Rule) (job : Job) (note : Note) (k : JobOutcome → WalkTree) (steps : List PathStep) : Type 0 where
