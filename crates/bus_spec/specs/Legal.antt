@@ -25,10 +25,10 @@ use Rattle.i2c_spec.specs.Flat.{refusal}
 use Rattle.i2c_spec.specs.History.{Asks, History, history}
 use Rattle.bus_spec.specs.Walk.{Ends}
 use Rattle.bus_spec.specs.Readings.{MessageEntry, of_message, OfMessage, rank, caller_of, holder, replies, order, is_on_root, is_call_of, is_settle_of, last_cut, Everywhere}
-use Rattle.bus_spec.specs.Past.{now, world_at}
+use Rattle.bus_spec.specs.Past.{current, now, world_at}
 use Rattle.bus_spec.specs.Places.{transfer_at}
 use Rattle.bus_spec.specs.Tells.{HearsIn}
-use Rattle.bus_spec.specs.WalkRule.{Step, AreTransfers}
+use Rattle.bus_spec.specs.WalkRule.{Step, deed_next, AreTransfers}
 
 -- LOCKS: a lock is taken only while nobody has it, in falling rank, and freed only by who has it (i2c-topology)
 abbrev pub LocksAt : BoardView → Entry → List Entry → Type 0
@@ -53,7 +53,7 @@ pub record KeepsWhole (b : BoardView) (past : List Entry) : Type 0 where
 abbrev pub steps_in : BoardView → Asks → ℕ → List Entry → List Step
 steps_in b asks c [] = []
 steps_in b asks c (e ∷ past) =
-    if caller_of e == c then steps_in b asks c past ++ (record { before = now b asks past; entry = e }) ∷ [] else steps_in b asks c past
+    if caller_of e == c then steps_in b asks c past ++ (record { before = now b asks past; deed = deed_next (current b asks (now b asks past) c); entry = e }) ∷ [] else steps_in b asks c past
 
 abbrev pub KeepsWalks : BoardView → Asks → List Entry → Type 0
 KeepsWalks b asks past = (c : ℕ) → AreTransfers b (asks c) [] (steps_in b asks c past)

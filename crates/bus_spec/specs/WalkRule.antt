@@ -11,34 +11,63 @@ use Rattle.i2c_base.specs.Transfer.{TransferView}
 use Rattle.i2c_spec.specs.Tree.{Hop, hops, root_of, locks_of}
 use Rattle.i2c_spec.specs.Messages.{messages_of}
 use Rattle.i2c_spec.specs.Flat.{refusal}
-use Rattle.bus_spec.specs.Walk.{Job, Call, Select, SwitchOff, Deselect, Close, Act, Take, Free, Send, Shift, Settle, ActOutcome, JobOutcome, Ask, Good, Refused, Unsent, Failed, MarkOf, Ends, Then, Go, On, Last, Over, goes, job_outcome, verdict_of, decides, is_line, more_of, KeptOf}
+use Rattle.bus_spec.specs.Walk.{Job, Call, Select, SwitchOff, Deselect, Close, Act, Mark, Take, Free, Send, Shift, Settle, ActOutcome, JobOutcome, Ask, Good, Refused, Unsent, Failed, MarkOf, WalkTree, Ends, Look, Then, Go, On, Last, Over, goes, job_outcome, verdict_of, decides, is_line, more_of, KeptOf}
 use Rattle.bus_spec.specs.Slots.{answer_to}
 use Rattle.bus_spec.specs.Grammar.{kind_of, plain, keeps}
 use Rattle.bus_spec.specs.Tells.{Tells}
 use Rattle.bus_spec.specs.Past.{Now, is_due}
 use Rattle.bus_spec.specs.Places.{outcome_of}
 
+-- WHAT A FAILURE MARKS. A step is done for a job, and that job maybe for another one: its way is all of these, its own job first.
+-- Where the step fails by the port it marks the mux of each select and close on its way up to the nearest deselect, and the mux of
+-- that deselect, and none beyond
+abbrev pub marks_on : List Job → List Mark
+marks_on [] = []
+marks_on (Call bus messages ∷ way) = marks_on way
+marks_on (Select h ∷ way) = (record { on = h.on; mux = h.mux }) ∷ marks_on way
+marks_on (SwitchOff (Close on mux kind) ∷ way) = (record { on = on; mux = mux }) ∷ marks_on way
+marks_on (SwitchOff (Deselect h) ∷ way) = (record { on = h.on; mux = h.mux }) ∷ []
+
+-- the way leads to the caller's messages: there is no deselect on it
+abbrev pub is_forward : List Job → Bool
+is_forward [] = true
+is_forward (Call bus messages ∷ way) = is_forward way
+is_forward (Select h ∷ way) = is_forward way
+is_forward (SwitchOff (Close on mux kind) ∷ way) = is_forward way
+is_forward (SwitchOff (Deselect h) ∷ way) = false
+
+-- a step, and what it marks where it fails by the port: nothing, if it is none of a job
+pub record Deed : Type 0 where
+  pub act : Act
+  pub marks : List Mark
+
+abbrev pub quiet : Act → Deed
+quiet act = record { act = act; marks = [] }
+
+abbrev pub for_jobs : Act → List Job → Deed
+for_jobs act way = record { act = act; marks = marks_on way }
+
 -- a look and its answer; a step and what came of it
 pub data PathStep : Type 0 where
   Saw : (ask : Ask) → (mark : Option ℕ) → PathStep
-  Did : (act : Act) → (out : ActOutcome) → PathStep
+  Did : (deed : Deed) → (out : ActOutcome) → PathStep
 
-abbrev pub act_of : PathStep → Option Act
-act_of (Saw ask mark) = None
-act_of (Did act out) = Some act
+abbrev pub deed_of : PathStep → Option Deed
+deed_of (Saw ask mark) = None
+deed_of (Did deed out) = Some deed
 
--- what the steps of a job are: of this job, on the way to the caller's messages or not, these steps, and what came of it
+-- what the steps of a job are: of this job, for these others, these steps, and what came of it
 abbrev pub Rule : Type 1
-Rule = Job → Bool → List PathStep → JobOutcome → Type 0
+Rule = Job → List Job → List PathStep → JobOutcome → Type 0
 
 -- A JOB ON THE BUS ITSELF. Behind its last message or line step there is the settle, directly, where it decides
-abbrev pub settle_where : Bool → Option Errno → List (Option Act)
-settle_where true verdict = Some (Settle verdict) ∷ []
+abbrev pub settle_where : Bool → Option Errno → List (Option Deed)
+settle_where true verdict = Some (quiet (Settle verdict)) ∷ []
 settle_where false verdict = []
 
-abbrev pub IsJobEnd : Job → Bool → ℕ → ActOutcome → List PathStep → JobOutcome → Type 0
-IsJobEnd job forward left last steps out =
-    (map act_of steps ≡ settle_where (forward && decides job (job_outcome job left last)) (verdict_of job left last))
+abbrev pub IsJobEnd : Job → List Job → ℕ → ActOutcome → List PathStep → JobOutcome → Type 0
+IsJobEnd job whose left last steps out =
+    (map deed_of steps ≡ settle_where (is_forward (job ∷ whose) && decides job (job_outcome job left last)) (verdict_of job left last))
     × (out ≡ job_outcome job left last)
 
 -- which message of a job follows one behind which so many may come
@@ -56,45 +85,45 @@ NextOr None more end = end
 NextOr (Some left) more end = more left
 
 -- its messages, one after the other
-abbrev pub AreMessages : Job → Bool → ℕ → List PathStep → JobOutcome → Type 0
-AreMessages job forward left [] out = ⊥
-AreMessages job forward left (Saw ask mark ∷ steps) out = ⊥
-AreMessages job forward left (Did act o ∷ steps) out =
-    (act ≡ Send job left) × NextOr (next_message job left o) (λ next. AreMessages job forward next steps out)
-    (IsJobEnd job forward left o steps out)
+abbrev pub AreMessages : Job → List Job → ℕ → List PathStep → JobOutcome → Type 0
+AreMessages job whose left [] out = ⊥
+AreMessages job whose left (Saw ask mark ∷ steps) out = ⊥
+AreMessages job whose left (Did deed o ∷ steps) out =
+    (deed ≡ for_jobs (Send job left) (job ∷ whose)) × NextOr (next_message job left o) (λ next. AreMessages job whose next steps out)
+    (IsJobEnd job whose left o steps out)
 
 -- its line step
-abbrev pub IsLineStep : Job → Bool → List PathStep → JobOutcome → Type 0
-IsLineStep job forward [] out = ⊥
-IsLineStep job forward (Saw ask mark ∷ steps) out = ⊥
-IsLineStep job forward (Did act o ∷ steps) out = (act ≡ Shift job) × IsJobEnd job forward zero o steps out
+abbrev pub IsLineStep : Job → List Job → List PathStep → JobOutcome → Type 0
+IsLineStep job whose [] out = ⊥
+IsLineStep job whose (Saw ask mark ∷ steps) out = ⊥
+IsLineStep job whose (Did deed o ∷ steps) out = (deed ≡ for_jobs (Shift job) (job ∷ whose)) × IsJobEnd job whose zero o steps out
 
 abbrev pub AtBus : Rule
-AtBus job forward steps out = MatchBool (is_line job) (IsLineStep job forward steps out) (AreMessages job forward (more_of job) steps out)
+AtBus job whose steps out = MatchBool (is_line job) (IsLineStep job whose steps out) (AreMessages job whose (more_of job) steps out)
 
 -- FULL: the locks are taken, the job is done, and the locks are freed in reverse order
-pub record IsLocked (locks : List LockId) (on : Rule) (job : Job) (forward : Bool) (steps : List PathStep) (out : JobOutcome) : Type 0 where
+pub record IsLocked (locks : List LockId) (on : Rule) (job : Job) (whose : List Job) (steps : List PathStep) (out : JobOutcome) : Type 0 where
   pub takes : List PathStep
   pub middle : List PathStep
   pub frees : List PathStep
   pub all : steps ≡ takes ++ (middle ++ frees)
-  pub taken : map act_of takes ≡ map (λ l. Some (Take l)) locks
-  pub job_done : on job forward middle out
-  pub freed : map act_of frees ≡ map (λ l. Some (Free l)) (reverse locks)
+  pub taken : map deed_of takes ≡ map (λ l. Some (quiet (Take l))) locks
+  pub job_done : on job whose middle out
+  pub freed : map deed_of frees ≡ map (λ l. Some (quiet (Free l))) (reverse locks)
 
 -- INNER, behind a mux: where its bus carries a mark, the marked mux is closed; the channel is selected; the job is done on the
 -- mux's bus; the mux is deselected, where it doesn't stay as it is. Each part is a job of its own on that bus. A deselect is on
 -- no way to the messages
-abbrev pub IsLeft : Bool → Hop → Rule → List PathStep → Type 0
-IsLeft true h on deselected = deselected ≡ []
-IsLeft false h on deselected = (last : JobOutcome) × on (SwitchOff (Deselect h)) false deselected last
+abbrev pub IsLeft : Bool → Hop → Rule → List Job → List PathStep → Type 0
+IsLeft true h on way deselected = deselected ≡ []
+IsLeft false h on way deselected = (last : JobOutcome) × on (SwitchOff (Deselect h)) way deselected last
 
-pub record IsOpened (h : Hop) (on : Rule) (job : Job) (forward : Bool) (steps : List PathStep) (out : JobOutcome) : Type 0 where
+pub record IsOpened (h : Hop) (on : Rule) (job : Job) (whose : List Job) (steps : List PathStep) (out : JobOutcome) : Type 0 where
   pub done : List PathStep
   pub deselected : List PathStep
   pub all : steps ≡ done ++ deselected
-  pub job_done : on job forward done out
-  pub left : IsLeft h.stays h on deselected
+  pub job_done : on job whose done out
+  pub left : IsLeft h.stays h on (job ∷ whose) deselected
 
 -- the job goes on only where the select was good: without it, neither the job is done nor the mux is deselected
 abbrev pub IfGood : JobOutcome → Type 0 → List PathStep → JobOutcome → Type 0
@@ -103,24 +132,24 @@ IfGood Refused goes_on rest out = (rest ≡ []) × (out ≡ Unsent)
 IfGood Unsent goes_on rest out = (rest ≡ []) × (out ≡ Unsent)
 IfGood Failed goes_on rest out = (rest ≡ []) × (out ≡ Failed)
 
-pub record IsChosen (h : Hop) (on : Rule) (job : Job) (forward : Bool) (steps : List PathStep) (out : JobOutcome) : Type 0 where
+pub record IsChosen (h : Hop) (on : Rule) (job : Job) (whose : List Job) (steps : List PathStep) (out : JobOutcome) : Type 0 where
   pub selected : List PathStep
   pub rest : List PathStep
   pub came : JobOutcome
   pub all : steps ≡ selected ++ rest
-  pub select_done : on (Select h) forward selected came
-  pub goes_on : IfGood came (IsOpened h on job forward rest out) rest out
+  pub select_done : on (Select h) (job ∷ whose) selected came
+  pub goes_on : IfGood came (IsOpened h on job whose rest out) rest out
 
 -- a mux that stays as it is, and keeps the channel, isn't selected
-abbrev pub IsCrossed : Hop → Rule → Option ℕ → Job → Bool → List PathStep → JobOutcome → Type 0
-IsCrossed h on kept job forward steps out = MatchBool (keeps h kept) (IsOpened h on job forward steps out)
-    (IsChosen h on job forward steps out)
+abbrev pub IsCrossed : Hop → Rule → Option ℕ → Job → List Job → List PathStep → JobOutcome → Type 0
+IsCrossed h on kept job whose steps out = MatchBool (keeps h kept) (IsOpened h on job whose steps out)
+    (IsChosen h on job whose steps out)
 
-pub record IsPassed (h : Hop) (on : Rule) (job : Job) (forward : Bool) (steps : List PathStep) (out : JobOutcome) : Type 0 where
+pub record IsPassed (h : Hop) (on : Rule) (job : Job) (whose : List Job) (steps : List PathStep) (out : JobOutcome) : Type 0 where
   pub kept : Option ℕ
   pub rest : List PathStep
   pub all : steps ≡ Saw (KeptOf h.on h.mux) kept ∷ rest
-  pub crossed : IsCrossed h on kept job forward rest out
+  pub crossed : IsCrossed h on kept job whose rest out
 
 -- and only where the close was sent and didn't fail by the port, acknowledged or not
 abbrev pub IfSent : JobOutcome → Type 0 → List PathStep → JobOutcome → Type 0
@@ -129,19 +158,19 @@ IfSent Refused goes_on rest out = goes_on
 IfSent Unsent goes_on rest out = (rest ≡ []) × (out ≡ Unsent)
 IfSent Failed goes_on rest out = (rest ≡ []) × (out ≡ Failed)
 
-abbrev pub IsClosed : BoardView → Hop → Rule → Bool → Option ℕ → List PathStep → JobOutcome → Type 0
-IsClosed b h on forward None closed came = (closed ≡ []) × (came ≡ Good)
-IsClosed b h on forward (Some m) closed came = on (SwitchOff (Close h.on m (kind_of b m))) forward closed came
+abbrev pub IsClosed : BoardView → Hop → Rule → List Job → Option ℕ → List PathStep → JobOutcome → Type 0
+IsClosed b h on way None closed came = (closed ≡ []) × (came ≡ Good)
+IsClosed b h on way (Some m) closed came = on (SwitchOff (Close h.on m (kind_of b m))) way closed came
 
-pub record IsBehindMux (b : BoardView) (h : Hop) (on : Rule) (job : Job) (forward : Bool) (steps : List PathStep)
+pub record IsBehindMux (b : BoardView) (h : Hop) (on : Rule) (job : Job) (whose : List Job) (steps : List PathStep)
     (out : JobOutcome) : Type 0 where
   pub mark : Option ℕ
   pub closed : List PathStep
   pub rest : List PathStep
   pub came : JobOutcome
   pub all : steps ≡ Saw (MarkOf h.on) mark ∷ (closed ++ rest)
-  pub close_done : IsClosed b h on forward mark closed came
-  pub goes_on : IfSent came (IsPassed h on job forward rest out) rest out
+  pub close_done : IsClosed b h on (job ∷ whose) mark closed came
+  pub goes_on : IfSent came (IsPassed h on job whose rest out) rest out
 
 -- on the bus of a parent-locked mux the part is the inner one, on that of a mux-locked mux the full one
 abbrev pub IsPart : Bool → List LockId → Rule → Rule
@@ -150,26 +179,33 @@ IsPart false locks on = IsLocked locks on
 
 -- at a root, and of a line step on any bus, it is the job itself
 abbrev pub IsInner : BoardView → ℕ → List Hop → Rule
-IsInner b root [] job forward steps out = AtBus job forward steps out
-IsInner b root (h ∷ hs) job forward steps out =
-    MatchBool (is_line job) (AtBus job forward steps out)
-    (IsBehindMux b h (IsPart h.parent (locks_of root hs) (IsInner b root hs)) job forward steps out)
+IsInner b root [] job whose steps out = AtBus job whose steps out
+IsInner b root (h ∷ hs) job whose steps out =
+    MatchBool (is_line job) (AtBus job whose steps out)
+    (IsBehindMux b h (IsPart h.parent (locks_of root hs) (IsInner b root hs)) job whose steps out)
 
 abbrev pub IsFull : BoardView → ℕ → List Hop → Rule
 IsFull b root hs = IsLocked (locks_of root hs) (IsInner b root hs)
 
 -- THE WALK OF A TRANSFER: the full one of its messages on its bus; one settle where it is refused
 abbrev pub IsWalkBy : BoardView → TransferView → Option Errno → List PathStep → Type 0
-IsWalkBy b t (Some e) steps = map act_of steps ≡ Some (Settle (Some e)) ∷ []
-IsWalkBy b t None steps = (out : JobOutcome) × IsFull b (root_of b t.bus) (hops b t.bus) (Call t.bus (messages_of t)) true steps out
+IsWalkBy b t (Some e) steps = map deed_of steps ≡ Some (quiet (Settle (Some e))) ∷ []
+IsWalkBy b t None steps = (out : JobOutcome) × IsFull b (root_of b t.bus) (hops b t.bus) (Call t.bus (messages_of t)) [] steps out
 
 abbrev pub IsWalk : BoardView → TransferView → List PathStep → Type 0
 IsWalk b t steps = IsWalkBy b t (refusal b t) steps
 
--- A step is an entry, and where everything stood before it
+-- A step is an entry, where everything stood before it, and what is done there, with what it marks where it fails by the port
 pub record Step : Type 0 where
   pub before : Now
+  pub deed : Deed
   pub entry : Entry
+
+-- the next step of a walk without a look in front
+abbrev pub deed_next : WalkTree → Deed
+deed_next Ends = quiet (Settle None)
+deed_next (Look ask next) = quiet (Settle None)
+deed_next (Then act note next) = record { act = act; marks = note.marks }
 
 -- the replies that steps settle
 abbrev pub replies_in : List Step → List Reply
@@ -189,13 +225,13 @@ abbrev pub AreTold : BoardView → List PathStep → List Step → Type 0
 AreTold b [] steps = steps ≡ []
 AreTold b (Saw ask answer ∷ ps) [] = ⊥
 AreTold b (Saw ask answer ∷ ps) (s ∷ steps) = (answer ≡ answer_to s.before.slot ask) × AreTold b ps (s ∷ steps)
-AreTold b (Did act out ∷ ps) [] = ⊥
-AreTold b (Did act out ∷ ps) (s ∷ steps) = TellsAct b s.before act s.entry × (out ≡ outcome_of s.entry) × AreTold b ps steps
+AreTold b (Did deed out ∷ ps) [] = ⊥
+AreTold b (Did deed out ∷ ps) (s ∷ steps) = TellsAct b s.before deed.act s.entry × (out ≡ outcome_of s.entry) × (s.deed ≡ deed) × AreTold b ps steps
 
 abbrev pub first_done : List PathStep → Option Act
 first_done [] = None
 first_done (Saw ask mark ∷ ps) = None
-first_done (Did act out ∷ ps) = Some act
+first_done (Did deed out ∷ ps) = Some deed.act
 
 -- they are the walks of what the caller asks for, one after the other, each behind the replies of those before; the last one
 -- may be the front of a walk, which doesn't end before a settle

@@ -11,7 +11,7 @@ use Rattle.bus_spec.specs.Grammar.{walk_for, seen, first_act, rest_of}
 use Rattle.bus_spec.specs.Past.{is_due}
 use Rattle.bus_spec.specs.Places.{outcome_of}
 use Rattle.bus_spec.specs.Tells.{Tells}
-use Rattle.bus_spec.specs.WalkRule.{Step, replies_in}
+use Rattle.bus_spec.specs.WalkRule.{Step, deed_next, replies_in}
 use Rattle.bus_spec.specs.Legal.{steps_in}
 
 -- these steps lead through a walk, and leave so much of it: each is the next step of what is left there, and tells all
@@ -20,6 +20,7 @@ abbrev pub Leads : BoardView → WalkTree → List Step → WalkTree → Type 0
 Leads b w [] rest = rest ≡ w
 Leads b w (s ∷ ss) rest =
     Tells b s.before (seen s.before.slot w) s.entry × Leads b (rest_of (seen s.before.slot w) (outcome_of s.entry)) ss rest
+    × (s.deed ≡ deed_next (seen s.before.slot w))
 
 -- the steps of one caller, which asks for this after these replies: whole walks, and at last maybe the front of one,
 -- which doesn't part a deciding message or line step from its settle

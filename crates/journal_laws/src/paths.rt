@@ -6,11 +6,11 @@ ghost use Rattle.i2c_base.specs.Board.{BoardView};
 ghost use Rattle.i2c_base.specs.Transfer.{TransferView};
 ghost use Rattle.i2c_spec.specs.Tree.{Hop};
 ghost use Rattle.i2c_spec.specs.History.{Asks};
-ghost use Rattle.bus_spec.specs.Walk.{Job, JobOutcome, Note, WalkTree, Ends};
+ghost use Rattle.bus_spec.specs.Walk.{Job, JobOutcome, WalkTree, Ends};
 ghost use Rattle.bus_spec.specs.Grammar.{full, inner, walk_for};
 ghost use Rattle.bus_spec.specs.WalkRule.{Step, PathStep, IsFull, IsInner, IsWalk, AreTransfers};
 ghost use Rattle.bus_spec.specs.Legal.{KeepsWalks};
-ghost use Rattle.flat_laws.specs.Paths.{IsPath, IsDoneBy};
+ghost use Rattle.flat_laws.specs.Paths.{note_of, IsPath, IsDoneBy};
 ghost use Rattle.flat_laws.specs.Led.{AreWalks, AreAllWalks};
 
 /// A job with locks of its own takes all of them, in the order of `locks_of`, before anything else; then comes the whole
@@ -20,10 +20,10 @@ ghost use Rattle.flat_laws.specs.Led.{AreWalks, AreAllWalks};
 /// premise. One whose locks are held goes through its four parts: the close of a marked mux, the select, the job on the bus
 /// before the mux, the deselect.
 pub fn a_job_stands_between_its_locks()
-    ensures full { (b : BoardView) (root : ℕ) (hs : List Hop) (job : Job) (note : Note) (k : JobOutcome → WalkTree) (steps : List PathStep)
-        → IsPath steps (full b root hs job note k) Ends → IsDoneBy (IsFull b root hs) job note k steps }
-    ensures inner { (b : BoardView) (root : ℕ) (hs : List Hop) (job : Job) (note : Note) (k : JobOutcome → WalkTree) (steps : List PathStep)
-        → IsPath steps (inner b root hs job note k) Ends → IsDoneBy (IsInner b root hs) job note k steps }
+    ensures full { (b : BoardView) (root : ℕ) (hs : List Hop) (job : Job) (whose : List Job) (k : JobOutcome → WalkTree) (steps : List PathStep)
+        → IsPath steps (full b root hs job (note_of job whose) k) Ends → IsDoneBy (IsFull b root hs) job whose k steps }
+    ensures inner { (b : BoardView) (root : ℕ) (hs : List Hop) (job : Job) (whose : List Job) (k : JobOutcome → WalkTree) (steps : List PathStep)
+        → IsPath steps (inner b root hs job (note_of job whose) k) Ends → IsDoneBy (IsInner b root hs) job whose k steps }
 {}
 
 /// The paths of a transfer's walk are exactly the lists of the walk rule; those that end on the way are exactly their fronts.

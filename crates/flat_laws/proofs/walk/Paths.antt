@@ -9,8 +9,8 @@ use Rattle.i2c_spec.specs.Tree.{Hop, locks_of}
 use Rattle.bus_spec.specs.Walk.{Job, Select, SwitchOff, Deselect, Close, Act, Take, Free, Send, Shift, Settle, ActOutcome, Passed, JobOutcome, Good, Refused, Unsent, Failed, Note, Ask, MarkOf, KeptOf, WalkTree, Ends, Look, Then, Go, On, Last, Over, goes, job_outcome, verdict_of, decides, is_line, more_of}
 use Rattle.bus_spec.specs.Grammar.{Doer, plain, settled, over, by_go, messages, at_bus, locked, part, with_mark, aside, if_sent, if_good, kind_of, closing, left_behind, opened, chosen, crossed, behind, inner, full}
 use Rattle.bus_spec.specs.Grammar as grammar
-use Rattle.flat_laws.specs.Paths.{IsPath, IsDoneBy}
-use Rattle.bus_spec.specs.WalkRule.{Rule, PathStep, Saw, Did, act_of, settle_where, IsJobEnd, next_by, next_message, NextOr, AreMessages, IsLineStep, AtBus, IsLocked, IsLeft, IsOpened, IsCrossed, IsPassed, IfGood, IsChosen, IfSent, IsClosed, IsBehindMux, IsPart, IsInner, IsFull}
+use Rattle.flat_laws.specs.Paths.{note_of, deed_by, IsPath, IsDoneBy}
+use Rattle.bus_spec.specs.WalkRule.{Rule, Deed, quiet, for_jobs, is_forward, PathStep, Saw, Did, deed_of, settle_where, IsJobEnd, next_by, next_message, NextOr, AreMessages, IsLineStep, AtBus, IsLocked, IsLeft, IsOpened, IsCrossed, IsPassed, IfGood, IsChosen, IfSent, IsClosed, IsBehindMux, IsPart, IsInner, IsFull}
 
 pub path_append : (xs ys : List PathStep) (u v w : WalkTree) → IsPath xs u v → IsPath ys v w → IsPath (xs ++ ys) u w
 path_append [] ys u v w p q = subst (λ (x : WalkTree). IsPath ys x w) (sym p) q
@@ -35,7 +35,7 @@ path_split (Did a o ∷ xs) ys (Then act note next) w p = (let s = path_split xs
 pub some_path : (w : WalkTree) → (steps : List PathStep) × IsPath steps w Ends
 some_path Ends = ([], refl)
 some_path (Look ask next) = (let s = some_path (next None) in (Saw ask None ∷ s.0, (refl, s.1)))
-some_path (Then act note next) = (let s = some_path (next Passed) in (Did act Passed ∷ s.0, (refl, s.1)))
+some_path (Then act note next) = (let s = some_path (next Passed) in (Did (deed_by act note) Passed ∷ s.0, (refl, s.1)))
 
 -- what goes on with an outcome, and the rule of what is done before
 abbrev pub Task : Type 0
@@ -56,13 +56,13 @@ abbrev pub Leads : Task → (List PathStep → JobOutcome → Type 0) → Type 0
 Leads T Q = (steps : List PathStep) (out : JobOutcome) → Q steps out → (k : JobOutcome → WalkTree) → IsPath steps (T k) (k out)
 
 -- one step, and what follows each outcome
-abbrev StepThen : Act → (ActOutcome → List PathStep → JobOutcome → Type 0) → List PathStep → JobOutcome → Type 0
-StepThen act Q [] out = ⊥
-StepThen act Q (Saw ask mark ∷ steps) out = ⊥
-StepThen act Q (Did a o ∷ steps) out = (a ≡ act) × Q o steps out
+abbrev StepThen : Deed → (ActOutcome → List PathStep → JobOutcome → Type 0) → List PathStep → JobOutcome → Type 0
+StepThen deed Q [] out = ⊥
+StepThen deed Q (Saw ask mark ∷ steps) out = ⊥
+StepThen deed Q (Did a o ∷ steps) out = (a ≡ deed) × Q o steps out
 
 splits-then : (act : Act) (note : Note) (T : ActOutcome → Task) (Q : ActOutcome → List PathStep → JobOutcome → Type 0)
-    → ((o : ActOutcome) → Splits (T o) (Q o)) → Splits (λ k. Then act note (λ o. T o k)) (StepThen act Q)
+    → ((o : ActOutcome) → Splits (T o) (Q o)) → Splits (λ k. Then act note (λ o. T o k)) (StepThen (deed_by act note) Q)
 splits-then act note T Q each k [] path = absurd (let f : Then act note (λ o. T o k) ≡ Ends = path in cc)
 splits-then act note T Q each k (Saw ask m ∷ steps) path = absurd path
 splits-then act note T Q each k (Did a o ∷ steps) path =
@@ -77,70 +77,70 @@ splits-then act note T Q each k (Did a o ∷ steps) path =
     }
 
 leads-then : (act : Act) (note : Note) (T : ActOutcome → Task) (Q : ActOutcome → List PathStep → JobOutcome → Type 0)
-    → ((o : ActOutcome) → Leads (T o) (Q o)) → Leads (λ k. Then act note (λ o. T o k)) (StepThen act Q)
+    → ((o : ActOutcome) → Leads (T o) (Q o)) → Leads (λ k. Then act note (λ o. T o k)) (StepThen (deed_by act note) Q)
 leads-then act note T Q each [] out kept k = absurd kept
 leads-then act note T Q each (Saw ask m ∷ steps) out kept k = absurd kept
 leads-then act note T Q each (Did a o ∷ steps) out kept k = (kept.0, each o steps out kept.1 k)
 
 -- the settle behind a job
 abbrev SettleRule : Bool → Option Errno → JobOutcome → List PathStep → JobOutcome → Type 0
-SettleRule t v o steps out = (map act_of steps ≡ settle_where t v) × (out ≡ o)
+SettleRule t v o steps out = (map deed_of steps ≡ settle_where t v) × (out ≡ o)
 
-pub no_acts : (steps : List PathStep) → map act_of steps ≡ [] → steps ≡ []
+pub no_acts : (steps : List PathStep) → map deed_of steps ≡ [] → steps ≡ []
 no_acts [] e = refl
-no_acts (p ∷ steps) e = absurd (let f : act_of p ∷ map act_of steps ≡ [] = e in cc)
+no_acts (p ∷ steps) e = absurd (let f : deed_of p ∷ map deed_of steps ≡ [] = e in cc)
 
 -- a list of which this is the first step
-pub first_step : (steps : List PathStep) (a : Act) (acts : List (Option Act)) → map act_of steps ≡ Some a ∷ acts
-    → (o : ActOutcome) × (rest : List PathStep) × (steps ≡ Did a o ∷ rest) × (map act_of rest ≡ acts)
+pub first_step : (steps : List PathStep) (a : Deed) (acts : List (Option Deed)) → map deed_of steps ≡ Some a ∷ acts
+    → (o : ActOutcome) × (rest : List PathStep) × (steps ≡ Did a o ∷ rest) × (map deed_of rest ≡ acts)
 first_step [] a acts e = absurd (let f : [] ≡ Some a ∷ acts = e in cc)
-first_step (Saw ask m ∷ steps) a acts e = absurd (let f : None ∷ map act_of steps ≡ Some a ∷ acts = e in cc)
+first_step (Saw ask m ∷ steps) a acts e = absurd (let f : None ∷ map deed_of steps ≡ Some a ∷ acts = e in cc)
 first_step (Did d o ∷ steps) a acts e =
-    let f : Some d ∷ map act_of steps ≡ Some a ∷ acts = e in
-    (o, steps, ap (λ (x : Act). Did x o ∷ steps) (let g : d ≡ a = cc in g), (let g : map act_of steps ≡ acts = cc in g))
+    let f : Some d ∷ map deed_of steps ≡ Some a ∷ acts = e in
+    (o, steps, ap (λ (x : Deed). Did x o ∷ steps) (let g : d ≡ a = cc in g), (let g : map deed_of steps ≡ acts = cc in g))
 
 -- .. and one of which this is the last
-last_step : (steps : List PathStep) (acts : List (Option Act)) (a : Act) → map act_of steps ≡ acts ++ Some a ∷ []
-    → (front : List PathStep) × (o : ActOutcome) × (steps ≡ front ++ Did a o ∷ []) × (map act_of front ≡ acts)
+last_step : (steps : List PathStep) (acts : List (Option Deed)) (a : Deed) → map deed_of steps ≡ acts ++ Some a ∷ []
+    → (front : List PathStep) × (o : ActOutcome) × (steps ≡ front ++ Did a o ∷ []) × (map deed_of front ≡ acts)
 last_step steps [] a e =
     let s = first_step steps a [] e in
     ([], s.0, s.2 ∙ ap (λ (xs : List PathStep). Did a s.0 ∷ xs) (no_acts s.1 s.3), refl)
 last_step [] (x ∷ acts) a e = absurd (let f : [] ≡ x ∷ (acts ++ Some a ∷ []) = e in cc)
 last_step (p ∷ steps) (x ∷ acts) a e =
-    let f : act_of p ∷ map act_of steps ≡ x ∷ (acts ++ Some a ∷ []) = e in
-    let s = last_step steps acts a (let g : map act_of steps ≡ acts ++ Some a ∷ [] = cc in g) in (
+    let f : deed_of p ∷ map deed_of steps ≡ x ∷ (acts ++ Some a ∷ []) = e in
+    let s = last_step steps acts a (let g : map deed_of steps ≡ acts ++ Some a ∷ [] = cc in g) in (
       p ∷ s.0,
       s.1,
       ap (λ (xs : List PathStep). p ∷ xs) s.2,
-      ap (λ (y : Option Act). y ∷ map act_of s.0) (let g : act_of p ≡ x = cc in g)
-          ∙ ap (λ (ys : List (Option Act)). x ∷ ys) s.3,
+      ap (λ (y : Option Deed). y ∷ map deed_of s.0) (let g : deed_of p ≡ x = cc in g)
+          ∙ ap (λ (ys : List (Option Deed)). x ∷ ys) s.3,
     )
 
 splits-settled : (t : Bool) (v : Option Errno) (o : JobOutcome) → Splits (λ k. settled t v (k o)) (SettleRule t v o)
 splits-settled true v o k [] path = absurd (let f : Then (Settle v) plain (λ x. k o) ≡ Ends = path in cc)
 splits-settled true v o k (Saw ask m ∷ steps) path = absurd path
 splits-settled true v o k (Did a x ∷ steps) path =
-    record { out = o; done = Did a x ∷ []; rest = steps; all = refl; kept = (ap (λ (y : Act). Some y ∷ []) path.0, refl); goes_on = path.1 }
+    record { out = o; done = Did a x ∷ []; rest = steps; all = refl; kept = (ap (λ (y : Deed). Some y ∷ []) path.0, refl); goes_on = path.1 }
 splits-settled false v o k steps path = record { out = o; done = []; rest = steps; all = refl; kept = (refl, refl); goes_on = path }
 
 leads-settled : (t : Bool) (v : Option Errno) (o : JobOutcome) → Leads (λ k. settled t v (k o)) (SettleRule t v o)
 leads-settled true v o steps out kept k =
-    let s = first_step steps (Settle v) [] kept.0 in
+    let s = first_step steps (quiet (Settle v)) [] kept.0 in
     subst (λ (xs : List PathStep). IsPath xs (Then (Settle v) plain (λ x. k o)) (k out))
-    (sym (s.2 ∙ ap (λ (xs : List PathStep). Did (Settle v) s.0 ∷ xs) (no_acts s.1 s.3)))
+    (sym (s.2 ∙ ap (λ (xs : List PathStep). Did (quiet (Settle v)) s.0 ∷ xs) (no_acts s.1 s.3)))
     (refl, ap k (sym kept.1))
 leads-settled false v o steps out kept k =
     subst (λ (xs : List PathStep). IsPath xs (k o) (k out)) (sym (no_acts steps kept.0)) (ap k (sym kept.1))
 
-splits-over : (job : Job) (left : ℕ) (note : Note) (out : ActOutcome)
-    → Splits (λ k. over job left note k out) (IsJobEnd job note.forward left out)
-splits-over job left note out =
-    splits-settled (note.forward && decides job (job_outcome job left out)) (verdict_of job left out) (job_outcome job left out)
+splits-over : (job : Job) (left : ℕ) (whose : List Job) (out : ActOutcome)
+    → Splits (λ k. over job left (note_of job whose) k out) (IsJobEnd job whose left out)
+splits-over job left whose out =
+    splits-settled (is_forward (job ∷ whose) && decides job (job_outcome job left out)) (verdict_of job left out) (job_outcome job left out)
 
-leads-over : (job : Job) (left : ℕ) (note : Note) (out : ActOutcome)
-    → Leads (λ k. over job left note k out) (IsJobEnd job note.forward left out)
-leads-over job left note out =
-    leads-settled (note.forward && decides job (job_outcome job left out)) (verdict_of job left out) (job_outcome job left out)
+leads-over : (job : Job) (left : ℕ) (whose : List Job) (out : ActOutcome)
+    → Leads (λ k. over job left (note_of job whose) k out) (IsJobEnd job whose left out)
+leads-over job left whose out =
+    leads-settled (is_forward (job ∷ whose) && decides job (job_outcome job left out)) (verdict_of job left out) (job_outcome job left out)
 
 -- THE MESSAGES of a job
 same-rule : (P Q : List PathStep → JobOutcome → Type 0) → ((steps : List PathStep) (out : JobOutcome) → P steps out → Q steps out)
@@ -169,61 +169,61 @@ leads-go Last left M E A B C a b c = b
 leads-go Over left M E A B C a b c = c
 
 -- a job's next message, and the rule of what follows it
-abbrev MessageThen : Job → Bool → ℕ → List PathStep → JobOutcome → Type 0
-MessageThen job forward left =
-    StepThen (Send job left) (λ o steps out. NextOr (next_message job left o) (λ next. AreMessages job forward next steps out)
-    (IsJobEnd job forward left o steps out))
+abbrev MessageThen : Job → List Job → ℕ → List PathStep → JobOutcome → Type 0
+MessageThen job whose left =
+    StepThen (for_jobs (Send job left) (job ∷ whose)) (λ o steps out. NextOr (next_message job left o) (λ next. AreMessages job whose next steps out)
+    (IsJobEnd job whose left o steps out))
 
-to_messages : (job : Job) (forward : Bool) (left : ℕ) (steps : List PathStep) (out : JobOutcome) → MessageThen job forward left steps out
-    → AreMessages job forward left steps out
-to_messages job forward left [] out p = p
-to_messages job forward left (Saw ask m ∷ steps) out p = p
-to_messages job forward left (Did a o ∷ steps) out p = p
+to_messages : (job : Job) (whose : List Job) (left : ℕ) (steps : List PathStep) (out : JobOutcome) → MessageThen job whose left steps out
+    → AreMessages job whose left steps out
+to_messages job whose left [] out p = p
+to_messages job whose left (Saw ask m ∷ steps) out p = p
+to_messages job whose left (Did a o ∷ steps) out p = p
 
-of_messages : (job : Job) (forward : Bool) (left : ℕ) (steps : List PathStep) (out : JobOutcome) → AreMessages job forward left steps out
-    → MessageThen job forward left steps out
-of_messages job forward left [] out p = p
-of_messages job forward left (Saw ask m ∷ steps) out p = p
-of_messages job forward left (Did a o ∷ steps) out p = p
+of_messages : (job : Job) (whose : List Job) (left : ℕ) (steps : List PathStep) (out : JobOutcome) → AreMessages job whose left steps out
+    → MessageThen job whose left steps out
+of_messages job whose left [] out p = p
+of_messages job whose left (Saw ask m ∷ steps) out p = p
+of_messages job whose left (Did a o ∷ steps) out p = p
 
-splits-last : (job : Job) (note : Note) → Splits (messages zero job note) (AreMessages job note.forward zero)
-splits-last job note = λ k steps path.
-    same-rule (MessageThen job note.forward zero) (AreMessages job note.forward zero) (to_messages job note.forward zero) k steps
-    (splits-then (Send job zero) note (λ o k. over job zero note k o) (λ o. IsJobEnd job note.forward zero o)
-    (λ o. splits-over job zero note o) k steps path)
+splits-last : (job : Job) (whose : List Job) → Splits (messages zero job (note_of job whose)) (AreMessages job whose zero)
+splits-last job whose = λ k steps path.
+    same-rule (MessageThen job whose zero) (AreMessages job whose zero) (to_messages job whose zero) k steps
+    (splits-then (Send job zero) (note_of job whose) (λ o k. over job zero (note_of job whose) k o) (λ o. IsJobEnd job whose zero o)
+    (λ o. splits-over job zero whose o) k steps path)
 
-splits-messages : (n : ℕ) (job : Job) (note : Note) → Splits (messages n job note) (AreMessages job note.forward n)
-splits-messages zero job note = splits-last job note
-splits-messages (suc left) job note = λ k steps path.
-    same-rule (MessageThen job note.forward (suc left)) (AreMessages job note.forward (suc left))
-    (to_messages job note.forward (suc left)) k steps
-    (splits-then (Send job (suc left)) note
-    (λ o k. by_go (goes job left o) (messages left job note k) (Then (Send job zero) note (over job zero note k))
-    (over job (suc left) note k o))
-    (λ o steps out. NextOr (next_message job (suc left) o) (λ next. AreMessages job note.forward next steps out)
-    (IsJobEnd job note.forward (suc left) o steps out))
-    (λ o. splits-go (goes job left o) left (λ next. AreMessages job note.forward next) (IsJobEnd job note.forward (suc left) o)
-    (messages left job note) (messages zero job note) (λ k. over job (suc left) note k o)
-    (splits-messages left job note) (splits-last job note) (splits-over job (suc left) note o)) k steps path)
+splits-messages : (n : ℕ) (job : Job) (whose : List Job) → Splits (messages n job (note_of job whose)) (AreMessages job whose n)
+splits-messages zero job whose = splits-last job whose
+splits-messages (suc left) job whose = λ k steps path.
+    same-rule (MessageThen job whose (suc left)) (AreMessages job whose (suc left))
+    (to_messages job whose (suc left)) k steps
+    (splits-then (Send job (suc left)) (note_of job whose)
+    (λ o k. by_go (goes job left o) (messages left job (note_of job whose) k) (Then (Send job zero) (note_of job whose) (over job zero (note_of job whose) k))
+    (over job (suc left) (note_of job whose) k o))
+    (λ o steps out. NextOr (next_message job (suc left) o) (λ next. AreMessages job whose next steps out)
+    (IsJobEnd job whose (suc left) o steps out))
+    (λ o. splits-go (goes job left o) left (λ next. AreMessages job whose next) (IsJobEnd job whose (suc left) o)
+    (messages left job (note_of job whose)) (messages zero job (note_of job whose)) (λ k. over job (suc left) (note_of job whose) k o)
+    (splits-messages left job whose) (splits-last job whose) (splits-over job (suc left) whose o)) k steps path)
 
-leads-last : (job : Job) (note : Note) → Leads (messages zero job note) (AreMessages job note.forward zero)
-leads-last job note = λ steps out kept k.
-    leads-then (Send job zero) note (λ o k. over job zero note k o) (λ o. IsJobEnd job note.forward zero o)
-    (λ o. leads-over job zero note o) steps out
-    (of_messages job note.forward zero steps out kept) k
+leads-last : (job : Job) (whose : List Job) → Leads (messages zero job (note_of job whose)) (AreMessages job whose zero)
+leads-last job whose = λ steps out kept k.
+    leads-then (Send job zero) (note_of job whose) (λ o k. over job zero (note_of job whose) k o) (λ o. IsJobEnd job whose zero o)
+    (λ o. leads-over job zero whose o) steps out
+    (of_messages job whose zero steps out kept) k
 
-leads-messages : (n : ℕ) (job : Job) (note : Note) → Leads (messages n job note) (AreMessages job note.forward n)
-leads-messages zero job note = leads-last job note
-leads-messages (suc left) job note = λ steps out kept k.
-    leads-then (Send job (suc left)) note
-    (λ o k. by_go (goes job left o) (messages left job note k) (Then (Send job zero) note (over job zero note k))
-    (over job (suc left) note k o))
-    (λ o steps out. NextOr (next_message job (suc left) o) (λ next. AreMessages job note.forward next steps out)
-    (IsJobEnd job note.forward (suc left) o steps out))
-    (λ o. leads-go (goes job left o) left (λ next. AreMessages job note.forward next) (IsJobEnd job note.forward (suc left) o)
-    (messages left job note) (messages zero job note) (λ k. over job (suc left) note k o)
-    (leads-messages left job note) (leads-last job note) (leads-over job (suc left) note o)) steps out
-    (of_messages job note.forward (suc left) steps out kept) k
+leads-messages : (n : ℕ) (job : Job) (whose : List Job) → Leads (messages n job (note_of job whose)) (AreMessages job whose n)
+leads-messages zero job whose = leads-last job whose
+leads-messages (suc left) job whose = λ steps out kept k.
+    leads-then (Send job (suc left)) (note_of job whose)
+    (λ o k. by_go (goes job left o) (messages left job (note_of job whose) k) (Then (Send job zero) (note_of job whose) (over job zero (note_of job whose) k))
+    (over job (suc left) (note_of job whose) k o))
+    (λ o steps out. NextOr (next_message job (suc left) o) (λ next. AreMessages job whose next steps out)
+    (IsJobEnd job whose (suc left) o steps out))
+    (λ o. leads-go (goes job left o) left (λ next. AreMessages job whose next) (IsJobEnd job whose (suc left) o)
+    (messages left job (note_of job whose)) (messages zero job (note_of job whose)) (λ k. over job (suc left) (note_of job whose) k o)
+    (leads-messages left job whose) (leads-last job whose) (leads-over job (suc left) whose o)) steps out
+    (of_messages job whose (suc left) steps out kept) k
 
 -- one of two
 splits-if : (t : Bool) (A B : Task) (P Q : List PathStep → JobOutcome → Type 0) → Splits A P → Splits B Q
@@ -236,59 +236,59 @@ leads-if : (t : Bool) (A B : Task) (P Q : List PathStep → JobOutcome → Type 
 leads-if true A B P Q a b = a
 leads-if false A B P Q a b = b
 
-to_line : (job : Job) (forward : Bool) (steps : List PathStep) (out : JobOutcome)
-    → StepThen (Shift job) (λ o. IsJobEnd job forward zero o) steps out → IsLineStep job forward steps out
-to_line job forward [] out p = p
-to_line job forward (Saw ask m ∷ steps) out p = p
-to_line job forward (Did a o ∷ steps) out p = p
+to_line : (job : Job) (whose : List Job) (steps : List PathStep) (out : JobOutcome)
+    → StepThen (for_jobs (Shift job) (job ∷ whose)) (λ o. IsJobEnd job whose zero o) steps out → IsLineStep job whose steps out
+to_line job whose [] out p = p
+to_line job whose (Saw ask m ∷ steps) out p = p
+to_line job whose (Did a o ∷ steps) out p = p
 
-of_line : (job : Job) (forward : Bool) (steps : List PathStep) (out : JobOutcome) → IsLineStep job forward steps out
-    → StepThen (Shift job) (λ o. IsJobEnd job forward zero o) steps out
-of_line job forward [] out p = p
-of_line job forward (Saw ask m ∷ steps) out p = p
-of_line job forward (Did a o ∷ steps) out p = p
+of_line : (job : Job) (whose : List Job) (steps : List PathStep) (out : JobOutcome) → IsLineStep job whose steps out
+    → StepThen (for_jobs (Shift job) (job ∷ whose)) (λ o. IsJobEnd job whose zero o) steps out
+of_line job whose [] out p = p
+of_line job whose (Saw ask m ∷ steps) out p = p
+of_line job whose (Did a o ∷ steps) out p = p
 
 -- EACH PIECE over a doer that keeps a rule
 pub record Keeps (on : Doer) (rule : Rule) : Type 0 where
-  pub splits : (job : Job) (note : Note) → Splits (on job note) (rule job note.forward)
-  pub leads : (job : Job) (note : Note) → Leads (on job note) (rule job note.forward)
+  pub splits : (job : Job) (whose : List Job) → Splits (on job (note_of job whose)) (rule job whose)
+  pub leads : (job : Job) (whose : List Job) → Leads (on job (note_of job whose)) (rule job whose)
 
 keeps-at_bus : Keeps at_bus AtBus
 keeps-at_bus =
     record {
-      splits = λ job note.
-          splits-if (is_line job) (λ k. Then (Shift job) note (over job zero note k)) (messages (more_of job) job note)
-          (IsLineStep job note.forward) (AreMessages job note.forward (more_of job))
-          (λ k steps path. same-rule (StepThen (Shift job) (λ o. IsJobEnd job note.forward zero o)) (IsLineStep job note.forward)
-          (to_line job note.forward) k steps
-          (splits-then (Shift job) note (λ o k. over job zero note k o) (λ o. IsJobEnd job note.forward zero o)
-          (λ o. splits-over job zero note o) k steps path))
-          (splits-messages (more_of job) job note);
-      leads = λ job note.
-          leads-if (is_line job) (λ k. Then (Shift job) note (over job zero note k)) (messages (more_of job) job note)
-          (IsLineStep job note.forward) (AreMessages job note.forward (more_of job))
-          (λ steps out kept k. leads-then (Shift job) note (λ o k. over job zero note k o) (λ o. IsJobEnd job note.forward zero o)
-          (λ o. leads-over job zero note o) steps out
-          (of_line job note.forward steps out kept) k)
-          (leads-messages (more_of job) job note);
+      splits = λ job whose.
+          splits-if (is_line job) (λ k. Then (Shift job) (note_of job whose) (over job zero (note_of job whose) k)) (messages (more_of job) job (note_of job whose))
+          (IsLineStep job whose) (AreMessages job whose (more_of job))
+          (λ k steps path. same-rule (StepThen (for_jobs (Shift job) (job ∷ whose)) (λ o. IsJobEnd job whose zero o)) (IsLineStep job whose)
+          (to_line job whose) k steps
+          (splits-then (Shift job) (note_of job whose) (λ o k. over job zero (note_of job whose) k o) (λ o. IsJobEnd job whose zero o)
+          (λ o. splits-over job zero whose o) k steps path))
+          (splits-messages (more_of job) job whose);
+      leads = λ job whose.
+          leads-if (is_line job) (λ k. Then (Shift job) (note_of job whose) (over job zero (note_of job whose) k)) (messages (more_of job) job (note_of job whose))
+          (IsLineStep job whose) (AreMessages job whose (more_of job))
+          (λ steps out kept k. leads-then (Shift job) (note_of job whose) (λ o k. over job zero (note_of job whose) k o) (λ o. IsJobEnd job whose zero o)
+          (λ o. leads-over job zero whose o) steps out
+          (of_line job whose steps out kept) k)
+          (leads-messages (more_of job) job whose);
     }
 
 -- the locks that are freed, with one that is freed last
 freed-more : (l : LockId) (ls : List LockId)
-    → map (λ (i : LockId). Some (Free i)) (reverse (l ∷ ls)) ≡ map (λ (i : LockId). Some (Free i)) (reverse ls) ++ Some (Free l) ∷ []
-freed-more l ls = ap (map (λ (i : LockId). Some (Free i))) (reverse-append (l ∷ []) ls)
-    ∙ map_push (λ (i : LockId). Some (Free i)) (reverse ls) l
+    → map (λ (i : LockId). Some (quiet (Free i))) (reverse (l ∷ ls)) ≡ map (λ (i : LockId). Some (quiet (Free i))) (reverse ls) ++ Some (quiet (Free l)) ∷ []
+freed-more l ls = ap (map (λ (i : LockId). Some (quiet (Free i)))) (reverse-append (l ∷ []) ls)
+    ∙ map_push (λ (i : LockId). Some (quiet (Free i))) (reverse ls) l
 
 module _ (on : Doer) (rule : Rule) (keeps : Keeps on rule) where
   -- LOCKS
-  one_more : (l : LockId) (ls : List LockId) (job : Job) (note : Note) (k : JobOutcome → WalkTree) (o : ActOutcome) (a : Act)
-      (steps : List PathStep) → a ≡ Take l
-      → Split (IsLocked ls rule job note.forward) (λ out. Then (Free l) plain (λ o2. k out)) steps
-      → Split (IsLocked (l ∷ ls) rule job note.forward) k (Did a o ∷ steps)
-  one_more l ls job note k o a steps take s = by s.rest s.all s.goes_on
+  one_more : (l : LockId) (ls : List LockId) (job : Job) (whose : List Job) (k : JobOutcome → WalkTree) (o : ActOutcome) (a : Deed)
+      (steps : List PathStep) → a ≡ quiet (Take l)
+      → Split (IsLocked ls rule job whose) (λ out. Then (Free l) plain (λ o2. k out)) steps
+      → Split (IsLocked (l ∷ ls) rule job whose) k (Did a o ∷ steps)
+  one_more l ls job whose k o a steps take s = by s.rest s.all s.goes_on
     where
       by : (rest : List PathStep) → steps ≡ s.done ++ rest → IsPath rest (Then (Free l) plain (λ o2. k s.out)) Ends
-          → Split (IsLocked (l ∷ ls) rule job note.forward) k (Did a o ∷ steps)
+          → Split (IsLocked (l ∷ ls) rule job whose) k (Did a o ∷ steps)
       by [] all path = absurd (let f : Then (Free l) plain (λ o2. k s.out) ≡ Ends = path in cc)
       by (Saw ask m ∷ rest) all path = absurd path
       by (Did free o2 ∷ rest) all path =
@@ -305,20 +305,20 @@ module _ (on : Doer) (rule : Rule) (keeps : Keeps on rule) where
                   (ap (λ (xs : List PathStep). xs ++ Did free o2 ∷ []) s.kept.all
                   ∙ append_assoc s.kept.takes (s.kept.middle ++ s.kept.frees) (Did free o2 ∷ [])
                   ∙ ap (λ (xs : List PathStep). s.kept.takes ++ xs) (append_assoc s.kept.middle s.kept.frees (Did free o2 ∷ [])));
-              taken = ap (λ (x : Act). Some x ∷ map act_of s.kept.takes) take
-                  ∙ ap (λ (xs : List (Option Act)). Some (Take l) ∷ xs) s.kept.taken;
+              taken = ap (λ (x : Deed). Some x ∷ map deed_of s.kept.takes) take
+                  ∙ ap (λ (xs : List (Option Deed)). Some (quiet (Take l)) ∷ xs) s.kept.taken;
               job_done = s.kept.job_done;
-              freed = map_push act_of s.kept.frees (Did free o2)
-                  ∙ ap (λ (xs : List (Option Act)). xs ++ Some free ∷ []) s.kept.freed
-                  ∙ ap (λ (x : Act). map (λ (i : LockId). Some (Free i)) (reverse ls) ++ Some x ∷ []) path.0
+              freed = map_push deed_of s.kept.frees (Did free o2)
+                  ∙ ap (λ (xs : List (Option Deed)). xs ++ Some free ∷ []) s.kept.freed
+                  ∙ ap (λ (x : Deed). map (λ (i : LockId). Some (quiet (Free i))) (reverse ls) ++ Some x ∷ []) path.0
                   ∙ sym (freed-more l ls);
             };
             goes_on = path.1;
           }
 
-  splits-locked : (ls : List LockId) (job : Job) (note : Note) → Splits (locked ls on job note) (IsLocked ls rule job note.forward)
-  splits-locked [] job note k steps path =
-      let s = keeps.splits job note k steps path in
+  splits-locked : (ls : List LockId) (job : Job) (whose : List Job) → Splits (locked ls on job (note_of job whose)) (IsLocked ls rule job whose)
+  splits-locked [] job whose k steps path =
+      let s = keeps.splits job whose k steps path in
       record {
         out = s.out;
         done = s.done;
@@ -335,22 +335,22 @@ module _ (on : Doer) (rule : Rule) (keeps : Keeps on rule) where
         };
         goes_on = s.goes_on;
       }
-  splits-locked (l ∷ ls) job note k [] path =
-      absurd (let f : Then (Take l) plain (λ o. locked ls on job note (λ out. Then (Free l) plain (λ o2. k out))) ≡ Ends = path in cc)
-  splits-locked (l ∷ ls) job note k (Saw ask m ∷ steps) path = absurd path
-  splits-locked (l ∷ ls) job note k (Did a o ∷ steps) path =
-      one_more l ls job note k o a steps path.0 (splits-locked ls job note (λ out. Then (Free l) plain (λ o2. k out)) steps path.1)
+  splits-locked (l ∷ ls) job whose k [] path =
+      absurd (let f : Then (Take l) plain (λ o. locked ls on job (note_of job whose) (λ out. Then (Free l) plain (λ o2. k out))) ≡ Ends = path in cc)
+  splits-locked (l ∷ ls) job whose k (Saw ask m ∷ steps) path = absurd path
+  splits-locked (l ∷ ls) job whose k (Did a o ∷ steps) path =
+      one_more l ls job whose k o a steps path.0 (splits-locked ls job whose (λ out. Then (Free l) plain (λ o2. k out)) steps path.1)
 
-  leads-locked : (ls : List LockId) (job : Job) (note : Note) → Leads (locked ls on job note) (IsLocked ls rule job note.forward)
-  leads-locked [] job note steps out kept k =
-      subst (λ (xs : List PathStep). IsPath xs (on job note k) (k out))
+  leads-locked : (ls : List LockId) (job : Job) (whose : List Job) → Leads (locked ls on job (note_of job whose)) (IsLocked ls rule job whose)
+  leads-locked [] job whose steps out kept k =
+      subst (λ (xs : List PathStep). IsPath xs (on job (note_of job whose) k) (k out))
       (sym (kept.all ∙ ap (λ (xs : List PathStep). xs ++ (kept.middle ++ kept.frees)) (no_acts kept.takes kept.taken)
       ∙ ap (λ (xs : List PathStep). kept.middle ++ xs) (no_acts kept.frees kept.freed) ∙ append-nil kept.middle))
-      (keeps.leads job note kept.middle out kept.job_done k)
-  leads-locked (l ∷ ls) job note steps out kept k =
-      let take = first_step kept.takes (Take l) (map (λ (i : LockId). Some (Take i)) ls) kept.taken in
-      let free = last_step kept.frees (map (λ (i : LockId). Some (Free i)) (reverse ls)) (Free l) (kept.freed ∙ freed-more l ls) in
-      let inside : IsLocked ls rule job note.forward (take.1 ++ (kept.middle ++ free.0)) out =
+      (keeps.leads job whose kept.middle out kept.job_done k)
+  leads-locked (l ∷ ls) job whose steps out kept k =
+      let take = first_step kept.takes (quiet (Take l)) (map (λ (i : LockId). Some (quiet (Take i))) ls) kept.taken in
+      let free = last_step kept.frees (map (λ (i : LockId). Some (quiet (Free i))) (reverse ls)) (quiet (Free l)) (kept.freed ∙ freed-more l ls) in
+      let inside : IsLocked ls rule job whose (take.1 ++ (kept.middle ++ free.0)) out =
       record {
         takes = take.1;
         middle = kept.middle;
@@ -360,36 +360,36 @@ module _ (on : Doer) (rule : Rule) (keeps : Keeps on rule) where
         job_done = kept.job_done;
         freed = free.3;
       } in
-      subst (λ (xs : List PathStep). IsPath xs (locked (l ∷ ls) on job note k) (k out))
+      subst (λ (xs : List PathStep). IsPath xs (locked (l ∷ ls) on job (note_of job whose) k) (k out))
       (sym (kept.all ∙ ap (λ (xs : List PathStep). xs ++ (kept.middle ++ kept.frees)) take.2
-      ∙ ap (λ (xs : List PathStep). Did (Take l) take.0 ∷ (take.1 ++ (kept.middle ++ xs))) free.2
-      ∙ ap (λ (xs : List PathStep). Did (Take l) take.0 ∷ xs)
-      (ap (λ (xs : List PathStep). take.1 ++ xs) (sym (append_assoc kept.middle free.0 (Did (Free l) free.1 ∷ [])))
-      ∙ sym (append_assoc take.1 (kept.middle ++ free.0) (Did (Free l) free.1 ∷ []))))) (
+      ∙ ap (λ (xs : List PathStep). Did (quiet (Take l)) take.0 ∷ (take.1 ++ (kept.middle ++ xs))) free.2
+      ∙ ap (λ (xs : List PathStep). Did (quiet (Take l)) take.0 ∷ xs)
+      (ap (λ (xs : List PathStep). take.1 ++ xs) (sym (append_assoc kept.middle free.0 (Did (quiet (Free l)) free.1 ∷ [])))
+      ∙ sym (append_assoc take.1 (kept.middle ++ free.0) (Did (quiet (Free l)) free.1 ∷ []))))) (
         refl,
-        path_append (take.1 ++ (kept.middle ++ free.0)) (Did (Free l) free.1 ∷ [])
-            (locked ls on job note (λ o. Then (Free l) plain (λ o2. k o))) (Then (Free l) plain (λ o2. k out)) (k out)
-            (leads-locked ls job note (take.1 ++ (kept.middle ++ free.0)) out inside (λ o. Then (Free l) plain (λ o2. k o))) (refl, refl),
+        path_append (take.1 ++ (kept.middle ++ free.0)) (Did (quiet (Free l)) free.1 ∷ [])
+            (locked ls on job (note_of job whose) (λ o. Then (Free l) plain (λ o2. k o))) (Then (Free l) plain (λ o2. k out)) (k out)
+            (leads-locked ls job whose (take.1 ++ (kept.middle ++ free.0)) out inside (λ o. Then (Free l) plain (λ o2. k o))) (refl, refl),
       )
 
   -- THE PARTS of a job behind a mux
-  splits-left : (stays : Bool) (h : Hop) (o : JobOutcome) (k : JobOutcome → WalkTree) (steps : List PathStep)
+  splits-left : (job : Job) (whose : List Job) (stays : Bool) (h : Hop) (o : JobOutcome) (k : JobOutcome → WalkTree) (steps : List PathStep)
       → IsPath steps (left_behind stays h on k o) Ends
-      → (done : List PathStep) × (rest : List PathStep) × (steps ≡ done ++ rest) × IsLeft stays h rule done × IsPath rest (k o) Ends
-  splits-left true h o k steps path = ([], steps, refl, refl, path)
-  splits-left false h o k steps path =
-      let t = keeps.splits (SwitchOff (Deselect h)) (aside h) (λ x. k o) steps path in
+      → (done : List PathStep) × (rest : List PathStep) × (steps ≡ done ++ rest) × IsLeft stays h rule (job ∷ whose) done × IsPath rest (k o) Ends
+  splits-left job whose true h o k steps path = ([], steps, refl, refl, path)
+  splits-left job whose false h o k steps path =
+      let t = keeps.splits (SwitchOff (Deselect h)) (job ∷ whose) (λ x. k o) steps path in
       (t.done, t.rest, t.all, (t.out, t.kept), t.goes_on)
 
-  leads-left : (stays : Bool) (h : Hop) (o : JobOutcome) (steps : List PathStep) → IsLeft stays h rule steps → (k : JobOutcome → WalkTree)
+  leads-left : (job : Job) (whose : List Job) (stays : Bool) (h : Hop) (o : JobOutcome) (steps : List PathStep) → IsLeft stays h rule (job ∷ whose) steps → (k : JobOutcome → WalkTree)
       → IsPath steps (left_behind stays h on k o) (k o)
-  leads-left true h o steps kept k = subst (λ (xs : List PathStep). IsPath xs (k o) (k o)) (sym kept) refl
-  leads-left false h o steps kept k = keeps.leads (SwitchOff (Deselect h)) (aside h) steps kept.0 kept.1 (λ x. k o)
+  leads-left job whose true h o steps kept k = subst (λ (xs : List PathStep). IsPath xs (k o) (k o)) (sym kept) refl
+  leads-left job whose false h o steps kept k = keeps.leads (SwitchOff (Deselect h)) (job ∷ whose) steps kept.0 kept.1 (λ x. k o)
 
-  splits-opened : (h : Hop) (job : Job) (note : Note) → Splits (opened h on job note) (IsOpened h rule job note.forward)
-  splits-opened h job note k steps path =
-      let s = keeps.splits job note (left_behind h.stays h on k) steps path in
-      let t = splits-left h.stays h s.out k s.rest s.goes_on in
+  splits-opened : (h : Hop) (job : Job) (whose : List Job) → Splits (opened h on job (note_of job whose)) (IsOpened h rule job whose)
+  splits-opened h job whose k steps path =
+      let s = keeps.splits job whose (left_behind h.stays h on k) steps path in
+      let t = splits-left job whose h.stays h s.out k s.rest s.goes_on in
       record {
         out = s.out;
         done = s.done ++ t.0;
@@ -399,12 +399,12 @@ module _ (on : Doer) (rule : Rule) (keeps : Keeps on rule) where
         goes_on = t.4;
       }
 
-  leads-opened : (h : Hop) (job : Job) (note : Note) → Leads (opened h on job note) (IsOpened h rule job note.forward)
-  leads-opened h job note steps out kept k =
-      subst (λ (xs : List PathStep). IsPath xs (opened h on job note k) (k out)) (sym kept.all)
-      (path_append kept.done kept.deselected (opened h on job note k) (left_behind h.stays h on k out) (k out)
-      (keeps.leads job note kept.done out kept.job_done (left_behind h.stays h on k))
-      (leads-left h.stays h out kept.deselected kept.left k))
+  leads-opened : (h : Hop) (job : Job) (whose : List Job) → Leads (opened h on job (note_of job whose)) (IsOpened h rule job whose)
+  leads-opened h job whose steps out kept k =
+      subst (λ (xs : List PathStep). IsPath xs (opened h on job (note_of job whose) k) (k out)) (sym kept.all)
+      (path_append kept.done kept.deselected (opened h on job (note_of job whose) k) (left_behind h.stays h on k out) (k out)
+      (keeps.leads job whose kept.done out kept.job_done (left_behind h.stays h on k))
+      (leads-left job whose h.stays h out kept.deselected kept.left k))
 
   -- where nothing more is done, the walk goes on with how it ended
   splits-nothing : (o : JobOutcome) → Splits (λ k. k o) (λ rest out. (rest ≡ []) × (out ≡ o))
@@ -449,11 +449,11 @@ module _ (on : Doer) (rule : Rule) (keeps : Keeps on rule) where
   leads-if_sent Unsent A P a = λ steps out kept k. nothing_more Unsent steps out k kept
   leads-if_sent Failed A P a = λ steps out kept k. nothing_more Failed steps out k kept
 
-  splits-chosen : (h : Hop) (job : Job) (note : Note) → Splits (chosen h on job note) (IsChosen h rule job note.forward)
-  splits-chosen h job note k steps path =
-      let s = keeps.splits (Select h) (with_mark h.on h.mux note) (λ o. if_good o (opened h on job note k) k) steps path in
-      let t = splits-if_good s.out (opened h on job note) (IsOpened h rule job note.forward)
-      (splits-opened h job note) k s.rest s.goes_on in
+  splits-chosen : (h : Hop) (job : Job) (whose : List Job) → Splits (chosen h on job (note_of job whose)) (IsChosen h rule job whose)
+  splits-chosen h job whose k steps path =
+      let s = keeps.splits (Select h) (job ∷ whose) (λ o. if_good o (opened h on job (note_of job whose) k) k) steps path in
+      let t = splits-if_good s.out (opened h on job (note_of job whose)) (IsOpened h rule job whose)
+      (splits-opened h job whose) k s.rest s.goes_on in
       record {
         out = t.out;
         done = s.done ++ t.done;
@@ -463,38 +463,38 @@ module _ (on : Doer) (rule : Rule) (keeps : Keeps on rule) where
         goes_on = t.goes_on;
       }
 
-  leads-chosen : (h : Hop) (job : Job) (note : Note) → Leads (chosen h on job note) (IsChosen h rule job note.forward)
-  leads-chosen h job note steps out kept k =
-      subst (λ (xs : List PathStep). IsPath xs (chosen h on job note k) (k out)) (sym kept.all)
-      (path_append kept.selected kept.rest (chosen h on job note k) (if_good kept.came (opened h on job note k) k) (k out)
-      (keeps.leads (Select h) (with_mark h.on h.mux note) kept.selected kept.came kept.select_done
-      (λ o. if_good o (opened h on job note k) k))
-      (leads-if_good kept.came (opened h on job note) (IsOpened h rule job note.forward)
-      (leads-opened h job note) kept.rest out kept.goes_on k))
+  leads-chosen : (h : Hop) (job : Job) (whose : List Job) → Leads (chosen h on job (note_of job whose)) (IsChosen h rule job whose)
+  leads-chosen h job whose steps out kept k =
+      subst (λ (xs : List PathStep). IsPath xs (chosen h on job (note_of job whose) k) (k out)) (sym kept.all)
+      (path_append kept.selected kept.rest (chosen h on job (note_of job whose) k) (if_good kept.came (opened h on job (note_of job whose) k) k) (k out)
+      (keeps.leads (Select h) (job ∷ whose) kept.selected kept.came kept.select_done
+      (λ o. if_good o (opened h on job (note_of job whose) k) k))
+      (leads-if_good kept.came (opened h on job (note_of job whose)) (IsOpened h rule job whose)
+      (leads-opened h job whose) kept.rest out kept.goes_on k))
 
   -- the second look
-  splits-crossed : (h : Hop) (m : Option ℕ) (job : Job) (note : Note)
-      → Splits (λ k. crossed h on job note k m) (IsCrossed h rule m job note.forward)
-  splits-crossed h m job note =
-      splits-if (grammar.keeps h m) (opened h on job note) (chosen h on job note) (IsOpened h rule job note.forward)
-      (IsChosen h rule job note.forward)
-      (splits-opened h job note) (splits-chosen h job note)
+  splits-crossed : (h : Hop) (m : Option ℕ) (job : Job) (whose : List Job)
+      → Splits (λ k. crossed h on job (note_of job whose) k m) (IsCrossed h rule m job whose)
+  splits-crossed h m job whose =
+      splits-if (grammar.keeps h m) (opened h on job (note_of job whose)) (chosen h on job (note_of job whose)) (IsOpened h rule job whose)
+      (IsChosen h rule job whose)
+      (splits-opened h job whose) (splits-chosen h job whose)
 
-  leads-crossed : (h : Hop) (m : Option ℕ) (job : Job) (note : Note)
-      → Leads (λ k. crossed h on job note k m) (IsCrossed h rule m job note.forward)
-  leads-crossed h m job note =
-      leads-if (grammar.keeps h m) (opened h on job note) (chosen h on job note) (IsOpened h rule job note.forward)
-      (IsChosen h rule job note.forward)
-      (leads-opened h job note) (leads-chosen h job note)
+  leads-crossed : (h : Hop) (m : Option ℕ) (job : Job) (whose : List Job)
+      → Leads (λ k. crossed h on job (note_of job whose) k m) (IsCrossed h rule m job whose)
+  leads-crossed h m job whose =
+      leads-if (grammar.keeps h m) (opened h on job (note_of job whose)) (chosen h on job (note_of job whose)) (IsOpened h rule job whose)
+      (IsChosen h rule job whose)
+      (leads-opened h job whose) (leads-chosen h job whose)
 
-  abbrev passing : Hop → Job → Note → Task
-  passing h job note k = Look (KeptOf h.on h.mux) (crossed h on job note k)
+  abbrev passing : Hop → Job → List Job → Task
+  passing h job whose k = Look (KeptOf h.on h.mux) (crossed h on job (note_of job whose) k)
 
-  splits-passed : (h : Hop) (job : Job) (note : Note) → Splits (passing h job note) (IsPassed h rule job note.forward)
-  splits-passed h job note k [] path = absurd (let f : passing h job note k ≡ Ends = path in cc)
-  splits-passed h job note k (Did a o ∷ steps) path = absurd path
-  splits-passed h job note k (Saw ask m ∷ steps) path =
-      let s = splits-crossed h m job note k steps path.1 in
+  splits-passed : (h : Hop) (job : Job) (whose : List Job) → Splits (passing h job whose) (IsPassed h rule job whose)
+  splits-passed h job whose k [] path = absurd (let f : passing h job whose k ≡ Ends = path in cc)
+  splits-passed h job whose k (Did a o ∷ steps) path = absurd path
+  splits-passed h job whose k (Saw ask m ∷ steps) path =
+      let s = splits-crossed h m job whose k steps path.1 in
       record {
         out = s.out;
         done = Saw ask m ∷ s.done;
@@ -504,24 +504,24 @@ module _ (on : Doer) (rule : Rule) (keeps : Keeps on rule) where
         goes_on = s.goes_on;
       }
 
-  leads-passed : (h : Hop) (job : Job) (note : Note) → Leads (passing h job note) (IsPassed h rule job note.forward)
-  leads-passed h job note steps out kept k =
-      subst (λ (xs : List PathStep). IsPath xs (passing h job note k) (k out)) (sym kept.all)
-      (refl, leads-crossed h kept.kept job note kept.rest out kept.crossed k)
+  leads-passed : (h : Hop) (job : Job) (whose : List Job) → Leads (passing h job whose) (IsPassed h rule job whose)
+  leads-passed h job whose steps out kept k =
+      subst (λ (xs : List PathStep). IsPath xs (passing h job whose k) (k out)) (sym kept.all)
+      (refl, leads-crossed h kept.kept job whose kept.rest out kept.crossed k)
 
-  module _ (b : BoardView) (h : Hop) (job : Job) (note : Note) where
+  module _ (b : BoardView) (h : Hop) (job : Job) (whose : List Job) where
     -- what comes behind the look for a mark
     record ClosedThen (mark : Option ℕ) (steps : List PathStep) (out : JobOutcome) : Type 0 where
       pub closed : List PathStep
       pub rest : List PathStep
       pub came : JobOutcome
       pub all : steps ≡ closed ++ rest
-      pub close_done : IsClosed b h rule note.forward mark closed came
-      pub goes_on : IfSent came (IsPassed h rule job note.forward rest out) rest out
+      pub close_done : IsClosed b h rule (job ∷ whose) mark closed came
+      pub goes_on : IfSent came (IsPassed h rule job whose rest out) rest out
 
-    splits-closing : (mark : Option ℕ) → Splits (λ k. closing b h on note k (passing h job note k) mark) (ClosedThen mark)
+    splits-closing : (mark : Option ℕ) → Splits (λ k. closing b h on (note_of job whose) k (passing h job whose k) mark) (ClosedThen mark)
     splits-closing None k steps path =
-        let s = splits-passed h job note k steps path in
+        let s = splits-passed h job whose k steps path in
         record {
           out = s.out;
           done = s.done;
@@ -531,10 +531,10 @@ module _ (on : Doer) (rule : Rule) (keeps : Keeps on rule) where
           goes_on = s.goes_on;
         }
     splits-closing (Some m) k steps path =
-        let s = keeps.splits (SwitchOff (Close h.on m (kind_of b m))) (with_mark h.on m note)
-        (λ o. if_sent o (passing h job note k) k) steps path in
-        let t = splits-if_sent s.out (passing h job note) (IsPassed h rule job note.forward)
-        (splits-passed h job note) k s.rest s.goes_on in
+        let s = keeps.splits (SwitchOff (Close h.on m (kind_of b m))) (job ∷ whose)
+        (λ o. if_sent o (passing h job whose k) k) steps path in
+        let t = splits-if_sent s.out (passing h job whose) (IsPassed h rule job whose)
+        (splits-passed h job whose) k s.rest s.goes_on in
         record {
           out = t.out;
           done = s.done ++ t.done;
@@ -544,24 +544,24 @@ module _ (on : Doer) (rule : Rule) (keeps : Keeps on rule) where
           goes_on = t.goes_on;
         }
 
-    leads-closing : (mark : Option ℕ) → Leads (λ k. closing b h on note k (passing h job note k) mark) (ClosedThen mark)
+    leads-closing : (mark : Option ℕ) → Leads (λ k. closing b h on (note_of job whose) k (passing h job whose k) mark) (ClosedThen mark)
     leads-closing None steps out kept k =
-        subst (λ (xs : List PathStep). IsPath xs (passing h job note k) (k out))
+        subst (λ (xs : List PathStep). IsPath xs (passing h job whose k) (k out))
         (sym (kept.all ∙ ap (λ (xs : List PathStep). xs ++ kept.rest) kept.close_done.0))
-        (leads-passed h job note kept.rest out
-        (subst (λ (o : JobOutcome). IfSent o (IsPassed h rule job note.forward kept.rest out) kept.rest out) kept.close_done.1 kept.goes_on)
+        (leads-passed h job whose kept.rest out
+        (subst (λ (o : JobOutcome). IfSent o (IsPassed h rule job whose kept.rest out) kept.rest out) kept.close_done.1 kept.goes_on)
         k)
     leads-closing (Some m) steps out kept k =
-        subst (λ (xs : List PathStep). IsPath xs (closing b h on note k (passing h job note k) (Some m)) (k out)) (sym kept.all)
-        (path_append kept.closed kept.rest (closing b h on note k (passing h job note k) (Some m))
-        (if_sent kept.came (passing h job note k) k) (k out)
-        (keeps.leads (SwitchOff (Close h.on m (kind_of b m))) (with_mark h.on m note) kept.closed kept.came kept.close_done
-        (λ o. if_sent o (passing h job note k) k))
-        (leads-if_sent kept.came (passing h job note) (IsPassed h rule job note.forward)
-        (leads-passed h job note) kept.rest out kept.goes_on k))
+        subst (λ (xs : List PathStep). IsPath xs (closing b h on (note_of job whose) k (passing h job whose k) (Some m)) (k out)) (sym kept.all)
+        (path_append kept.closed kept.rest (closing b h on (note_of job whose) k (passing h job whose k) (Some m))
+        (if_sent kept.came (passing h job whose k) k) (k out)
+        (keeps.leads (SwitchOff (Close h.on m (kind_of b m))) (job ∷ whose) kept.closed kept.came kept.close_done
+        (λ o. if_sent o (passing h job whose k) k))
+        (leads-if_sent kept.came (passing h job whose) (IsPassed h rule job whose)
+        (leads-passed h job whose) kept.rest out kept.goes_on k))
 
-    splits-behind : Splits (behind b h on job note) (IsBehindMux b h rule job note.forward)
-    splits-behind k [] path = absurd (let f : behind b h on job note k ≡ Ends = path in cc)
+    splits-behind : Splits (behind b h on job (note_of job whose)) (IsBehindMux b h rule job whose)
+    splits-behind k [] path = absurd (let f : behind b h on job (note_of job whose) k ≡ Ends = path in cc)
     splits-behind k (Did a o ∷ steps) path = absurd path
     splits-behind k (Saw ask m ∷ steps) path =
         let s = splits-closing m k steps path.1 in
@@ -582,9 +582,9 @@ module _ (on : Doer) (rule : Rule) (keeps : Keeps on rule) where
           goes_on = s.goes_on;
         }
 
-    leads-behind : Leads (behind b h on job note) (IsBehindMux b h rule job note.forward)
+    leads-behind : Leads (behind b h on job (note_of job whose)) (IsBehindMux b h rule job whose)
     leads-behind steps out kept k =
-        subst (λ (xs : List PathStep). IsPath xs (behind b h on job note k) (k out)) (sym kept.all) (
+        subst (λ (xs : List PathStep). IsPath xs (behind b h on job (note_of job whose) k) (k out)) (sym kept.all) (
           refl,
           leads-closing kept.mark (kept.closed ++ kept.rest) out
               (record {
@@ -610,18 +610,18 @@ keeps-inner b root [] = record { splits = keeps-at_bus.splits; leads = keeps-at_
 keeps-inner b root (h ∷ hs) =
     let below = keeps-part (inner b root hs) (IsInner b root hs) (keeps-inner b root hs) h.parent (locks_of root hs) in
     record {
-      splits = λ job note.
-          splits-if (is_line job) (at_bus job note) (behind b h (part h.parent (locks_of root hs) (inner b root hs)) job note)
-          (AtBus job note.forward) (IsBehindMux b h (IsPart h.parent (locks_of root hs) (IsInner b root hs)) job note.forward)
-          (keeps-at_bus.splits job note)
+      splits = λ job whose.
+          splits-if (is_line job) (at_bus job (note_of job whose)) (behind b h (part h.parent (locks_of root hs) (inner b root hs)) job (note_of job whose))
+          (AtBus job whose) (IsBehindMux b h (IsPart h.parent (locks_of root hs) (IsInner b root hs)) job whose)
+          (keeps-at_bus.splits job whose)
           (splits-behind (part h.parent (locks_of root hs) (inner b root hs))
-          (IsPart h.parent (locks_of root hs) (IsInner b root hs)) below b h job note);
-      leads = λ job note.
-          leads-if (is_line job) (at_bus job note) (behind b h (part h.parent (locks_of root hs) (inner b root hs)) job note)
-          (AtBus job note.forward) (IsBehindMux b h (IsPart h.parent (locks_of root hs) (IsInner b root hs)) job note.forward)
-          (keeps-at_bus.leads job note)
+          (IsPart h.parent (locks_of root hs) (IsInner b root hs)) below b h job whose);
+      leads = λ job whose.
+          leads-if (is_line job) (at_bus job (note_of job whose)) (behind b h (part h.parent (locks_of root hs) (inner b root hs)) job (note_of job whose))
+          (AtBus job whose) (IsBehindMux b h (IsPart h.parent (locks_of root hs) (IsInner b root hs)) job whose)
+          (keeps-at_bus.leads job whose)
           (leads-behind (part h.parent (locks_of root hs) (inner b root hs))
-          (IsPart h.parent (locks_of root hs) (IsInner b root hs)) below b h job note);
+          (IsPart h.parent (locks_of root hs) (IsInner b root hs)) below b h job whose);
     }
 
 pub keeps-full : (b : BoardView) (root : ℕ) (hs : List Hop) → Keeps (full b root hs) (IsFull b root hs)
@@ -629,6 +629,6 @@ keeps-full b root hs =
     let all = keeps-locked (inner b root hs) (IsInner b root hs) (keeps-inner b root hs) (locks_of root hs) in
     record { splits = all.splits; leads = all.leads }
 
-pub by-rule : (rule : Rule) (job : Job) (note : Note) (k : JobOutcome → WalkTree) (steps : List PathStep)
-    → Split (rule job note.forward) k steps → IsDoneBy rule job note k steps
-by-rule rule job note k steps s = record { done = s.done; rest = s.rest; out = s.out; all = s.all; by_rule = s.kept; goes_on = s.goes_on }
+pub by-rule : (rule : Rule) (job : Job) (whose : List Job) (k : JobOutcome → WalkTree) (steps : List PathStep)
+    → Split (rule job whose) k steps → IsDoneBy rule job whose k steps
+by-rule rule job whose k steps s = record { done = s.done; rest = s.rest; out = s.out; all = s.all; by_rule = s.kept; goes_on = s.goes_on }

@@ -20,9 +20,9 @@ use Rattle.bus_spec.specs.Tells.{Tells}
 use Rattle.bus_spec.specs.Stepwise.{IsStepwise}
 use Rattle.bus_spec.specs.Legal.{steps_in, KeepsWalks}
 use Rattle.bus_laws.specs.Reach.{AsksForMessages}
-use Rattle.bus_spec.specs.WalkRule.{Step, PathStep, Saw, Did, act_of, IsWalkBy, IsWalk, TellsAct, AreTold, first_done, AreTransfers, no_more, one_more, under_way}
+use Rattle.bus_spec.specs.WalkRule.{Step, Deed, deed_next, quiet, PathStep, Saw, Did, deed_of, IsWalkBy, IsWalk, TellsAct, AreTold, first_done, AreTransfers, no_more, one_more, under_way}
 use Rattle.flat_laws.proofs.past.Walks.{tells_none, walks-kept}
-use Rattle.flat_laws.specs.Paths.{IsPath}
+use Rattle.flat_laws.specs.Paths.{deed_by, IsPath}
 use Rattle.flat_laws.specs.Led.{Leads, AreWalks, none, whole, front, AreAllWalks}
 use Rattle.flat_laws.proofs.walk.Paths.{path_split, path_append, some_path, first_step, no_acts, keeps-full}
 
@@ -33,11 +33,11 @@ at_end (Saw ask m ∷ steps) p = absurd p
 at_end (Did a o ∷ steps) p = absurd p
 
 refused-walk : (e : Option Errno) (steps : List PathStep) → IsPath steps (Then (Settle e) plain (λ o. Ends)) Ends
-    → map act_of steps ≡ Some (Settle e) ∷ []
+    → map deed_of steps ≡ Some (quiet (Settle e)) ∷ []
 refused-walk e [] p = absurd (let f : Then (Settle e) plain (λ o. Ends) ≡ Ends = p in cc)
 refused-walk e (Saw ask m ∷ steps) p = absurd p
 refused-walk e (Did a o ∷ steps) p =
-    ap (λ (x : Act). Some x ∷ map act_of steps) p.0 ∙ ap (λ (xs : List PathStep). Some (Settle e) ∷ map act_of xs) (at_end steps p.1)
+    ap (λ (x : Deed). Some x ∷ map deed_of steps) p.0 ∙ ap (λ (xs : List PathStep). Some (quiet (Settle e)) ∷ map deed_of xs) (at_end steps p.1)
 
 pub path-walk : (b : BoardView) (t : TransferView) (steps : List PathStep) → IsPath steps (walk_for b t) Ends → IsWalk b t steps
 path-walk b t steps path = by (refusal b t) path
@@ -45,10 +45,10 @@ path-walk b t steps path = by (refusal b t) path
     by : (o : Option Errno) → IsPath steps (walk_by b t o) Ends → IsWalkBy b t o steps
     by (Some e) p = refused-walk (Some e) steps p
     by None p =
-        let s = (keeps-full b (root_of b t.bus) (hops b t.bus)).splits (Call t.bus (messages_of t)) plain (λ o. Ends) steps p in (
+        let s = (keeps-full b (root_of b t.bus) (hops b t.bus)).splits (Call t.bus (messages_of t)) [] (λ o. Ends) steps p in (
           s.out,
           subst (λ (xs : List PathStep). Rattle.bus_spec.specs.WalkRule.IsFull b (root_of b t.bus) (hops b t.bus)
-              (Call t.bus (messages_of t)) true xs s.out)
+              (Call t.bus (messages_of t)) [] xs s.out)
               (sym (s.all ∙ ap (λ (xs : List PathStep). s.done ++ xs) (at_end s.rest s.goes_on) ∙ append-nil s.done)) s.kept,
         )
 
@@ -57,10 +57,10 @@ walk-path b t steps walk = by (refusal b t) walk
   where
     by : (o : Option Errno) → IsWalkBy b t o steps → IsPath steps (walk_by b t o) Ends
     by (Some e) w =
-        let s = first_step steps (Settle (Some e)) [] w in
+        let s = first_step steps (quiet (Settle (Some e))) [] w in
         subst (λ (xs : List PathStep). IsPath xs (Then (Settle (Some e)) plain (λ o. Ends)) Ends)
-        (sym (s.2 ∙ ap (λ (xs : List PathStep). Did (Settle (Some e)) s.0 ∷ xs) (no_acts s.1 s.3))) (refl, refl)
-    by None w = (keeps-full b (root_of b t.bus) (hops b t.bus)).leads (Call t.bus (messages_of t)) plain steps w.0 w.1 (λ o. Ends)
+        (sym (s.2 ∙ ap (λ (xs : List PathStep). Did (quiet (Settle (Some e))) s.0 ∷ xs) (no_acts s.1 s.3))) (refl, refl)
+    by None w = (keeps-full b (root_of b t.bus) (hops b t.bus)).leads (Call t.bus (messages_of t)) [] steps w.0 w.1 (λ o. Ends)
 
 -- as fronts
 pub path-front : (b : BoardView) (t : TransferView) (steps : List PathStep) (left : WalkTree) → IsPath steps (walk_for b t) left
@@ -81,7 +81,7 @@ first_next (Saw ask m ∷ steps) (Look a next) p = refl
 first_next (Saw ask m ∷ steps) (Then act note next) p = absurd p
 first_next (Did d o ∷ steps) Ends p = absurd p
 first_next (Did d o ∷ steps) (Look a next) p = absurd p
-first_next (Did d o ∷ steps) (Then act note next) p = ap Some (sym p.0)
+first_next (Did d o ∷ steps) (Then act note next) p = ap (λ (x : Deed). Some x.act) (sym p.0)
 
 -- WHAT ENTRIES TELL. It matters what the step is, and not what it marks and what follows
 tells_act : (b : BoardView) (n : Now) (act : Act) (note : Note) (next : ActOutcome → WalkTree) (e : Entry)
@@ -105,19 +105,20 @@ Told b steps w left = (ps : List PathStep) × IsPath ps w left × AreTold b ps s
 
 -- the looks in front of a step, and the step
 first_told : (b : BoardView) (s : Step) (steps : List Step) (left w : WalkTree) → Tells b s.before (seen s.before.slot w) s.entry
+    → s.deed ≡ deed_next (seen s.before.slot w)
     → Told b steps (rest_of (seen s.before.slot w) (outcome_of s.entry)) left → Told b (s ∷ steps) w left
-first_told b s steps left Ends tells more = absurd (tells_none b s.before s.entry tells)
-first_told b s steps left (Look ask next) tells more =
+first_told b s steps left Ends tells does more = absurd (tells_none b s.before s.entry tells)
+first_told b s steps left (Look ask next) tells does more =
     let m : Option ℕ = answer_to s.before.slot ask in
-    let t = first_told b s steps left (next m) tells more in
+    let t = first_told b s steps left (next m) tells does more in
     (Saw ask m ∷ t.0, (refl, t.1), (refl, t.2))
-first_told b s steps left (Then act note next) tells more =
-    (Did act (outcome_of s.entry) ∷ more.0, (refl, more.1), (tells_act b s.before act note next s.entry tells, refl, more.2))
+first_told b s steps left (Then act note next) tells does more =
+    (Did (deed_by act note) (outcome_of s.entry) ∷ more.0, (refl, more.1), (tells_act b s.before act note next s.entry tells, refl, does, more.2))
 
 leads-told : (b : BoardView) (steps : List Step) (w left : WalkTree) → Leads b w steps left → Told b steps w left
 leads-told b [] w left leads = ([], sym leads, refl)
 leads-told b (s ∷ steps) w left leads =
-    first_told b s steps left w leads.0 (leads-told b steps (rest_of (seen s.before.slot w) (outcome_of s.entry)) left leads.1)
+    first_told b s steps left w leads.0 leads.2 (leads-told b steps (rest_of (seen s.before.slot w) (outcome_of s.entry)) left leads.1)
 
 told-leads : (b : BoardView) (ps : List PathStep) (steps : List Step) (w left : WalkTree) → IsPath ps w left → AreTold b ps steps
     → Leads b w steps left
@@ -132,8 +133,9 @@ told-leads b (Did act out ∷ ps) [] w left path told = absurd told
 told-leads b (Did act out ∷ ps) (s ∷ steps) Ends left path told = absurd path
 told-leads b (Did act out ∷ ps) (s ∷ steps) (Look ask next) left path told = absurd path
 told-leads b (Did act out ∷ ps) (s ∷ steps) (Then a note next) left path told = (
-  subst (λ (x : Act). Tells b s.before (Then x note next) s.entry) path.0 (act_tells b s.before act note next s.entry told.0),
-  subst (λ (o : ActOutcome). Leads b (next o) steps left) told.1 (told-leads b ps steps (next out) left path.1 told.2),
+  subst (λ (x : Deed). Tells b s.before (Then x.act note next) s.entry) path.0 (act_tells b s.before act.act note next s.entry told.0),
+  subst (λ (o : ActOutcome). Leads b (next o) steps left) told.1 (told-leads b ps steps (next out) left path.1 told.3),
+  told.2 ∙ path.0,
 )
 
 -- THE WALKS of a caller

@@ -129,7 +129,7 @@ module _ (b : BoardView) (asks : List Reply → Option TransferView) where
       )
     where
       so_far : rs ++ replies_in (s ∷ mine) ≡ (rs ++ reply_at s.entry) ++ replies_in mine
-      so_far = ap (λ (xs : List Reply). rs ++ xs) (replies_first s.before s.entry mine)
+      so_far = ap (λ (xs : List Reply). rs ++ xs) (replies_first s.before s.deed s.entry mine)
           ∙ sym (append_assoc rs (reply_at s.entry) (replies_in mine))
 
   -- a walk that begins is the one at hand

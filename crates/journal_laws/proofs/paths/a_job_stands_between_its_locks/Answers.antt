@@ -5,8 +5,8 @@ use Rattle.bus_spec.specs.WalkRule.{IsInner, IsFull}
 pub returns : goal.returns
 returns c =
     record {
-      full = λ b root hs job note k steps path. by-rule (IsFull b root hs) job note k steps
-          ((keeps-full b root hs).splits job note k steps path);
-      inner = λ b root hs job note k steps path. by-rule (IsInner b root hs) job note k steps
-          ((keeps-inner b root hs).splits job note k steps path);
+      full = λ b root hs job whose k steps path. by-rule (IsFull b root hs) job whose k steps
+          ((keeps-full b root hs).splits job whose k steps path);
+      inner = λ b root hs job whose k steps path. by-rule (IsInner b root hs) job whose k steps
+          ((keeps-inner b root hs).splits job whose k steps path);
     }

@@ -1,5 +1,6 @@
 -- A list leads through the walk to its end, or leaves it at a step, which isn't the next one there.
-use Rattle.std.proofs.Common.{◌≡◌, refl, Some}
+use Rattle.bus_spec.specs.WalkRule.{Deed}
+use Rattle.std.proofs.Common.{ap, ◌≡◌, refl, Some}
 use Rattle.i2c_base.specs.declared.errno.Errno.TheVariants.{Eremoteio}
 use Rattle.i2c_spec.specs.Messages.{messages_of}
 use Rattle.bus_spec.specs.Walk.{Call, Select, Send, Settle}
@@ -17,10 +18,10 @@ returns c =
           (refl, (refl, (refl, (refl, (refl, (refl, (refl, (refl, (refl, (refl, (refl, (refl, (refl, (refl, (refl, refl)))))))))))))));
       switched_while_taken = λ w.
           (let f : Send (Select walk.polled_hop) 0 ≡ Send (Select walk.polled_hop) 7 =
-          (walk-path (row.arbitrator 7) walk.behind_arbitrator walk.switched_while_taken w).1.1.1.1.1.0 in cc);
+          ap (λ (d : Deed). d.act) ((walk-path (row.arbitrator 7) walk.behind_arbitrator walk.switched_while_taken w).1.1.1.1.1.0) in cc);
       shifted = path-walk row.gpio walk.behind_gpio walk.line_walk
           (refl, (refl, (refl, (refl, (refl, (refl, (refl, (refl, (refl, (refl, (refl, refl)))))))))));
       over_a_failed_line = λ w.
           (let f : Send (Call 2 (messages_of walk.behind_gpio)) 1 ≡ Settle (Some Eremoteio) =
-          (walk-path row.gpio walk.behind_gpio walk.over_a_failed_line w).1.1.1.1.1.0 in cc);
+          ap (λ (d : Deed). d.act) ((walk-path row.gpio walk.behind_gpio walk.over_a_failed_line w).1.1.1.1.1.0) in cc);
     }
