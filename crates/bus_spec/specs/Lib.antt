@@ -11,6 +11,8 @@ pub mod Tells
 pub mod Stepwise
 pub mod WalkRule
 pub mod Legal
+pub mod Stand
+pub mod Ruled
 pub mod Schedule
 pub mod Play
 pub mod Rows

@@ -9,6 +9,7 @@ ghost use Rattle.bus_spec.specs.Past.{now};
 ghost use Rattle.bus_spec.specs.Walk.{Ends};
 ghost use Rattle.bus_spec.specs.Stepwise.{IsStepwise};
 ghost use Rattle.bus_spec.specs.Legal.{IsLegal, KeepsReplies, KeepsWalks};
+ghost use Rattle.bus_spec.specs.Ruled.{IsRuled};
 ghost use Rattle.flat_laws.specs.Left.{KeepsDevices, LeavesDevices};
 ghost use Rattle.bus_laws.specs.Reach.{AsksForMessages, AsksWithinLimits};
 
@@ -54,3 +55,9 @@ pub fn a_journal_is_legal()
 {
     an_accepted_board_is_a_tree();
 }
+
+/// What a legal journal keeps is told without any walk tree: there is what each entry does, so that each caller's entries are the
+/// lists of the walk rule, and each message reached its target where everything stood by what the entries before did.
+pub fn a_legal_journal_keeps_the_rules()
+    ensures { (b : BoardView) (callers : ℕ) (asks : Asks) (past : List Entry) → IsLegal b callers asks past → IsRuled b callers asks past }
+{}

@@ -13,6 +13,7 @@ pub mod OneEntry
 pub mod Counts
 pub mod Follow
 pub mod Layers
+pub mod RuledLegal
 pub mod Due
 pub mod LegalSteps
 pub mod Play

@@ -1,6 +1,6 @@
 -- Worked examples of the walk rule: lists of steps that keep it, and lists that break it in one place.
 use Rattle.std.specs.Prelude.{ℕ, Bool, false, true, List, [], ◌∷◌, ◌++◌, Option, Some, None}
-use Rattle.i2c_base.specs.declared.board.MuxKind.TheVariants.{Pca9548, Pca9541, Gpio}
+use Rattle.i2c_base.specs.declared.board.MuxKind.TheVariants.{Pca9548, Pca9546, Pca9541, Gpio}
 use Rattle.i2c_base.specs.declared.ids.LockId.{LockId}
 use Rattle.i2c_base.specs.declared.ids.LockId.TheVariants as lock
 use Rattle.i2c_base.specs.declared.errno.Errno.{Errno}
@@ -10,7 +10,7 @@ use Rattle.i2c_base.specs.declared.entry.End.TheVariants as end
 use Rattle.i2c_base.specs.Transfer.{TransferView}
 use Rattle.i2c_spec.specs.Tree.{Hop}
 use Rattle.i2c_spec.specs.Messages.{messages_of}
-use Rattle.bus_spec.specs.Walk.{Job, Call, Select, SwitchOff, Deselect, Close, Take, Free, Send, Shift, Settle, Passed, Sent, Lined, MarkOf, KeptOf}
+use Rattle.bus_spec.specs.Walk.{Mark, Job, Call, Select, SwitchOff, Deselect, Close, Take, Free, Send, Shift, Settle, Passed, Sent, Lined, MarkOf, KeptOf}
 use Rattle.bus_spec.specs.WalkRule.{PathStep, Saw, Did, quiet, for_jobs}
 use Rattle.bus_spec.specs.Rows as row
 
@@ -191,3 +191,64 @@ line_walk = both_taken ++ sees None ∷ shut ∷ shifted (Select line_hop) false
 
 abbrev pub over_a_failed_line : List PathStep
 over_a_failed_line = both_taken ++ sees None ∷ shut ∷ shifted (Select line_hop) true ∷ line_reads ++ line_deselected ∷ both_freed
+
+-- MARKS. A bus behind two muxes: mux 1 stands on bus 1, which is a channel of mux 0
+abbrev pub near : Hop
+near = record { bus = 1; mux = 0; channel = 0; on = 0; parent = true; stays = false; kind = Pca9548 }
+
+abbrev pub far : Hop
+far = record { bus = 9; mux = 1; channel = 0; on = 1; parent = true; stays = false; kind = Pca9546 }
+
+abbrev pub behind_both : TransferView
+behind_both = row.read 9 0x50 0
+
+abbrev pub far_call : Job
+far_call = Call 9 (messages_of behind_both)
+
+abbrev pub near_mark : Mark
+near_mark = record { on = 0; mux = 0 }
+
+abbrev pub far_mark : Mark
+far_mark = record { on = 1; mux = 1 }
+
+-- a step that failed by the port, and marked these
+abbrev pub failed_marking : Job → List Mark → PathStep
+failed_marking job marks = Did (record { act = Send job 0; marks = marks }) (Sent (end.Cut 0) [])
+
+-- one that went through, for another job
+abbrev pub did_for : Job → Job → Job → PathStep
+did_for job other last = Did (for_jobs (Send job 0) (job ∷ other ∷ last ∷ [])) (Sent end.Ok [])
+
+abbrev pub all_taken : List PathStep
+all_taken = did_take (lock.Mux 1) ∷ did_take (lock.Mux 0) ∷ did_take (lock.Bus 0) ∷ Saw (MarkOf 1) None ∷ Saw (KeptOf 1 1) None ∷ []
+
+abbrev pub all_freed : List PathStep
+all_freed = did_free (lock.Bus 0) ∷ did_free (lock.Mux 0) ∷ did_free (lock.Mux 1) ∷ []
+
+-- the select of the near mux fails, on the way of the far one's: it marks both
+abbrev pub marks_both : List PathStep
+marks_both = all_taken ++ sees None ∷ shut ∷ failed_marking (Select near) (near_mark ∷ far_mark ∷ []) ∷ did_settle
+    (Some Eremoteio) ∷ all_freed
+
+-- the far mux is selected
+abbrev pub far_selected : List PathStep
+far_selected =
+    sees None ∷ shut ∷ did_for (Select near) (Select far) far_call ∷ Did (for_jobs (Send (Select far) 0) (Select far ∷ far_call ∷ []))
+    (Sent end.Ok []) ∷ did_for (SwitchOff (Deselect near)) (Select far) far_call ∷ []
+
+-- .. and its deselect is what the select of the near mux fails for: it marks both, and is no cut
+abbrev pub marks_to_the_deselect : List PathStep
+marks_to_the_deselect =
+    all_taken ++ far_selected ++ sees None ∷ shut ∷ Did (for_jobs (Send (Select near) 0) (Select near ∷ far_call ∷ [])) (Sent end.Ok [])
+    ∷ did_send far_call 1 end.Nack [] ∷ did_settle (Some Enxio) ∷ Did (for_jobs (Send (SwitchOff (Deselect near)) 0)
+    (SwitchOff (Deselect near) ∷ far_call ∷ [])) (Sent end.Ok [])
+    ∷ sees None ∷ shut ∷ failed_marking (Select near) (near_mark ∷ far_mark ∷ []) ∷ all_freed
+
+-- the deselect of the near mux fails, behind the select of the far one: it marks the near one alone. The close that comes next
+-- fails, and then again, for the deselect of the far one
+abbrev pub marks_none_beyond_by : List Mark → List PathStep
+marks_none_beyond_by marks =
+    all_taken ++ sees None ∷ shut ∷ did_for (Select near) (Select far) far_call ∷ Did (for_jobs (Send (Select far) 0)
+    (Select far ∷ far_call ∷ [])) (Sent end.Ok []) ∷ failed_marking (SwitchOff (Deselect near)) marks
+    ∷ sees (Some 0) ∷ failed_marking close (near_mark ∷ []) ∷ did_settle (Some Eremoteio)
+    ∷ sees (Some 0) ∷ failed_marking close (near_mark ∷ far_mark ∷ []) ∷ all_freed

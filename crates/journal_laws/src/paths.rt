@@ -1,5 +1,5 @@
 //! The walk tree, which says what comes next, has the paths that the walk rule lists whole.
-ghost use Rattle.std.specs.Prelude.{◌↔◌, ℕ, List, [], ◌++◌, Option};
+ghost use Rattle.std.specs.Prelude.{◌≡◌, ◌↔◌, ℕ, List, [], ◌++◌, Option};
 ghost use Rattle.i2c_base.specs.declared.entry.Entry.{Entry};
 ghost use Rattle.i2c_base.specs.declared.reply.Reply.{Reply};
 ghost use Rattle.i2c_base.specs.Board.{BoardView};
@@ -9,7 +9,11 @@ ghost use Rattle.i2c_spec.specs.History.{Asks};
 ghost use Rattle.bus_spec.specs.Walk.{Job, JobOutcome, WalkTree, Ends};
 ghost use Rattle.bus_spec.specs.Grammar.{full, inner, walk_for};
 ghost use Rattle.bus_spec.specs.WalkRule.{Step, PathStep, IsFull, IsInner, IsWalk, AreTransfers};
-ghost use Rattle.bus_spec.specs.Legal.{KeepsWalks};
+ghost use Rattle.bus_spec.specs.Legal.{KeepsWalks, IsLegal};
+ghost use Rattle.bus_spec.specs.Ruled.{IsRuled};
+ghost use Rattle.bus_spec.specs.Stand.{stand, calls_by};
+ghost use Rattle.bus_spec.specs.Past.{mark, world_at, calls_of};
+ghost use Rattle.bus_spec.specs.Slots.{mark_in};
 ghost use Rattle.flat_laws.specs.Paths.{note_of, IsPath, IsDoneBy};
 ghost use Rattle.flat_laws.specs.Led.{AreWalks, AreAllWalks};
 
@@ -45,4 +49,20 @@ pub fn a_journal_keeps_the_walk_rule()
         → AreWalks b asks replies steps ↔ AreTransfers b asks replies steps }
     ensures journal { (b : BoardView) (asks : Asks) (past : List Entry)
         → AreAllWalks b asks past ↔ KeepsWalks b asks past }
+{}
+
+/// A journal is legal exactly where it keeps the rules as they are told without any walk tree, by what each entry does: the
+/// walk rule and the places of the entries leave no choice of it.
+///
+/// No premise is needed.
+pub fn a_journal_is_legal_by_its_entries_alone()
+    ensures { (b : BoardView) (callers : ℕ) (asks : Asks) (past : List Entry) → IsLegal b callers asks past ↔ IsRuled b callers asks past }
+{}
+
+/// By what each entry of a journal does, which is fixed by the walk rule, all stands as the walk tree tells it: the marks, the
+/// worlds, and the calls of the ports.
+pub fn what_each_entry_does_tells_where_all_stands()
+    ensures marks { (b : BoardView) (callers : ℕ) (asks : Asks) (past : List Entry) (ruled : IsRuled b callers asks past) (p : ℕ) → mark b asks past p ≡ mark_in ((stand b ruled.deeds past).slot p).slot }
+    ensures worlds { (b : BoardView) (callers : ℕ) (asks : Asks) (past : List Entry) (ruled : IsRuled b callers asks past) (r : ℕ) → world_at b asks past r ≡ (stand b ruled.deeds past).worlds r }
+    ensures calls { (b : BoardView) (callers : ℕ) (asks : Asks) (past : List Entry) (ruled : IsRuled b callers asks past) (r : ℕ) → calls_of b asks past r ≡ calls_by b ruled.deeds past r }
 {}

@@ -1,4 +1,5 @@
 //! Worked examples of the walk rule, computed by the checker itself.
+ghost use Rattle.std.specs.Prelude.{[], ◌∷◌};
 ghost use Rattle.bus_spec.specs.Rows as row;
 ghost use Rattle.bus_spec.specs.WalkRule.{IsWalk};
 ghost use Rattle.journal_laws.specs.WalkRows as walk;
@@ -38,4 +39,13 @@ pub fn an_arbitrator_is_asked_and_a_line_is_shifted()
     ensures switched_while_taken { IsWalk (row.arbitrator 7) walk.behind_arbitrator walk.switched_while_taken → ⊥ }
     ensures shifted { IsWalk row.gpio walk.behind_gpio walk.line_walk }
     ensures over_a_failed_line { IsWalk row.gpio walk.behind_gpio walk.over_a_failed_line → ⊥ }
+{}
+
+/// A failure by the port marks the mux of each select and close that it is for, up to the nearest deselect, and the mux of that
+/// deselect; none beyond: three walks behind two muxes, and one that marks a mux beyond, which is none.
+pub fn a_failure_marks_its_way()
+    ensures both { IsWalk row.chain walk.behind_both walk.marks_both }
+    ensures to_the_deselect { IsWalk row.chain walk.behind_both walk.marks_to_the_deselect }
+    ensures none_beyond { IsWalk row.chain walk.behind_both (walk.marks_none_beyond_by (walk.near_mark ∷ [])) }
+    ensures not_beyond { IsWalk row.chain walk.behind_both (walk.marks_none_beyond_by (walk.near_mark ∷ walk.far_mark ∷ [])) → ⊥ }
 {}

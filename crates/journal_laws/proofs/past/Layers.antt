@@ -28,16 +28,16 @@ use Rattle.journal_laws.proofs.past.Places.{walk-left}
 -- THE STEPS OF A CALLER
 module _ (b : BoardView) (asks : List Reply → Option TransferView) where
   -- the walk that is left behind steps
-  abbrev walk_behind : List Reply → WalkTree → List Step → WalkTree
+  abbrev pub walk_behind : List Reply → WalkTree → List Step → WalkTree
   walk_behind rs w [] = w
   walk_behind rs w (s ∷ ss) = walk_behind (rs ++ reply_at s.entry)
       (rest_of (seen s.before.slot (at_hand b asks rs w)) (outcome_of s.entry)) ss
 
   -- a step more: the walk at hand, and what the step tells of it
-  abbrev hand_behind : List Reply → WalkTree → List Step → WalkTree
+  abbrev pub hand_behind : List Reply → WalkTree → List Step → WalkTree
   hand_behind rs w ss = at_hand b asks (rs ++ replies_in ss) (walk_behind rs w ss)
 
-  replies_shift : (rs : List Reply) (s : Step) (ss : List Step) → (rs ++ reply_at s.entry) ++ replies_in ss ≡ rs ++ replies_in (s ∷ ss)
+  pub replies_shift : (rs : List Reply) (s : Step) (ss : List Step) → (rs ++ reply_at s.entry) ++ replies_in ss ≡ rs ++ replies_in (s ∷ ss)
   replies_shift rs s ss =
       append_assoc rs (reply_at s.entry) (replies_in ss) ∙ ap (λ (xs : List Reply). rs ++ xs) (sym (replies_first s.before s.deed s.entry ss))
 
@@ -149,7 +149,7 @@ module _ (b : BoardView) (asks : Asks) where
       ]
 
   -- the walk at hand behind a caller's steps is the one that its next step is of
-  hand : (past : List Entry) (c : ℕ) → walk_behind b (asks c) [] Ends (steps_in b asks c past) ≡ (now b asks past).walk c
+  pub hand : (past : List Entry) (c : ℕ) → walk_behind b (asks c) [] Ends (steps_in b asks c past) ≡ (now b asks past).walk c
       → hand_behind b (asks c) [] Ends (steps_in b asks c past) ≡ at_hand b (asks c) ((now b asks past).settled c)
       ((now b asks past).walk c)
   hand past c walk =
@@ -158,7 +158,7 @@ module _ (b : BoardView) (asks : Asks) where
       ∙ ap (λ (w : WalkTree). at_hand b (asks c) ((now b asks past).settled c) w) walk
 
   -- what is left of its walk is what its steps leave
-  walk_steps : (past : List Entry) (c : ℕ) → walk_behind b (asks c) [] Ends (steps_in b asks c past) ≡ (now b asks past).walk c
+  pub walk_steps : (past : List Entry) (c : ℕ) → walk_behind b (asks c) [] Ends (steps_in b asks c past) ≡ (now b asks past).walk c
   walk_steps [] c = refl
   walk_steps (e ∷ past) c =
       elim (eqb_tells c (caller_of e)) [

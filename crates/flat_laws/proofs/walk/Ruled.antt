@@ -1,0 +1,192 @@
+-- A journal that keeps the rules where they are told by the walk tree keeps them where they are told without it. The inductions go
+-- over the steps and the entries.
+use Rattle.std.proofs.Common.{◌≡◌, ℕ, Bool, cond, List, [], ◌∷◌, ◌++◌, map, Option, Some, refl, sym, ◌∙◌, ap, subst, inl, inr}
+use Rattle.std.proofs.lemmas.Bool.{eq-eqb}
+use Rattle.std.proofs.lemmas.Bool.Decides.{eqb_tells}
+use Rattle.std.proofs.lemmas.List.{map-append, map_push}
+use Rattle.std.proofs.lemmas.Option.{same_Some}
+use Rattle.i2c_base.specs.declared.errno.Errno.{Errno}
+use Rattle.i2c_base.specs.declared.entry.Entry.{Entry}
+use Rattle.i2c_base.specs.declared.entry.Entry.TheVariants as entry
+use Rattle.i2c_base.specs.declared.entry.End.{End}
+use Rattle.i2c_base.specs.declared.reply.Reply.{Reply}
+use Rattle.i2c_base.specs.Board.{BoardView}
+use Rattle.i2c_base.specs.Transfer.{TransferView}
+use Rattle.i2c_spec.specs.Tree.{root_of}
+use Rattle.i2c_spec.specs.World.{World}
+use Rattle.i2c_spec.specs.History.{Asks}
+use Rattle.bus_spec.specs.Walk.{Job, Act, Take, Free, Send, Shift, Settle, WalkTree, Ends, Look, Then}
+use Rattle.bus_spec.specs.Grammar.{first_act, first_note}
+use Rattle.bus_spec.specs.Readings.{MessageEntry, OfMessage, caller_of}
+use Rattle.bus_spec.specs.Past.{Now, current, step, now, calls_of, sent_by, lined_by}
+use Rattle.bus_spec.specs.Places.{transfer_at}
+use Rattle.bus_spec.specs.Tells.{TellsMessage}
+use Rattle.bus_spec.specs.WalkRule.{Deed, PathStep, Saw, Did, Step, deed_next, replies_in, TellsAct, AreTold, AreTransfers, no_more, one_more, under_way}
+use Rattle.bus_spec.specs.Stand.{Stand, stand_behind, stand, message_done, line_done, calls_by}
+use Rattle.bus_spec.specs.Legal.{steps_in, IsReached, is_forced, Reaches, IsLegal}
+use Rattle.bus_spec.specs.Ruled.{SaysMessage, SaysAct, Doing, doings_in, replies_said, AreSaid, AreDone, nothing, transfer, begun, ReachesBy, IsRuled}
+use Rattle.bus_laws.proofs.tree.Slots.{eqb-apart}
+
+abbrev pub stand_of : Now → Stand
+stand_of n = record { slot = n.slot; worlds = n.worlds; calls = n.calls }
+
+abbrev pub doing_of : Step → Doing
+doing_of s = record { before = stand_of s.before; deed = s.deed; entry = s.entry }
+
+-- what each entry does, by its caller's walk
+abbrev pub deeds_of : BoardView → Asks → List Entry → List Deed
+deeds_of b asks [] = []
+deeds_of b asks (e ∷ past) = deed_next (current b asks (now b asks past) (caller_of e)) ∷ deeds_of b asks past
+
+-- ONE ENTRY
+message-stands : (b : BoardView) (n : Now) (c : ℕ) (w : WalkTree) (reading : Bool) (bytes : List ℕ) (e : End)
+    → stand_of (sent_by b n c (first_act w) (first_note w) reading bytes e)
+    ≡ message_done b (stand_of n) (deed_next w).act (deed_next w).marks bytes e
+message-stands b n c Ends reading bytes e = refl
+message-stands b n c (Look ask next) reading bytes e = refl
+message-stands b n c (Then (Take l) note next) reading bytes e = refl
+message-stands b n c (Then (Free l) note next) reading bytes e = refl
+message-stands b n c (Then (Send job left) note next) reading bytes e = refl
+message-stands b n c (Then (Shift job) note next) reading bytes e = refl
+message-stands b n c (Then (Settle verdict) note next) reading bytes e = refl
+
+line-stands : (b : BoardView) (n : Now) (w : WalkTree) (failed : Bool)
+    → stand_of (lined_by b n (first_act w) (first_note w) failed) ≡ line_done b (stand_of n) (deed_next w).act (deed_next w).marks failed
+line-stands b n Ends failed = refl
+line-stands b n (Look ask next) failed = refl
+line-stands b n (Then (Take l) note next) failed = refl
+line-stands b n (Then (Free l) note next) failed = refl
+line-stands b n (Then (Send job left) note next) failed = refl
+line-stands b n (Then (Shift job) note next) failed = refl
+line-stands b n (Then (Settle verdict) note next) failed = refl
+
+pub step-stands : (b : BoardView) (asks : Asks) (n : Now) (e : Entry)
+    → stand_of (step b asks n e) ≡ stand_behind b (stand_of n) (deed_next (current b asks n (caller_of e))) e
+step-stands b asks n (entry.Take c l) = refl
+step-stands b asks n (entry.Free c l) = refl
+step-stands b asks n (entry.Settle c r cut) = refl
+step-stands b asks n (entry.Message c bus purpose part parts addr reading bytes heard e) =
+    message-stands b n c (current b asks n c) reading bytes e
+step-stands b asks n (entry.Line c mux level failed) = line-stands b n (current b asks n c) failed
+
+pub past-stands : (b : BoardView) (asks : Asks) (past : List Entry) → stand_of (now b asks past) ≡ stand b (deeds_of b asks past) past
+past-stands b asks [] = refl
+past-stands b asks (e ∷ past) =
+    step-stands b asks (now b asks past) e
+    ∙ ap (λ (s : Stand). stand_behind b s (deed_next (current b asks (now b asks past) (caller_of e))) e) (past-stands b asks past)
+
+-- WHAT AN ENTRY TELLS
+says : (b : BoardView) (n : Now) (act : Act) (e : Entry) → TellsAct b n act e → SaysAct b n.worlds act e
+says b n act (entry.Take c l) tells = same_Some act (Take l) tells
+says b n act (entry.Free c l) tells = same_Some act (Free l) tells
+says b n act (entry.Line c mux level failed) tells = (tells.0, same_Some act (Shift tells.0) tells.1, tells.2)
+says b n act (entry.Settle c r cut) tells = (tells.0, same_Some act (Settle tells.0) tells.1)
+says b n act (entry.Message c bus purpose part parts addr reading bytes heard e) tells =
+    (
+      tells.0,
+      tells.1,
+      same_Some act (Send tells.0 tells.1) tells.2,
+      record {
+        on_bus = tells.3.on_bus;
+        for_purpose = tells.3.for_purpose;
+        as_part = tells.3.as_part;
+        of_parts = tells.3.of_parts;
+        to_addr = tells.3.to_addr;
+        in_direction = tells.3.in_direction;
+        bytes_told = tells.3.bytes_told;
+        end_told = tells.3.end_told;
+        heard_told = tells.3.heard_told;
+      },
+    )
+
+are-said : (b : BoardView) (ps : List PathStep) (steps : List Step) → AreTold b ps steps → AreSaid b ps (map doing_of steps)
+are-said b [] steps told = ap (map doing_of) told
+are-said b (Saw ask answer ∷ ps) [] told = absurd told
+are-said b (Saw ask answer ∷ ps) (s ∷ steps) told = (told.0, are-said b ps (s ∷ steps) told.1)
+are-said b (Did deed out ∷ ps) [] told = absurd told
+are-said b (Did deed out ∷ ps) (s ∷ steps) told =
+    (says b s.before deed.act s.entry told.0, told.1, told.2, are-said b ps steps told.3)
+
+-- the replies are the same
+pub replies-said : (steps : List Step) → replies_said (map doing_of steps) ≡ replies_in steps
+replies-said [] = refl
+replies-said (s ∷ steps) = by (replies-said steps) s.before s.deed s.entry
+  where
+    by : replies_said (map doing_of steps) ≡ replies_in steps → (n : Now) (d : Deed) (e : Entry)
+        → replies_said (map doing_of (record { before = n; deed = d; entry = e } ∷ steps)) ≡ replies_in (record { before = n; deed = d; entry = e } ∷ steps)
+    by more n d (entry.Take c l) = more
+    by more n d (entry.Free c l) = more
+    by more n d (entry.Message c bus purpose part parts addr reading bytes heard e) = more
+    by more n d (entry.Line c mux level failed) = more
+    by more n d (entry.Settle c r cut) = ap (λ (rs : List Reply). r ∷ rs) more
+
+module _ (b : BoardView) (asks : List Reply → Option TransferView) where
+  are-done : (rs : List Reply) (steps : List Step) → AreTransfers b asks rs steps → AreDone b asks rs (map doing_of steps)
+  are-done rs steps (no_more xs) = nothing xs
+  are-done rs steps (one_more xs t walk mine rest all r asked keeps told settles more parts) =
+      transfer xs t walk (map doing_of mine) (map doing_of rest) (map doing_of all) r asked keeps (are-said b walk mine told)
+      (replies-said mine ∙ settles) (are-done (xs ++ r ∷ []) rest more) (ap (map doing_of) parts ∙ map-append doing_of mine rest)
+  are-done rs steps (under_way xs t done rest mine asked keeps told quiet) =
+      begun xs t done rest (map doing_of mine) asked keeps (are-said b done mine told) quiet
+
+-- THE ENTRIES OF A CALLER
+module _ (b : BoardView) (asks : Asks) (c : ℕ) where
+  doings : (past : List Entry) → map doing_of (steps_in b asks c past) ≡ doings_in b c (deeds_of b asks past) past
+  doings [] = refl
+  doings (e ∷ past) = elim (eqb_tells (caller_of e) c) [ inl h ↦ own (doings past) h.1 | inr h ↦ other (doings past) h.1 ]
+    where
+      last : ℕ → Step
+      last d = record { before = now b asks past; deed = deed_next (current b asks (now b asks past) d); entry = e }
+
+      said : Deed → Doing
+      said d = record { before = stand b (deeds_of b asks past) past; deed = d; entry = e }
+
+      own : map doing_of (steps_in b asks c past) ≡ doings_in b c (deeds_of b asks past) past → caller_of e ≡ c → map doing_of (steps_in b asks c (e ∷ past)) ≡ doings_in b c (deeds_of b asks (e ∷ past)) (e ∷ past)
+      own same is =
+          ap (λ (t : Bool). map doing_of (cond t (steps_in b asks c past ++ last c ∷ []) (steps_in b asks c past))) (eq-eqb (caller_of e) c is)
+          ∙ map_push doing_of (steps_in b asks c past) (last c)
+          ∙ ap (λ (xs : List Doing). xs ++ doing_of (last c) ∷ []) same
+          ∙ ap (λ (d : ℕ). doings_in b c (deeds_of b asks past) past ++ doing_of (last d) ∷ []) (sym is)
+          ∙ ap (λ (s : Stand). doings_in b c (deeds_of b asks past) past
+          ++ (record { before = s; deed = deed_next (current b asks (now b asks past) (caller_of e)); entry = e }) ∷ []) (past-stands b asks past)
+          ∙ sym (ap (λ (t : Bool). cond t (doings_in b c (deeds_of b asks past) past
+          ++ said (deed_next (current b asks (now b asks past) (caller_of e))) ∷ []) (doings_in b c (deeds_of b asks past) past))
+          (eq-eqb (caller_of e) c is))
+
+      other : map doing_of (steps_in b asks c past) ≡ doings_in b c (deeds_of b asks past) past → (caller_of e ≡ c → ⊥) → map doing_of (steps_in b asks c (e ∷ past)) ≡ doings_in b c (deeds_of b asks (e ∷ past)) (e ∷ past)
+      other same isnt =
+          ap (λ (t : Bool). map doing_of (cond t (steps_in b asks c past ++ last c ∷ []) (steps_in b asks c past)))
+          (eqb-apart (caller_of e) c isnt)
+          ∙ same
+          ∙ sym (ap (λ (t : Bool). cond t (doings_in b c (deeds_of b asks past) past
+          ++ said (deed_next (current b asks (now b asks past) (caller_of e))) ∷ []) (doings_in b c (deeds_of b asks past) past))
+          (eqb-apart (caller_of e) c isnt))
+
+-- EACH MESSAGE
+reaches-by : (b : BoardView) (asks : Asks) (past : List Entry) → Reaches b asks past → ReachesBy b asks (deeds_of b asks past) past
+reaches-by b asks [] reach = tt
+reaches-by b asks (e ∷ past) reach = (
+  subst
+      (λ (s : Stand). OfMessage (λ m. IsReached b (s.worlds (root_of b m.bus)) (is_forced (transfer_at asks past m.caller)) m) e)
+      (past-stands b asks past) reach.0,
+  reaches-by b asks past reach.1,
+)
+
+-- ALL RULES
+pub ruled : (b : BoardView) (callers : ℕ) (asks : Asks) (past : List Entry) → IsLegal b callers asks past → IsRuled b callers asks past
+ruled b callers asks past legal =
+    record {
+      known = legal.known;
+      locks = legal.locks;
+      whole = legal.whole;
+      deeds = deeds_of b asks past;
+      walks = λ c. subst (λ (xs : List Doing). AreDone b (asks c) [] xs) (doings b asks c past)
+          (are-done b (asks c) [] (steps_in b asks c past) (legal.walks c));
+      reach = reaches-by b asks past legal.reach;
+      replies_kept = legal.replies_kept;
+      settles = legal.settles;
+    }
+
+-- and the calls of the ports are the same
+pub calls-same : (b : BoardView) (asks : Asks) (past : List Entry) (r : ℕ) → calls_of b asks past r ≡ calls_by b (deeds_of b asks past) past r
+calls-same b asks past r = ap (λ (s : Stand). Rattle.std.specs.Prelude.reverse (s.calls r)) (past-stands b asks past)
