@@ -12,6 +12,7 @@ use Rattle.bus_spec.specs.Walk.{Job, Call, Select, SwitchOff, Deselect, Close, T
 use Rattle.bus_spec.specs.Slots.{Slots, answer_to}
 use Rattle.bus_spec.specs.Grammar.{Doer, settled, over, by_go, messages, at_bus, locked, part, with_mark, aside, if_sent, if_good, kind_of, closing, left_behind, opened, chosen, keeps, crossed, behind, inner, walk_by, walk_for, plain, seen}
 use Rattle.bus_laws.specs.Settles.{Settles}
+use Rattle.bus_laws.proofs.walk.Keeps.{by_go-keeps, if_good-keeps, if_sent-keeps}
 use Rattle.bus_laws.specs.Calls.{FirstCalls}
 
 -- behind the settle none is sent
@@ -39,11 +40,6 @@ over_first job left note k hk out =
     settled_first (note.forward && decides job (job_outcome job left out)) (verdict_of job left out) (k (job_outcome job left out))
     (hk (job_outcome job left out))
 
-go_first : (g : Go) (x y z : WalkTree) → FirstCalls x → FirstCalls y → FirstCalls z → FirstCalls (by_go g x y z)
-go_first On x y z hx hy hz = hx
-go_first Last x y z hx hy hz = hy
-go_first Over x y z hx hy hz = hz
-
 -- a message to a mux's chip
 abbrev IsControlJob : Job → Type 0
 IsControlJob (Call bus messages) = ⊥
@@ -63,7 +59,7 @@ messages_first (suc left) job note k control hk =
     send_first job (suc left) note
     (λ out. by_go (goes job left out) (messages left job note k) (Then (Send job zero) note (over job zero note k))
     (over job (suc left) note k out)) control
-    (λ out. go_first (goes job left out) (messages left job note k) (Then (Send job zero) note (over job zero note k))
+    (λ out. by_go-keeps FirstCalls (goes job left out) (messages left job note k) (Then (Send job zero) note (over job zero note k))
     (over job (suc left) note k out)
     (messages_first left job note k control hk) (send_first job zero note (over job zero note k) control (over_first job zero note k hk))
     (over_first job (suc left) note k hk out))
@@ -96,20 +92,6 @@ part_first : (parent : Bool) (ls : List LockId) (on : Doer) → DoerFirst on →
 part_first true ls on hon = hon
 part_first false ls on hon = locked_first ls on hon
 
-sent_first : (o : JobOutcome) (w : WalkTree) (k : JobOutcome → WalkTree) → FirstCalls w → ((x : JobOutcome) → FirstCalls (k x))
-    → FirstCalls (if_sent o w k)
-sent_first Good w k hw hk = hw
-sent_first Refused w k hw hk = hw
-sent_first Unsent w k hw hk = hk Unsent
-sent_first Failed w k hw hk = hk Failed
-
-good_first : (o : JobOutcome) (w : WalkTree) (k : JobOutcome → WalkTree) → FirstCalls w → ((x : JobOutcome) → FirstCalls (k x))
-    → FirstCalls (if_good o w k)
-good_first Good w k hw hk = hw
-good_first Refused w k hw hk = hk Unsent
-good_first Unsent w k hw hk = hk Unsent
-good_first Failed w k hw hk = hk Failed
-
 module _ (b : BoardView) where
   left_first : (stays : Bool) (h : Hop) (on : Doer) (k : JobOutcome → WalkTree) → DoerFirst on → ((o : JobOutcome) → FirstCalls (k o))
       → (out : JobOutcome) → FirstCalls (left_behind stays h on k out)
@@ -122,7 +104,7 @@ module _ (b : BoardView) where
   chosen_first : (h : Hop) (on : Doer) → DoerFirst on → DoerFirst (chosen h on)
   chosen_first h on hon job note k hk =
       hon (Select h) (with_mark h.on h.mux note) (λ o. if_good o (opened h on job note k) k)
-      (λ o. good_first o (opened h on job note k) k (opened_first h on hon job note k hk) hk)
+      (λ o. if_good-keeps FirstCalls o (opened h on job note k) k (opened_first h on hon job note k hk) hk)
 
   crossed_first : (h : Hop) (on : Doer) → DoerFirst on → (m : Option ℕ) → DoerFirst (λ job note k. crossed h on job note k m)
   crossed_first h on hon m job note k hk = by (keeps h m)
@@ -136,7 +118,7 @@ module _ (b : BoardView) where
       → (m : Option ℕ) → FirstCalls (closing b h on note k w m)
   closing_first h on note k w hon hk hw None = hw
   closing_first h on note k w hon hk hw (Some m) =
-      hon (SwitchOff (Close h.on m (kind_of b m))) (with_mark h.on m note) (λ o. if_sent o w k) (λ o. sent_first o w k hw hk)
+      hon (SwitchOff (Close h.on m (kind_of b m))) (with_mark h.on m note) (λ o. if_sent o w k) (λ o. if_sent-keeps FirstCalls o w k hw hk)
 
   inner_first : (root : ℕ) (hs : List Hop) → DoerFirst (inner b root hs)
   inner_first root [] job note k hk = bus_first job note k hk

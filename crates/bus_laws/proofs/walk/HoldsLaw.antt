@@ -24,6 +24,8 @@ use Rattle.bus_laws.proofs.world.BoardFacts.{mux_at}
 use Rattle.bus_laws.proofs.tree.Law.{refusal-none}
 use Rattle.bus_laws.proofs.tree.Path.{ground, sub_locks, bus_among}
 use Rattle.bus_laws.proofs.tree.Falls.{Falls, floor_after, gathered, is_below_all, in_gathered, path_falls, path_floor}
+use Rattle.bus_laws.proofs.walk.Keeps.{by_go-keeps, if_good-keeps, if_sent-keeps}
+use Rattle.bus_laws.proofs.walk.Jobs.{hop_before}
 use Rattle.bus_laws.specs.Holds.{IsLockOf, IsMarkOn, OwnHeld, MarksHeld, AreApart, SendsIn, HoldsLocks}
 
 -- what a job at the end of some hops needs: `ls` are the locks of these hops that are held, `floor` the least rank held
@@ -54,18 +56,12 @@ module _ (b : BoardView) (held : List LockId) where
       settled_holds (note.forward && decides job (job_outcome job left out)) (verdict_of job left out) (k (job_outcome job left out))
       (hk (job_outcome job left out))
 
-  go_holds : (g : Go) (x y z : WalkTree) → HoldsLocks b held x → HoldsLocks b held y → HoldsLocks b held z
-      → HoldsLocks b held (by_go g x y z)
-  go_holds On x y z hx hy hz = hx
-  go_holds Last x y z hx hy hz = hy
-  go_holds Over x y z hx hy hz = hz
-
   messages_hold : (left : ℕ) (job : Job) (note : Note) (k : JobOutcome → WalkTree) → SendsIn b job note.marks held
       → ((o : JobOutcome) → HoldsLocks b held (k o)) → HoldsLocks b held (messages left job note k)
   messages_hold zero job note k sends hk = (sends, over_holds job zero note k hk)
   messages_hold (suc left) job note k sends hk = (
     sends,
-    λ out. go_holds (goes job left out) (messages left job note k) (Then (Send job zero) note (over job zero note k))
+    λ out. by_go-keeps (HoldsLocks b held) (goes job left out) (messages left job note k) (Then (Send job zero) note (over job zero note k))
         (over job (suc left) note k out)
         (messages_hold left job note k sends hk) (sends, over_holds job zero note k hk) (over_holds job (suc left) note k hk out),
   )
@@ -77,20 +73,6 @@ module _ (b : BoardView) (held : List LockId) where
       by : (x : Bool) → HoldsLocks b held (cond x (Then (Shift job) note (over job zero note k)) (messages (more_of job) job note k))
       by true = (sends, over_holds job zero note k hk)
       by false = messages_hold (more_of job) job note k sends hk
-
-  sent_holds : (o : JobOutcome) (w : WalkTree) (k : JobOutcome → WalkTree) → HoldsLocks b held w
-      → ((x : JobOutcome) → HoldsLocks b held (k x)) → HoldsLocks b held (if_sent o w k)
-  sent_holds Good w k hw hk = hw
-  sent_holds Refused w k hw hk = hw
-  sent_holds Unsent w k hw hk = hk Unsent
-  sent_holds Failed w k hw hk = hk Failed
-
-  good_holds : (o : JobOutcome) (w : WalkTree) (k : JobOutcome → WalkTree) → HoldsLocks b held w
-      → ((x : JobOutcome) → HoldsLocks b held (k x)) → HoldsLocks b held (if_good o w k)
-  good_holds Good w k hw hk = hw
-  good_holds Refused w k hw hk = hk Unsent
-  good_holds Unsent w k hw hk = hk Unsent
-  good_holds Failed w k hw hk = hk Failed
 
 -- LOCKS
 own_more : (b : BoardView) (l : LockId) (job : Job) (held : List LockId) → OwnHeld b job held → OwnHeld b job (l ∷ held)
@@ -143,16 +125,6 @@ module _ (b : BoardView) (root : ℕ) (hs : List Hop) where
         same_root = before.same_root;
         line_rooted = before.line_rooted;
       }) hk
-
--- each hop stands before the bus that it leads to
-before_it : (b : BoardView) → IsTree b → (hs : List Hop) (s : ℕ) → hops b s ≡ hs → (g : Hop) → IsAmongHops g hs → g.on < s
-before_it b tree [] s at g among = absurd among
-before_it b tree (h ∷ hs) s at g among =
-    let leads : (h.bus ≡ s) × (h.on < s) = tree.leads s h hs at in
-    elim among [
-      | inl same ↦ subst (λ (x : Hop). x.on < s) (sym same) leads.1
-      | inr more ↦ (let less : g.on < h.on = before_it b tree hs h.on (tree.tail s h hs at) g more in omega (arith, less, leads.1))
-    ]
 
 module _ (b : BoardView) (tree : IsTree b) (root : ℕ) where
   -- the locks of a path are the board's
@@ -212,7 +184,7 @@ module _ (b : BoardView) (tree : IsTree b) (root : ℕ) where
 
       -- the hops before it stand on other buses
       below : (g : Hop) → IsAmongHops g hs → g.on ≡ h.on → ⊥
-      below g a e = (let less : g.on < h.on = before_it b tree hs h.on (tree.tail s h hs at) g a in omega (arith, less, e))
+      below g a e = (let less : g.on < h.on = hop_before b tree hs h.on (tree.tail s h hs at) g a in omega (arith, less, e))
 
       -- a control job on the bus of the hop
       module _ (held : List LockId) (locks : (l : LockId) → InLocks l (locks_of root (h ∷ hs)) → InLocks l held) (ranks : (l : LockId)
@@ -269,7 +241,7 @@ module _ (b : BoardView) (tree : IsTree b) (root : ℕ) where
               (switch (Select h) (with_mark h.on h.mux note).marks (mine, home, (tree.hop s h among).mux) refl ((mine, home), marked)
               (marks_off h (inl refl), marks_apart) (λ g a. (below g a, marks_off g (inr a)))
               (λ l. line_lock h hs h.mux (tree.tail s h hs at) home (ap is_gpio kind_is ∙ l)))
-              (λ o. good_holds b held o (opened h on job note k) k opened_holds hk)
+              (λ o. if_good-keeps (HoldsLocks b held) o (opened h on job note k) k opened_holds hk)
 
           crossed_holds : (m : Option ℕ) → HoldsLocks b held (crossed h on job note k m)
           crossed_holds m = by (keeps h m)
@@ -291,7 +263,7 @@ module _ (b : BoardView) (tree : IsTree b) (root : ℕ) where
               (switch (SwitchOff (Close h.on m (kind_of b m))) (with_mark h.on m note).marks (mine, is) refl ((mine, is), marked)
               (marks_off h (inl refl), marks_apart) (λ g a. (below g a, marks_off g (inr a)))
               (λ l. line_lock h hs m (tree.tail s h hs at) is l))
-              (λ o. sent_holds b held o passing k passing_holds hk)
+              (λ o. if_sent-keeps (HoldsLocks b held) o passing k passing_holds hk)
 
           behind_holds : HoldsLocks b held (behind b h on job note k)
           behind_holds = (mine, tt, closing_holds)
