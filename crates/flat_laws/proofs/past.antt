@@ -4,3 +4,4 @@ pub mod Walks
 pub mod Left
 pub mod Legal
 pub mod Ends
+pub mod Through

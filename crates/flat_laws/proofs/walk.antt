@@ -2,3 +2,4 @@
 pub mod Paths
 pub mod Rule
 pub mod Ruled
+pub mod HoldsOn

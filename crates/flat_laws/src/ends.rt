@@ -25,6 +25,14 @@ pub fn a_caller_with_no_walk_holds_nothing()
     an_accepted_board_is_a_tree();
 }
 
+/// A caller that holds no lock has no walk under way: a walk that has begun holds a lock until it ends.
+pub fn a_caller_that_holds_nothing_has_no_walk()
+    ensures { (b : BoardView) (callers : ℕ) (asks : Asks) (past : List Entry) → IsPlainBoard b → MeetsRules b → AsksForMessages asks → IsStepwise b callers asks past
+        → (c : ℕ) → (now b asks past).held c ≡ [] → (now b asks past).walk c ≡ Ends }
+{
+    an_accepted_board_is_a_tree();
+}
+
 /// A journal in which each caller's walk has ended, and none asks for more, is complete: no lock is held, and on no root
 /// has a transfer begun and not ended.
 pub fn a_finished_journal_is_complete()

@@ -14,9 +14,12 @@ pub use devices::{
     a_transfer_grows_by_one_message, a_transfer_is_of_its_root_alone,
     the_messages_that_were_sent_are_the_transfer,
 };
-pub use ends::{a_caller_with_no_walk_holds_nothing, a_finished_journal_is_complete};
+pub use ends::{
+    a_caller_that_holds_nothing_has_no_walk, a_caller_with_no_walk_holds_nothing,
+    a_finished_journal_is_complete,
+};
 pub use journals::{
     a_journal_is_legal, a_journal_that_rests_leaves_the_devices_of_its_history,
-    each_caller_walks_its_transfers, each_reply_is_that_of_the_flat_world,
-    the_devices_are_those_of_the_history,
+    a_legal_journal_keeps_the_rules, each_caller_walks_its_transfers,
+    each_reply_is_that_of_the_flat_world, the_devices_are_those_of_the_history,
 };

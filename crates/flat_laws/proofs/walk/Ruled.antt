@@ -1,11 +1,10 @@
 -- A journal that keeps the rules where they are told by the walk tree keeps them where they are told without it. The inductions go
 -- over the steps and the entries.
-use Rattle.std.proofs.Common.{◌≡◌, ℕ, Bool, cond, List, [], ◌∷◌, ◌++◌, map, Option, Some, refl, sym, ◌∙◌, ap, subst, inl, inr}
+use Rattle.std.proofs.Common.{◌≡◌, ℕ, Bool, cond, List, [], ◌∷◌, ◌++◌, map, reverse, Option, refl, sym, ◌∙◌, ap, subst, inl, inr}
 use Rattle.std.proofs.lemmas.Bool.{eq-eqb}
 use Rattle.std.proofs.lemmas.Bool.Decides.{eqb_tells}
 use Rattle.std.proofs.lemmas.List.{map-append, map_push}
 use Rattle.std.proofs.lemmas.Option.{same_Some}
-use Rattle.i2c_base.specs.declared.errno.Errno.{Errno}
 use Rattle.i2c_base.specs.declared.entry.Entry.{Entry}
 use Rattle.i2c_base.specs.declared.entry.Entry.TheVariants as entry
 use Rattle.i2c_base.specs.declared.entry.End.{End}
@@ -13,18 +12,16 @@ use Rattle.i2c_base.specs.declared.reply.Reply.{Reply}
 use Rattle.i2c_base.specs.Board.{BoardView}
 use Rattle.i2c_base.specs.Transfer.{TransferView}
 use Rattle.i2c_spec.specs.Tree.{root_of}
-use Rattle.i2c_spec.specs.World.{World}
 use Rattle.i2c_spec.specs.History.{Asks}
-use Rattle.bus_spec.specs.Walk.{Job, Act, Take, Free, Send, Shift, Settle, WalkTree, Ends, Look, Then}
+use Rattle.bus_spec.specs.Walk.{Act, Take, Free, Send, Shift, Settle, WalkTree, Ends, Look, Then}
 use Rattle.bus_spec.specs.Grammar.{first_act, first_note}
-use Rattle.bus_spec.specs.Readings.{MessageEntry, OfMessage, caller_of}
-use Rattle.bus_spec.specs.Past.{Now, current, step, now, calls_of, sent_by, lined_by}
+use Rattle.bus_spec.specs.Readings.{OfMessage, caller_of}
+use Rattle.bus_spec.specs.Past.{Now, current, step, now, world_at, calls_of, sent_by, lined_by}
 use Rattle.bus_spec.specs.Places.{transfer_at}
-use Rattle.bus_spec.specs.Tells.{TellsMessage}
 use Rattle.bus_spec.specs.WalkRule.{Deed, PathStep, Saw, Did, Step, deed_next, replies_in, TellsAct, AreTold, AreTransfers, no_more, one_more, under_way}
 use Rattle.bus_spec.specs.Stand.{Stand, stand_behind, stand, message_done, line_done, calls_by}
 use Rattle.bus_spec.specs.Legal.{steps_in, IsReached, is_forced, Reaches, IsLegal}
-use Rattle.bus_spec.specs.Ruled.{SaysMessage, SaysAct, Doing, doings_in, replies_said, AreSaid, AreDone, nothing, transfer, begun, ReachesBy, IsRuled}
+use Rattle.bus_spec.specs.Ruled.{SaysAct, Doing, doings_in, replies_said, AreSaid, AreDone, nothing, transfer, begun, ReachesBy, IsRuled}
 use Rattle.bus_laws.proofs.tree.Slots.{eqb-apart}
 
 abbrev pub stand_of : Now → Stand
@@ -81,23 +78,22 @@ says b n act (entry.Take c l) tells = same_Some act (Take l) tells
 says b n act (entry.Free c l) tells = same_Some act (Free l) tells
 says b n act (entry.Line c mux level failed) tells = (tells.0, same_Some act (Shift tells.0) tells.1, tells.2)
 says b n act (entry.Settle c r cut) tells = (tells.0, same_Some act (Settle tells.0) tells.1)
-says b n act (entry.Message c bus purpose part parts addr reading bytes heard e) tells =
-    (
-      tells.0,
-      tells.1,
-      same_Some act (Send tells.0 tells.1) tells.2,
-      record {
-        on_bus = tells.3.on_bus;
-        for_purpose = tells.3.for_purpose;
-        as_part = tells.3.as_part;
-        of_parts = tells.3.of_parts;
-        to_addr = tells.3.to_addr;
-        in_direction = tells.3.in_direction;
-        bytes_told = tells.3.bytes_told;
-        end_told = tells.3.end_told;
-        heard_told = tells.3.heard_told;
-      },
-    )
+says b n act (entry.Message c bus purpose part parts addr reading bytes heard e) tells = (
+  tells.0,
+  tells.1,
+  same_Some act (Send tells.0 tells.1) tells.2,
+  record {
+    on_bus = tells.3.on_bus;
+    for_purpose = tells.3.for_purpose;
+    as_part = tells.3.as_part;
+    of_parts = tells.3.of_parts;
+    to_addr = tells.3.to_addr;
+    in_direction = tells.3.in_direction;
+    bytes_told = tells.3.bytes_told;
+    end_told = tells.3.end_told;
+    heard_told = tells.3.heard_told;
+  },
+)
 
 are-said : (b : BoardView) (ps : List PathStep) (steps : List Step) → AreTold b ps steps → AreSaid b ps (map doing_of steps)
 are-said b [] steps told = ap (map doing_of) told
@@ -187,6 +183,11 @@ ruled b callers asks past legal =
       settles = legal.settles;
     }
 
--- and the calls of the ports are the same
-pub calls-same : (b : BoardView) (asks : Asks) (past : List Entry) (r : ℕ) → calls_of b asks past r ≡ calls_by b (deeds_of b asks past) past r
-calls-same b asks past r = ap (λ (s : Stand). Rattle.std.specs.Prelude.reverse (s.calls r)) (past-stands b asks past)
+-- and the worlds and the calls of the ports are the same by what the entries do
+pub worlds-same : (b : BoardView) (asks : Asks) (past : List Entry) (r : ℕ)
+    → world_at b asks past r ≡ (stand b (deeds_of b asks past) past).worlds r
+worlds-same b asks past r = ap (λ (s : Stand). s.worlds r) (past-stands b asks past)
+
+pub calls-same : (b : BoardView) (asks : Asks) (past : List Entry) (r : ℕ)
+    → calls_of b asks past r ≡ calls_by b (deeds_of b asks past) past r
+calls-same b asks past r = ap (λ (s : Stand). reverse (s.calls r)) (past-stands b asks past)
