@@ -16,6 +16,7 @@ pub mod Layers
 pub mod RuledLegal
 pub mod Due
 pub mod LegalSteps
+pub mod Complete
 pub mod Play
 pub mod Marked
 pub mod Kept

@@ -31,7 +31,9 @@ pub use layers::{
     each_prefix_of_a_legal_journal_is_legal,
 };
 pub use paths::{
-    a_job_stands_between_its_locks, a_journal_keeps_the_walk_rule, each_walk_keeps_the_walk_rule,
+    a_job_stands_between_its_locks, a_journal_is_complete_by_its_entries_alone,
+    a_journal_is_legal_by_its_entries_alone, a_journal_keeps_the_walk_rule,
+    each_walk_keeps_the_walk_rule, what_each_entry_does_tells_where_all_stands,
 };
 pub use readings::{
     each_kept_channel_is_the_last_one_told, each_mark_is_the_last_one_made,
@@ -44,7 +46,8 @@ pub use unique::{
 };
 pub use waiting::{each_caller_goes_on_or_is_stuck, some_caller_can_go_on, who_can_go_on_is_ready};
 pub use walk_rows::{
-    an_arbitrator_is_asked_and_a_line_is_shifted, these_are_no_walks, these_are_walks,
+    a_failure_marks_its_way, an_arbitrator_is_asked_and_a_line_is_shifted, these_are_no_walks,
+    these_are_walks,
 };
 pub use wrong::{
     a_closed_channel_lets_nothing_through, a_failed_message_tells_its_part,

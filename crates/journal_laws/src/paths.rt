@@ -4,18 +4,24 @@ ghost use Rattle.i2c_base.specs.declared.entry.Entry.{Entry};
 ghost use Rattle.i2c_base.specs.declared.reply.Reply.{Reply};
 ghost use Rattle.i2c_base.specs.Board.{BoardView};
 ghost use Rattle.i2c_base.specs.Transfer.{TransferView};
+ghost use Rattle.i2c_spec.specs.Plain.{IsPlainBoard};
+ghost use Rattle.i2c_spec.specs.Rules.{MeetsRules};
 ghost use Rattle.i2c_spec.specs.Tree.{Hop};
 ghost use Rattle.i2c_spec.specs.History.{Asks};
 ghost use Rattle.bus_spec.specs.Walk.{Job, JobOutcome, WalkTree, Ends};
 ghost use Rattle.bus_spec.specs.Grammar.{full, inner, walk_for};
 ghost use Rattle.bus_spec.specs.WalkRule.{Step, PathStep, IsFull, IsInner, IsWalk, AreTransfers};
-ghost use Rattle.bus_spec.specs.Legal.{KeepsWalks, IsLegal};
-ghost use Rattle.bus_spec.specs.Ruled.{IsRuled};
+ghost use Rattle.bus_spec.specs.Stepwise.{IsStepwise};
+ghost use Rattle.bus_spec.specs.Legal.{KeepsWalks, IsLegal, IsComplete};
+ghost use Rattle.bus_spec.specs.Ruled.{IsRuled, IsThrough};
 ghost use Rattle.bus_spec.specs.Stand.{stand, calls_by};
 ghost use Rattle.bus_spec.specs.Past.{mark, world_at, calls_of};
 ghost use Rattle.bus_spec.specs.Slots.{mark_in};
+ghost use Rattle.bus_laws.specs.Reach.{AsksForMessages, AsksWithinLimits};
 ghost use Rattle.flat_laws.specs.Paths.{note_of, IsPath, IsDoneBy};
 ghost use Rattle.flat_laws.specs.Led.{AreWalks, AreAllWalks};
+
+use i2c_spec::an_accepted_board_is_a_tree;
 
 /// A job with locks of its own takes all of them, in the order of `locks_of`, before anything else; then comes the whole
 /// of the job; then the same locks are freed, the last one taken first.
@@ -58,6 +64,22 @@ pub fn a_journal_keeps_the_walk_rule()
 pub fn a_journal_is_legal_by_its_entries_alone()
     ensures { (b : BoardView) (callers : ℕ) (asks : Asks) (past : List Entry) → IsLegal b callers asks past ↔ IsRuled b callers asks past }
 {}
+
+/// A journal that keeps the rules is complete exactly where nobody asks for more and no lock is held: each caller's walk has
+/// ended then, since a walk that has begun holds a lock until it ends.
+///
+/// Entries that might not come may free a lock that their caller's walk still needs. The other premises are those of the law
+/// that a legal journal is stepwise.
+pub fn a_journal_is_complete_by_its_entries_alone()
+    ensures ruled { (b : BoardView) (callers : ℕ) (asks : Asks) (past : List Entry) → IsPlainBoard b → MeetsRules b → AsksForMessages asks → AsksWithinLimits asks
+        → IsRuled b callers asks past → IsComplete b callers asks past ↔ IsThrough callers asks past }
+    ensures legal { (b : BoardView) (callers : ℕ) (asks : Asks) (past : List Entry) → IsPlainBoard b → MeetsRules b → AsksForMessages asks → AsksWithinLimits asks
+        → IsLegal b callers asks past → IsComplete b callers asks past ↔ IsThrough callers asks past }
+    ensures stepwise { (b : BoardView) (callers : ℕ) (asks : Asks) (past : List Entry) → IsPlainBoard b → MeetsRules b → AsksForMessages asks
+        → IsStepwise b callers asks past → IsComplete b callers asks past ↔ IsThrough callers asks past }
+{
+    an_accepted_board_is_a_tree();
+}
 
 /// By what each entry of a journal does, which is fixed by the walk rule, all stands as the walk tree tells it: the marks, the
 /// worlds, and the calls of the ports.

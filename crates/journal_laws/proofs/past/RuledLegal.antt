@@ -1,6 +1,6 @@
 -- A journal that keeps the rules where they are told without a walk tree keeps them where they are told by it: what each entry is
 -- said to do is the next step of its caller's walk. The inductions go over the steps and the entries.
-use Rattle.std.proofs.Common.{◌≡◌, ℕ, Bool, true, false, cond, List, [], ◌∷◌, ◌++◌, map, Option, Some, None, refl, sym, ◌∙◌, ap, subst, inl, inr, append_assoc, append-nil}
+use Rattle.std.proofs.Common.{◌≡◌, ℕ, Bool, true, false, cond, List, [], ◌∷◌, ◌++◌, map, reverse, Option, Some, refl, sym, ◌∙◌, ap, subst, inl, inr, append_assoc, append-nil}
 use Rattle.std.proofs.lemmas.Bool.{eq-eqb}
 use Rattle.std.proofs.lemmas.Bool.Decides.{eqb_tells}
 use Rattle.std.proofs.lemmas.List.{map_push}
@@ -11,16 +11,16 @@ use Rattle.i2c_base.specs.Board.{BoardView}
 use Rattle.i2c_base.specs.Transfer.{TransferView}
 use Rattle.i2c_spec.specs.Tree.{root_of}
 use Rattle.i2c_spec.specs.History.{Asks}
-use Rattle.bus_spec.specs.Walk.{Act, Send, ActOutcome, WalkTree, Ends, Look, Then}
+use Rattle.bus_spec.specs.Walk.{Act, ActOutcome, WalkTree, Ends, Look, Then}
 use Rattle.bus_spec.specs.Slots.{Slots}
 use Rattle.bus_spec.specs.Grammar.{walk_for, seen, is_over, rest_of}
-use Rattle.bus_spec.specs.Readings.{MessageEntry, OfMessage, caller_of}
-use Rattle.bus_spec.specs.Past.{Now, current, now}
+use Rattle.bus_spec.specs.Readings.{OfMessage, caller_of}
+use Rattle.bus_spec.specs.Past.{Now, current, now, world_at, calls_of}
 use Rattle.bus_spec.specs.Places.{transfer_at, outcome_of}
-use Rattle.bus_spec.specs.WalkRule.{Deed, PathStep, Saw, Did, Step, deed_next, replies_in, TellsAct, AreTold, AreTransfers, no_more, one_more, under_way}
-use Rattle.bus_spec.specs.Stand.{Stand, stand_behind, stand}
+use Rattle.bus_spec.specs.WalkRule.{Deed, PathStep, Saw, Did, Step, deed_next, TellsAct, AreTold, AreTransfers, no_more, one_more, under_way}
+use Rattle.bus_spec.specs.Stand.{Stand, stand_behind, stand, calls_by}
 use Rattle.bus_spec.specs.Legal.{steps_in, IsReached, is_forced, Reaches, IsLegal}
-use Rattle.bus_spec.specs.Ruled.{SaysMessage, SaysAct, Doing, doings_in, replies_said, AreSaid, AreDone, nothing, transfer, begun, ReachesBy, IsRuled}
+use Rattle.bus_spec.specs.Ruled.{SaysAct, Doing, doings_in, replies_said, AreSaid, AreDone, nothing, transfer, begun, ReachesBy, IsRuled}
 use Rattle.flat_laws.specs.Paths.{IsPath}
 use Rattle.flat_laws.proofs.past.Walks.{reply_at}
 use Rattle.flat_laws.proofs.walk.Rule.{walk-path, front-path}
@@ -225,23 +225,22 @@ tells b n act (entry.Take c l) says = ap Some says
 tells b n act (entry.Free c l) says = ap Some says
 tells b n act (entry.Line c mux level failed) says = (says.0, ap Some says.1, says.2)
 tells b n act (entry.Settle c r cut) says = (says.0, ap Some says.1)
-tells b n act (entry.Message c bus purpose part parts addr reading bytes heard e) says =
-    (
-      says.0,
-      says.1,
-      ap Some says.2,
-      record {
-        on_bus = says.3.on_bus;
-        for_purpose = says.3.for_purpose;
-        as_part = says.3.as_part;
-        of_parts = says.3.of_parts;
-        to_addr = says.3.to_addr;
-        in_direction = says.3.in_direction;
-        bytes_told = says.3.bytes_told;
-        end_told = says.3.end_told;
-        heard_told = says.3.heard_told;
-      },
-    )
+tells b n act (entry.Message c bus purpose part parts addr reading bytes heard e) says = (
+  says.0,
+  says.1,
+  ap Some says.2,
+  record {
+    on_bus = says.3.on_bus;
+    for_purpose = says.3.for_purpose;
+    as_part = says.3.as_part;
+    of_parts = says.3.of_parts;
+    to_addr = says.3.to_addr;
+    in_direction = says.3.in_direction;
+    bytes_told = says.3.bytes_told;
+    end_told = says.3.end_told;
+    heard_told = says.3.heard_told;
+  },
+)
 
 none_left : (steps : List Step) → map doing_of steps ≡ [] → steps ≡ []
 none_left [] is = refl
@@ -255,20 +254,27 @@ are-told b (Did deed out ∷ ps) [] said = absurd said
 are-told b (Did deed out ∷ ps) (s ∷ steps) said =
     (tells b s.before deed.act s.entry said.0, said.1, said.2, are-told b ps steps said.3)
 
-split : (steps : List Step) (mine rest : List Doing) → map doing_of steps ≡ mine ++ rest
-    → (xs : List Step) × (ys : List Step) × (steps ≡ xs ++ ys) × (mine ≡ map doing_of xs) × (rest ≡ map doing_of ys)
+abbrev Splits : List Step → List Doing → List Doing → Type 0
+Splits steps mine rest =
+    (xs : List Step) × (ys : List Step) × (steps ≡ xs ++ ys) × (mine ≡ map doing_of xs) × (rest ≡ map doing_of ys)
+
+split_more : (s : Step) (steps : List Step) (m : Doing) (mine rest : List Doing) → m ≡ doing_of s → Splits steps mine rest
+    → Splits (s ∷ steps) (m ∷ mine) rest
+split_more s steps m mine rest first more = (
+  s ∷ more.0,
+  more.1,
+  ap (λ (xs : List Step). s ∷ xs) more.2,
+  ap (λ (x : Doing). x ∷ mine) first ∙ ap (λ (xs : List Doing). doing_of s ∷ xs) more.3,
+  more.4,
+)
+
+split : (steps : List Step) (mine rest : List Doing) → map doing_of steps ≡ mine ++ rest → Splits steps mine rest
 split steps [] rest is = ([], steps, refl, refl, sym is)
 split [] (m ∷ mine) rest is = absurd (let f : [] ≡ m ∷ (mine ++ rest) = is in cc)
 split (s ∷ steps) (m ∷ mine) rest is =
     let f : doing_of s ∷ map doing_of steps ≡ m ∷ (mine ++ rest) = is in
-    let more = split steps mine rest (let g : map doing_of steps ≡ mine ++ rest = cc in g) in
-    let first : m ≡ doing_of s = cc in (
-      s ∷ more.0,
-      more.1,
-      ap (λ (xs : List Step). s ∷ xs) more.2,
-      ap (λ (x : Doing). x ∷ mine) first ∙ ap (λ (xs : List Doing). doing_of s ∷ xs) more.3,
-      more.4,
-    )
+    split_more s steps m mine rest (let first : m ≡ doing_of s = cc in first)
+    (split steps mine rest (let g : map doing_of steps ≡ mine ++ rest = cc in g))
 
 module _ (b : BoardView) (asks : List Reply → Option TransferView) where
   done-transfers : (rs : List Reply) (ds : List Doing) → AreDone b asks rs ds → (steps : List Step) → map doing_of steps ≡ ds
@@ -296,9 +302,15 @@ legal-of b callers asks past ruled =
       settles = ruled.settles;
     }
 
--- whatever the entries are said to do, all stands so
-pub stands-so : (b : BoardView) (callers : ℕ) (asks : Asks) (past : List Entry) (ruled : IsRuled b callers asks past)
-    → stand_of (now b asks past) ≡ stand b ruled.deeds past
-stands-so b callers asks past ruled =
-    sym (same-by b asks ruled.deeds past ruled.reach
-    (λ c. done-goes b (asks c) [] (doings_in b c ruled.deeds past) (ruled.walks c))).stands
+-- whatever the entries are said to do, all stands so: the worlds, and the calls of the ports
+module _ (b : BoardView) (callers : ℕ) (asks : Asks) (past : List Entry) (ruled : IsRuled b callers asks past) where
+  pub stands-so : stand_of (now b asks past) ≡ stand b ruled.deeds past
+  stands-so =
+      sym (same-by b asks ruled.deeds past ruled.reach
+      (λ c. done-goes b (asks c) [] (doings_in b c ruled.deeds past) (ruled.walks c))).stands
+
+  pub worlds-so : (r : ℕ) → world_at b asks past r ≡ (stand b ruled.deeds past).worlds r
+  worlds-so r = ap (λ (s : Stand). s.worlds r) stands-so
+
+  pub calls-so : (r : ℕ) → calls_of b asks past r ≡ calls_by b ruled.deeds past r
+  calls-so r = ap (λ (s : Stand). reverse (s.calls r)) stands-so

@@ -1,6 +1,5 @@
 -- Each list leads through the walk to its end: step by step, that is computed.
-use Rattle.std.proofs.Common.{◌≡◌, ap, refl, [], ◌∷◌, List}
-use Rattle.bus_spec.specs.Walk.{Mark}
+use Rattle.std.proofs.Common.{◌≡◌, ap, refl, [], ◌∷◌}
 use Rattle.bus_spec.specs.WalkRule.{Deed}
 use Rattle.bus_spec.specs.Rows as row
 use Rattle.journal_laws.specs.WalkRows as walk
