@@ -1,6 +1,6 @@
 -- What makes a journal legal: the rules of the bus over the whole of it, in the field's words. The journal is read as
 -- a past, the newest entry first.
-use Rattle.std.specs.Prelude.{◌≡◌, ℕ, zero, ◌<◌, ◌==◌, Bool, true, false, ◌⊎◌, List, [], ◌∷◌, ◌++◌, Option, Some, None, slice_get, if◌then◌else◌}
+use Rattle.std.specs.Prelude.{◌≡◌, ℕ, zero, ◌<◌, Bool, true, false, ◌⊎◌, List, [], ◌∷◌, ◌++◌, Option, Some, None, slice_get}
 use Rattle.std.specs.List.{list_any, list_all, AllByRecursion}
 use Rattle.std.specs.Option.{option_map_or}
 use Rattle.i2c_base.specs.declared.ids.LockId.{LockId}
@@ -13,7 +13,6 @@ use Rattle.i2c_base.specs.declared.entry.End.{End}
 use Rattle.i2c_base.specs.declared.entry.End.TheVariants as end
 use Rattle.i2c_base.specs.declared.entry.Purpose.{Purpose}
 use Rattle.i2c_base.specs.declared.entry.Purpose.TheVariants as purpose
-use Rattle.i2c_base.specs.declared.reply.Reply.{Reply}
 use Rattle.i2c_base.specs.declared.tree.Grant.TheVariants as grant
 use Rattle.i2c_base.specs.Board.{BoardView}
 use Rattle.i2c_base.specs.Transfer.{TransferView}
@@ -25,10 +24,10 @@ use Rattle.i2c_spec.specs.Flat.{refusal}
 use Rattle.i2c_spec.specs.History.{Asks, History, history}
 use Rattle.bus_spec.specs.Walk.{Ends}
 use Rattle.bus_spec.specs.Readings.{MessageEntry, of_message, OfMessage, rank, caller_of, holder, replies, order, is_on_root, is_call_of, is_settle_of, last_cut, Everywhere}
-use Rattle.bus_spec.specs.Past.{current, now, world_at}
+use Rattle.bus_spec.specs.Past.{now, world_at}
 use Rattle.bus_spec.specs.Places.{transfer_at}
 use Rattle.bus_spec.specs.Tells.{HearsIn}
-use Rattle.bus_spec.specs.WalkRule.{Step, deed_next, AreTransfers}
+use Rattle.bus_spec.specs.ByTree.{KeepsWalks}
 
 -- LOCKS: a lock is taken only while nobody has it, in falling rank, and freed only by who has it (i2c-topology)
 abbrev pub LocksAt : BoardView → Entry → List Entry → Type 0
@@ -47,16 +46,6 @@ pub record KeepsWhole (b : BoardView) (past : List Entry) : Type 0 where
       → past ≡ later ++ y ∷ (middle ++ x ∷ earlier)
       → is_call_of b r c x ≡ true → is_call_of b r c y ≡ true → list_any (is_settle_of c) middle ≡ false
       → AllByRecursion (λ e. is_on_root b r e ≡ true → is_call_of b r c e ≡ true) middle
-
--- WALKS: the entries of each caller, in order, are its transfers one after the other, each what the walk rule lists for it
--- the steps of a caller in a past, in order
-abbrev pub steps_in : BoardView → Asks → ℕ → List Entry → List Step
-steps_in b asks c [] = []
-steps_in b asks c (e ∷ past) =
-    if caller_of e == c then steps_in b asks c past ++ (record { before = now b asks past; deed = deed_next (current b asks (now b asks past) c); entry = e }) ∷ [] else steps_in b asks c past
-
-abbrev pub KeepsWalks : BoardView → Asks → List Entry → Type 0
-KeepsWalks b asks past = (c : ℕ) → AreTransfers b (asks c) [] (steps_in b asks c past)
 
 -- REACH: each message reached the target that its bus and address name, or nobody, on an open path
 abbrev pub starts : Option TargetState → Bool → Bool
@@ -132,7 +121,8 @@ SettleAt b asks e past = Unit {0}
 abbrev pub KeepsSettles : BoardView → Asks → List Entry → Type 0
 KeepsSettles b asks past = Everywhere (SettleAt b asks) past
 
--- a journal is legal for a board, so many callers, and what they ask for
+-- a journal is legal for a board, so many callers, and what they ask for. Its walks and its worlds are told by the walk tree; a law
+-- says that `IsRuled` tells the same without it
 pub record IsLegal (b : BoardView) (callers : ℕ) (asks : Asks) (past : List Entry) : Type 0 where
   pub known : Everywhere (λ e before. caller_of e < callers) past
   pub locks : KeepsLocks b past

@@ -10,6 +10,7 @@ pub mod Failures
 pub mod Tells
 pub mod Stepwise
 pub mod WalkRule
+pub mod ByTree
 pub mod Legal
 pub mod Stand
 pub mod Ruled

@@ -1,6 +1,6 @@
 -- What makes a journal legal, in the field's words alone: no walk tree stands in it. Beside the journal there is what each entry
 -- does; the walk rule and the places of the entries fix it.
-use Rattle.std.specs.Prelude.{◌≡◌, ℕ, ◌<◌, ◌==◌, Bool, false, List, [], ◌∷◌, ◌++◌, Option, Some, None, if◌then◌else◌}
+use Rattle.std.specs.Prelude.{◌≡◌, ℕ, ◌<◌, ◌==◌, false, List, [], ◌∷◌, ◌++◌, Option, Some, None, if◌then◌else◌}
 use Rattle.i2c_base.specs.declared.ids.LockId.{LockId}
 use Rattle.i2c_base.specs.declared.errno.Errno.{Errno}
 use Rattle.i2c_base.specs.declared.entry.Entry.{Entry}
@@ -92,6 +92,7 @@ ReachesBy b asks (d ∷ deeds) (e ∷ past) =
     OfMessage (λ m. IsReached b ((stand b deeds past).worlds (root_of b m.bus)) (is_forced (transfer_at asks past m.caller)) m) e
     × ReachesBy b asks deeds past
 
+-- a journal keeps the rules of the bus, for a board, so many callers, and what they ask for
 pub record IsRuled (b : BoardView) (callers : ℕ) (asks : Asks) (past : List Entry) : Type 0 where
   pub known : Everywhere (λ e before. caller_of e < callers) past
   pub locks : KeepsLocks b past

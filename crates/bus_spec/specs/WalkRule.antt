@@ -3,20 +3,13 @@
 use Rattle.std.specs.Prelude.{◌≡◌, ℕ, zero, suc, Bool, true, false, ◌&&◌, List, [], ◌∷◌, ◌++◌, map, reverse, Option, Some, None, MatchBool}
 use Rattle.i2c_base.specs.declared.ids.LockId.{LockId}
 use Rattle.i2c_base.specs.declared.errno.Errno.{Errno}
-use Rattle.i2c_base.specs.declared.entry.Entry.{Entry}
-use Rattle.i2c_base.specs.declared.entry.Entry.TheVariants as entry
-use Rattle.i2c_base.specs.declared.reply.Reply.{Reply}
 use Rattle.i2c_base.specs.Board.{BoardView}
 use Rattle.i2c_base.specs.Transfer.{TransferView}
 use Rattle.i2c_spec.specs.Tree.{Hop, hops, root_of, locks_of}
 use Rattle.i2c_spec.specs.Messages.{messages_of}
 use Rattle.i2c_spec.specs.Flat.{refusal}
-use Rattle.bus_spec.specs.Walk.{Job, Call, Select, SwitchOff, Deselect, Close, Act, Mark, Take, Free, Send, Shift, Settle, ActOutcome, JobOutcome, Ask, Good, Refused, Unsent, Failed, MarkOf, WalkTree, Ends, Look, Then, Go, On, Last, Over, goes, job_outcome, verdict_of, decides, is_line, more_of, KeptOf}
-use Rattle.bus_spec.specs.Slots.{answer_to}
-use Rattle.bus_spec.specs.Grammar.{kind_of, plain, keeps}
-use Rattle.bus_spec.specs.Tells.{Tells}
-use Rattle.bus_spec.specs.Past.{Now, is_due}
-use Rattle.bus_spec.specs.Places.{outcome_of}
+use Rattle.bus_spec.specs.Walk.{Job, Call, Select, SwitchOff, Deselect, Close, Act, Mark, Take, Free, Send, Shift, Settle, ActOutcome, JobOutcome, Ask, Good, Refused, Unsent, Failed, MarkOf, Go, On, Last, Over, goes, job_outcome, verdict_of, decides, is_line, more_of, KeptOf}
+use Rattle.bus_spec.specs.Grammar.{kind_of, keeps}
 
 -- WHAT A FAILURE MARKS. A step is done for a job, and that job maybe for another one: its way is all of these, its own job first.
 -- Where the step fails by the port it marks the mux of each select and close on its way up to the nearest deselect, and the mux of
@@ -102,7 +95,8 @@ abbrev pub AtBus : Rule
 AtBus job whose steps out = MatchBool (is_line job) (IsLineStep job whose steps out) (AreMessages job whose (more_of job) steps out)
 
 -- FULL: the locks are taken, the job is done, and the locks are freed in reverse order
-pub record IsLocked (locks : List LockId) (on : Rule) (job : Job) (whose : List Job) (steps : List PathStep) (out : JobOutcome) : Type 0 where
+pub record IsLocked (locks : List LockId) (on : Rule) (job : Job) (whose : List Job) (steps : List PathStep) (out : JobOutcome)
+    : Type 0 where
   pub takes : List PathStep
   pub middle : List PathStep
   pub frees : List PathStep
@@ -195,51 +189,8 @@ IsWalkBy b t None steps = (out : JobOutcome) × IsFull b (root_of b t.bus) (hops
 abbrev pub IsWalk : BoardView → TransferView → List PathStep → Type 0
 IsWalk b t steps = IsWalkBy b t (refusal b t) steps
 
--- A step is an entry, where everything stood before it, and what is done there, with what it marks where it fails by the port
-pub record Step : Type 0 where
-  pub before : Now
-  pub deed : Deed
-  pub entry : Entry
-
--- the next step of a walk without a look in front
-abbrev pub deed_next : WalkTree → Deed
-deed_next Ends = quiet (Settle None)
-deed_next (Look ask next) = quiet (Settle None)
-deed_next (Then act note next) = record { act = act; marks = note.marks }
-
--- the replies that steps settle
-abbrev pub replies_in : List Step → List Reply
-replies_in [] = []
-replies_in (s ∷ ss) = reply_in s.entry (replies_in ss)
-  where
-    reply_in : Entry → List Reply → List Reply
-    reply_in (entry.Settle c r cut) rs = r ∷ rs
-    reply_in e rs = rs
-
--- THE STEPS OF A CALLER. A look is answered by what is known of its bus where the next entry stands; an entry is the step that
--- is done there, tells all of it, and what came of it
-abbrev pub TellsAct : BoardView → Now → Act → Entry → Type 0
-TellsAct b n act e = Tells b n (Then act plain (λ o. Ends)) e
-
-abbrev pub AreTold : BoardView → List PathStep → List Step → Type 0
-AreTold b [] steps = steps ≡ []
-AreTold b (Saw ask answer ∷ ps) [] = ⊥
-AreTold b (Saw ask answer ∷ ps) (s ∷ steps) = (answer ≡ answer_to s.before.slot ask) × AreTold b ps (s ∷ steps)
-AreTold b (Did deed out ∷ ps) [] = ⊥
-AreTold b (Did deed out ∷ ps) (s ∷ steps) = TellsAct b s.before deed.act s.entry × (out ≡ outcome_of s.entry) × (s.deed ≡ deed) × AreTold b ps steps
-
+-- what is done first, if there is no look before it
 abbrev pub first_done : List PathStep → Option Act
 first_done [] = None
 first_done (Saw ask mark ∷ ps) = None
 first_done (Did deed out ∷ ps) = Some deed.act
-
--- they are the walks of what the caller asks for, one after the other, each behind the replies of those before; the last one
--- may be the front of a walk, which doesn't end before a settle
-pub data AreTransfers (b : BoardView) (asks : List Reply → Option TransferView) : List Reply → List Step → Type 0 where
-  no_more : (rs : List Reply) → AreTransfers b asks rs []
-  one_more : (rs : List Reply) (t : TransferView) (walk : List PathStep) (mine rest all : List Step) (r : Reply)
-      → asks rs ≡ Some t → IsWalk b t walk → AreTold b walk mine → replies_in mine ≡ r ∷ []
-      → AreTransfers b asks (rs ++ r ∷ []) rest → all ≡ mine ++ rest → AreTransfers b asks rs all
-  under_way : (rs : List Reply) (t : TransferView) (front rest : List PathStep) (mine : List Step)
-      → asks rs ≡ Some t → IsWalk b t (front ++ rest) → AreTold b front mine → is_due (first_done rest) ≡ false
-      → AreTransfers b asks rs mine
