@@ -1,10 +1,9 @@
 -- The caller's messages in a walk are those of its transfer, and each select on the way to them is on its path.
-use Rattle.std.proofs.Common.{◌≡◌, ◌<◌, false, true, ℕ, List, length, Option, None, refl}
+use Rattle.std.proofs.Common.{◌≡◌, ◌<◌, false, true, length, refl}
 use Rattle.i2c_base.specs.declared.ids.LockId.{LockId}
 use Rattle.i2c_base.specs.Board.{BoardView}
 use Rattle.i2c_base.specs.Transfer.{TransferView}
 use Rattle.i2c_spec.specs.Tree.{Hop, hops, IsAmongHops}
-use Rattle.i2c_spec.specs.Flat.{refusal}
 use Rattle.bus_spec.specs.Walk.{Job, Note, WalkTree, Ends, Look, Then}
 use Rattle.bus_spec.specs.Slots.{Slots, answer_to}
 use Rattle.bus_spec.specs.Grammar.{walk_for, seen}
@@ -19,20 +18,21 @@ IsOwn b t job note = IsGranted b t job × IsOnWay b t note job
 abbrev AnyLock : LockId → Type 0
 AnyLock l = Unit {0}
 
-steps : (b : BoardView) (t : TransferView) → GoesOver (CallsOf b t) (IsOwn b t) AnyLock
+steps : (b : BoardView) (t : TransferView) → GoesOver (λ n. CallsOf b t) (IsOwn b t) AnyLock
 steps b t = record {
-  settle = λ verdict w h out. h;
-  send = λ job left note next own h. (own.0, own.1, h);
-  shift = λ job note next line own h. (own.1, h);
-  take = λ l next own h. h;
-  free = λ l next own h. h;
+  settle = λ n verdict w h out. h;
+  send = λ n job left note next own h. (own.0, own.1, h);
+  shift = λ n job note next line own h. (own.1, h);
+  take = λ n l next own h. h;
+  free = λ n l next own h. h;
 }
 
-hop_steps : (b : BoardView) (t : TransferView) (h : Hop) → IsAmongHops h (hops b t.bus) → GoesOverHop b (CallsOf b t) (IsOwn b t) AnyLock h
+hop_steps : (b : BoardView) (t : TransferView) (h : Hop) → IsAmongHops h (hops b t.bus)
+    → GoesOverHop b (λ n. CallsOf b t) (IsOwn b t) AnyLock h
 hop_steps b t h among = record {
   lock = tt;
-  mark = λ next keeps. keeps;
-  kept = λ next keeps. keeps;
+  mark = λ n next keeps. keeps;
+  kept = λ n next keeps. keeps;
   select = λ job note own. (tt, λ f. ((own.1 f).0, among));
   close = λ job note m own. (tt, λ f. ((own.1 f).0, tt));
   deselect = (tt, λ f. absurd (let g : false ≡ true = f in cc));
@@ -41,7 +41,7 @@ hop_steps b t h among = record {
 -- the walk of a transfer sends its messages
 pub walk-calls : (b : BoardView) (t : TransferView) → 0 < length t.msgs → CallsOf b t (walk_for b t)
 walk-calls b t some =
-    walk-keeps b (CallsOf b t) (IsOwn b t) AnyLock (steps b t) t tt
+    walk-keeps b (λ n. CallsOf b t) (IsOwn b t) AnyLock (steps b t) t tt
     (λ at. (record { same_bus = refl; same_messages = refl; not_refused = at; some_message = some }, λ f. (at, tt))) (λ at. tt)
     (λ at h among. hop_steps b t h among)
 

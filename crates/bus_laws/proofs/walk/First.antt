@@ -8,7 +8,7 @@ use Rattle.i2c_base.specs.Transfer.{TransferView}
 use Rattle.i2c_spec.specs.Tree.{Hop, hops, root_of, locks_of}
 use Rattle.i2c_spec.specs.Messages.{MessageView, messages_of}
 use Rattle.i2c_spec.specs.Flat.{refusal}
-use Rattle.bus_spec.specs.Walk.{Job, Call, Select, SwitchOff, Deselect, Close, Take, Free, Send, Shift, Settle, ActOutcome, Passed, Sent, Lined, JobOutcome, Good, Refused, Unsent, Failed, Note, KeptOf, WalkTree, Ends, Look, Then, Go, On, Last, Over, goes, job_outcome, verdict_of, decides, is_line, more_of}
+use Rattle.bus_spec.specs.Walk.{Job, Call, Select, SwitchOff, Deselect, Close, Take, Free, Send, Shift, Settle, ActOutcome, Passed, Sent, Lined, JobOutcome, Note, KeptOf, WalkTree, Ends, Look, Then, goes, job_outcome, verdict_of, decides, is_line, more_of}
 use Rattle.bus_spec.specs.Slots.{Slots, answer_to}
 use Rattle.bus_spec.specs.Grammar.{Doer, settled, over, by_go, messages, at_bus, locked, part, with_mark, aside, if_sent, if_good, kind_of, closing, left_behind, opened, chosen, keeps, crossed, behind, inner, walk_by, walk_for, plain, seen}
 use Rattle.bus_laws.specs.Settles.{Settles}

@@ -15,8 +15,8 @@ use Rattle.i2c_spec.specs.Tree.{Hop, hops, buses, root_of, locks_of, home_of_mux
 use Rattle.i2c_spec.specs.TreeFacts.{IsTree}
 use Rattle.i2c_spec.specs.Messages.{messages_of}
 use Rattle.i2c_spec.specs.Flat.{refusal}
-use Rattle.bus_spec.specs.Walk.{Mark, Job, Call, Select, SwitchOff, Deselect, Close, Free, Send, Shift, ActOutcome, JobOutcome, Good, Refused, Unsent, Failed, Note, KeptOf, WalkTree, Ends, Look, Then, Go, On, Last, Over, goes, job_bus, job_outcome, verdict_of, decides, is_line, is_gpio, more_of}
-use Rattle.bus_spec.specs.Grammar.{Doer, plain, settled, over, by_go, messages, at_bus, locked, part, with_mark, aside, if_sent, if_good, kind_of, closing, left_behind, opened, chosen, keeps, crossed, behind, inner, walk_by, walk_for}
+use Rattle.bus_spec.specs.Walk.{Mark, Job, Call, Select, SwitchOff, Deselect, Close, Free, Send, Shift, ActOutcome, JobOutcome, Note, KeptOf, WalkTree, Ends, Look, Then, goes, job_bus, job_outcome, verdict_of, decides, is_line, is_gpio, more_of}
+use Rattle.bus_spec.specs.Grammar.{Doer, plain, settled, over, messages, at_bus, locked, part, with_mark, aside, if_sent, if_good, kind_of, closing, left_behind, opened, chosen, keeps, crossed, behind, inner, walk_by, walk_for}
 use Rattle.bus_spec.specs.Readings.{rank}
 use Rattle.bus_laws.specs.Runs.{InLocks, IsUnmarked}
 use Rattle.bus_laws.specs.Lines.{LinesAreLocked}

@@ -1,20 +1,18 @@
 -- What is so of every job of a walk. The inductions go over the messages of a job, over locks, and over hops.
-use Rattle.std.proofs.Common.{◌≡◌, ℕ, zero, suc, ◌<◌, Bool, true, false, cond, ◌&&◌, List, [], ◌∷◌, Option, Some, None, refl, sym, ◌∙◌, ap, subst, inl, inr, arith}
+use Rattle.std.proofs.Common.{◌≡◌, ℕ, ◌<◌, List, [], ◌∷◌, Option, None, refl, sym, ◌∙◌, ap, subst, inl, inr, arith}
 use Rattle.std.specs.Prelude.{unwrap_or}
 use Rattle.std.specs.Option.{option_map}
 use Rattle.std.proofs.lemmas.Bool.{ltb-true}
 use Rattle.i2c_base.specs.declared.board.MuxSpec.{MuxSpec}
 use Rattle.i2c_base.specs.declared.board.MuxKind.TheVariants.{Pca9548}
-use Rattle.i2c_base.specs.declared.ids.LockId.{LockId}
-use Rattle.i2c_base.specs.declared.errno.Errno.{Errno}
 use Rattle.i2c_base.specs.Board.{BoardView}
 use Rattle.i2c_base.specs.Transfer.{TransferView}
-use Rattle.i2c_spec.specs.Tree.{Hop, hops, buses, root_of, locks_of, IsAmongHops}
+use Rattle.i2c_spec.specs.Tree.{Hop, hops, buses, IsAmongHops}
 use Rattle.i2c_spec.specs.TreeFacts.{IsTree}
 use Rattle.i2c_spec.specs.Messages.{messages_of}
 use Rattle.i2c_spec.specs.Flat.{refusal}
-use Rattle.bus_spec.specs.Walk.{Job, Call, Select, SwitchOff, Deselect, Close, Take, Free, Send, Shift, Settle, ActOutcome, JobOutcome, Good, Refused, Unsent, Failed, Note, WalkTree, Ends, Look, Then, Go, On, Last, Over, goes, job_outcome, verdict_of, decides, is_line, more_of, KeptOf}
-use Rattle.bus_spec.specs.Grammar.{Doer, settled, over, by_go, messages, at_bus, locked, part, with_mark, aside, if_sent, if_good, kind_of, closing, left_behind, opened, chosen, keeps, crossed, behind, inner, walk_by, walk_for, plain}
+use Rattle.bus_spec.specs.Walk.{Job, Call, Select, SwitchOff, Deselect, Close, Take, Free, Send, Shift, Settle, WalkTree, Ends, Look, Then}
+use Rattle.bus_spec.specs.Grammar.{kind_of, walk_for}
 use Rattle.bus_laws.specs.Jobs.{EachJob, IsJobOf}
 use Rattle.bus_laws.proofs.walk.Keeps.{walk-keeps}
 use Rattle.bus_laws.proofs.world.BoardFacts.{mux_at}
@@ -30,18 +28,18 @@ pub record Switches (b : BoardView) (P : Job → Type 0) (h : Hop) : Type 0 wher
 pub walk-jobs : (b : BoardView) (P : Job → Type 0) (t : TransferView) → (refusal b t ≡ None → P (Call t.bus (messages_of t)))
     → (refusal b t ≡ None → (g : Hop) → IsAmongHops g (hops b t.bus) → Switches b P g) → EachJob P (walk_for b t)
 walk-jobs b P t call switches =
-    walk-keeps b (EachJob P) (λ job note. P job) (λ l. Unit {0})
+    walk-keeps b (λ n. EachJob P) (λ job note. P job) (λ l. Unit {0})
     (record {
-      settle = λ verdict w h out. h;
-      send = λ job left note next own h. (own, h);
-      shift = λ job note next line own h. (line, own, h);
-      take = λ l next own h. h;
-      free = λ l next own h. h;
+      settle = λ n verdict w h out. h;
+      send = λ n job left note next own h. (own, h);
+      shift = λ n job note next line own h. (line, own, h);
+      take = λ n l next own h. h;
+      free = λ n l next own h. h;
     }) t tt call (λ at. tt)
     (λ at h among. record {
       lock = tt;
-      mark = λ next keeps. keeps;
-      kept = λ next keeps. keeps;
+      mark = λ n next keeps. keeps;
+      kept = λ n next keeps. keeps;
       select = λ job note own. (switches at h among).select;
       close = λ job note m own. (switches at h among).close m;
       deselect = (switches at h among).deselect;
