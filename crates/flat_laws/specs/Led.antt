@@ -11,8 +11,7 @@ use Rattle.bus_spec.specs.Grammar.{walk_for, seen, first_act, rest_of}
 use Rattle.bus_spec.specs.Past.{is_due}
 use Rattle.bus_spec.specs.Places.{outcome_of}
 use Rattle.bus_spec.specs.Tells.{Tells}
-use Rattle.bus_spec.specs.WalkRule.{Step, deed_next, replies_in}
-use Rattle.bus_spec.specs.Legal.{steps_in}
+use Rattle.bus_spec.specs.ByTree.{Step, deed_next, replies_in, steps_in}
 
 -- these steps lead through a walk, and leave so much of it: each is the next step of what is left there, and tells all
 -- of it. So a message's bytes and its end are those of its conversation with the world of its root where it stands

@@ -16,8 +16,8 @@ use Rattle.bus_spec.specs.Past.{Now, begun, current, step, now, is_due, sent_by,
 use Rattle.bus_spec.specs.Tells.{Tells}
 use Rattle.bus_spec.specs.Stepwise.{TellsNext, May, IsStepwise}
 use Rattle.bus_spec.specs.Places.{outcome_of}
-use Rattle.bus_spec.specs.WalkRule.{Step, Deed, deed_next, replies_in}
-use Rattle.bus_spec.specs.Legal.{steps_in}
+use Rattle.bus_spec.specs.WalkRule.{Deed}
+use Rattle.bus_spec.specs.ByTree.{Step, deed_next, step_next, replies_in, steps_in}
 use Rattle.flat_laws.specs.Led.{Leads, AreWalks, none, whole, front, AreAllWalks}
 use Rattle.bus_laws.specs.Reach.{AsksForMessages}
 use Rattle.bus_laws.specs.Settles.{NoSettle, Settles}
@@ -40,10 +40,10 @@ tells_none b n (entry.Settle c r cut) tells = (let f : None ≡ Some (Settle tel
 -- one step more at the end of a walk's steps
 leads_more : (b : BoardView) (w u : WalkTree) (steps : List Step) (before : Now) (e : Entry) → Leads b w steps u
     → Tells b before (seen before.slot u) e
-    → Leads b w (steps ++ record { before = before; deed = deed_next (seen before.slot u); entry = e } ∷ [])
+    → Leads b w (steps ++ step_next before (seen before.slot u) e ∷ [])
     (rest_of (seen before.slot u) (outcome_of e))
 leads_more b w u [] before e leads tells =
-    subst (λ (x : WalkTree). Leads b x (record { before = before; deed = deed_next (seen before.slot u); entry = e } ∷ [])
+    subst (λ (x : WalkTree). Leads b x (step_next before (seen before.slot u) e ∷ [])
     (rest_of (seen before.slot u) (outcome_of e))) leads
     (tells, refl, refl)
 leads_more b w u (s ∷ steps) before e leads tells =
@@ -113,13 +113,14 @@ module _ (b : BoardView) (asks : Asks) (c : ℕ) where
   -- one step more of a walk under way
   one_more : (rs : List Reply) (mine : List Step) (w : WalkTree) (settled : List Reply) (at : Now) (e : Entry) → UnderWay rs mine w settled
       → Tells b at (seen at.slot w) e
-      → UnderWay rs (mine ++ record { before = at; deed = deed_next (seen at.slot w); entry = e } ∷ []) (rest_of (seen at.slot w) (outcome_of e)) (settled ++ reply_at e)
+      → UnderWay rs (mine ++ step_next at (seen at.slot w) e ∷ []) (rest_of (seen at.slot w) (outcome_of e)) (settled ++ reply_at e)
   one_more rs mine w settled at e way tells =
       record {
         whose = way.whose;
         asked = way.asked;
         led = leads_more b (walk_for b way.whose) w mine at e way.led tells;
-        so_far = subst (λ (xs : List Reply). SettledSo (rest_of (seen at.slot w) (outcome_of e)) xs) (sym (replies_more mine at (deed_next (seen at.slot w)) e))
+        so_far = subst (λ (xs : List Reply). SettledSo (rest_of (seen at.slot w) (outcome_of e)) xs)
+            (sym (replies_more mine at (deed_next (seen at.slot w)) e))
             (settles_more e tells way.so_far);
         told = ap (λ (xs : List Reply). xs ++ reply_at e) way.told ∙ append_assoc rs (replies_in mine) (reply_at e)
             ∙ ap (λ (xs : List Reply). rs ++ xs) (sym (replies_more mine at (deed_next (seen at.slot w)) e));
@@ -180,7 +181,7 @@ module _ (b : BoardView) (asks : Asks) (c : ℕ) where
   -- one step more of a caller
   walked_more : (steps : List Step) (w : WalkTree) (settled : List Reply) (at : Now) (e : Entry) → Walked steps w settled
       → Tells b at (seen at.slot (cond (is_over w) (begun b (asks c settled)) w)) e
-      → Walked (steps ++ record { before = at; deed = deed_next (seen at.slot (cond (is_over w) (begun b (asks c settled)) w)); entry = e } ∷ [])
+      → Walked (steps ++ step_next at (seen at.slot (cond (is_over w) (begun b (asks c settled)) w)) e ∷ [])
       (rest_of (seen at.slot (cond (is_over w) (begun b (asks c settled)) w)) (outcome_of e)) (settled ++ reply_at e)
   walked_more steps w settled at e walked tells =
       by_way walked.under_way
@@ -189,14 +190,14 @@ module _ (b : BoardView) (asks : Asks) (c : ℕ) where
       goes_on : (rs : List Reply) (before mine : List Step) (u : WalkTree) → steps ≡ before ++ mine
           → ((rest : List Step) → AreWalks b (asks c) rs rest → AreWalks b (asks c) [] (before ++ rest)) → UnderWay rs mine u settled
           → Tells b at (seen at.slot u) e
-          → Walked (steps ++ record { before = at; deed = deed_next (seen at.slot u); entry = e } ∷ []) (rest_of (seen at.slot u) (outcome_of e)) (settled ++ reply_at e)
+          → Walked (steps ++ step_next at (seen at.slot u) e ∷ []) (rest_of (seen at.slot u) (outcome_of e)) (settled ++ reply_at e)
       goes_on rs before mine u parts wholes way tells =
           record {
             rs = rs;
             before = before;
-            mine = mine ++ record { before = at; deed = deed_next (seen at.slot u); entry = e } ∷ [];
-            parts = ap (λ (xs : List Step). xs ++ record { before = at; deed = deed_next (seen at.slot u); entry = e } ∷ []) parts
-                ∙ append_assoc before mine (record { before = at; deed = deed_next (seen at.slot u); entry = e } ∷ []);
+            mine = mine ++ step_next at (seen at.slot u) e ∷ [];
+            parts = ap (λ (xs : List Step). xs ++ step_next at (seen at.slot u) e ∷ []) parts
+                ∙ append_assoc before mine (step_next at (seen at.slot u) e ∷ []);
             wholes = wholes;
             under_way = inr (one_more rs mine u settled at e way tells);
           }
@@ -205,29 +206,29 @@ module _ (b : BoardView) (asks : Asks) (c : ℕ) where
       starts : (o : Option TransferView) → asks c settled ≡ o
           → ((rest : List Step) → AreWalks b (asks c) settled rest → AreWalks b (asks c) [] (steps ++ rest))
           → Tells b at (seen at.slot (begun b o)) e
-          → Walked (steps ++ record { before = at; deed = deed_next (seen at.slot (begun b o)); entry = e } ∷ []) (rest_of (seen at.slot (begun b o)) (outcome_of e))
+          → Walked (steps ++ step_next at (seen at.slot (begun b o)) e ∷ []) (rest_of (seen at.slot (begun b o)) (outcome_of e))
           (settled ++ reply_at e)
       starts None asked wholes tells = absurd (tells_none b at e tells)
       starts (Some t) asked wholes tells = goes_on settled steps [] (walk_for b t) (sym (append-nil steps)) wholes
           (begins settled t asked) tells
 
       over : w ≡ Ends → ((rest : List Step) → AreWalks b (asks c) settled rest → AreWalks b (asks c) [] (steps ++ rest))
-          → Walked (steps ++ record { before = at; deed = deed_next (seen at.slot (cond (is_over w) (begun b (asks c settled)) w)); entry = e } ∷ [])
+          → Walked (steps ++ step_next at (seen at.slot (cond (is_over w) (begun b (asks c settled)) w)) e ∷ [])
           (rest_of (seen at.slot (cond (is_over w) (begun b (asks c settled)) w)) (outcome_of e)) (settled ++ reply_at e)
       over is wholes =
-          subst (λ (t : Bool). Walked (steps ++ record { before = at; deed = deed_next (seen at.slot (cond t (begun b (asks c settled)) w)); entry = e } ∷ [])
+          subst (λ (t : Bool). Walked (steps ++ step_next at (seen at.slot (cond t (begun b (asks c settled)) w)) e ∷ [])
           (rest_of (seen at.slot (cond t (begun b (asks c settled)) w)) (outcome_of e)) (settled ++ reply_at e))
           (sym (ap is_over is))
           (starts (asks c settled) refl wholes
           (subst (λ (t : Bool). Tells b at (seen at.slot (cond t (begun b (asks c settled)) w)) e) (ap is_over is) tells))
 
       under : UnderWay walked.rs walked.mine w settled
-          → Walked (steps ++ record { before = at; deed = deed_next (seen at.slot (cond (is_over w) (begun b (asks c settled)) w)); entry = e } ∷ [])
+          → Walked (steps ++ step_next at (seen at.slot (cond (is_over w) (begun b (asks c settled)) w)) e ∷ [])
           (rest_of (seen at.slot (cond (is_over w) (begun b (asks c settled)) w)) (outcome_of e)) (settled ++ reply_at e)
       under way = by_walk w refl
         where
           by_walk : (u : WalkTree) → u ≡ w
-              → Walked (steps ++ record { before = at; deed = deed_next (seen at.slot (cond (is_over w) (begun b (asks c settled)) w)); entry = e } ∷ [])
+              → Walked (steps ++ step_next at (seen at.slot (cond (is_over w) (begun b (asks c settled)) w)) e ∷ [])
               (rest_of (seen at.slot (cond (is_over w) (begun b (asks c settled)) w)) (outcome_of e)) (settled ++ reply_at e)
           by_walk Ends is =
               let done = ended walked.rs walked.mine settled
@@ -238,21 +239,22 @@ module _ (b : BoardView) (asks : Asks) (c : ℕ) where
               (walked.wholes (walked.mine ++ rest) (done.2 rest (subst (λ (rs : List Reply). AreWalks b (asks c) rs rest) done.1 more))))
           by_walk (Look ask next) is = not_over (sym (ap is_over is))
             where
-              not_over : is_over w ≡ false → Walked (steps ++ record { before = at; deed = deed_next (seen at.slot (cond (is_over w) (begun b (asks c settled)) w)); entry = e } ∷ [])
+              not_over : is_over w ≡ false
+                  → Walked (steps ++ step_next at (seen at.slot (cond (is_over w) (begun b (asks c settled)) w)) e ∷ [])
                   (rest_of (seen at.slot (cond (is_over w) (begun b (asks c settled)) w)) (outcome_of e)) (settled ++ reply_at e)
               not_over off =
-                  subst (λ (t : Bool). Walked (steps ++ record { before = at; deed = deed_next (seen at.slot (cond t (begun b (asks c settled)) w)); entry = e } ∷ [])
+                  subst (λ (t : Bool). Walked (steps ++ step_next at (seen at.slot (cond t (begun b (asks c settled)) w)) e ∷ [])
                   (rest_of (seen at.slot (cond t (begun b (asks c settled)) w)) (outcome_of e)) (settled ++ reply_at e)) (sym off)
                   (goes_on walked.rs walked.before walked.mine w walked.parts walked.wholes way
                   (subst (λ (t : Bool). Tells b at (seen at.slot (cond t (begun b (asks c settled)) w)) e) off tells))
           by_walk (Then a note next) is =
-              subst (λ (t : Bool). Walked (steps ++ record { before = at; deed = deed_next (seen at.slot (cond t (begun b (asks c settled)) w)); entry = e } ∷ [])
+              subst (λ (t : Bool). Walked (steps ++ step_next at (seen at.slot (cond t (begun b (asks c settled)) w)) e ∷ [])
               (rest_of (seen at.slot (cond t (begun b (asks c settled)) w)) (outcome_of e)) (settled ++ reply_at e)) (ap is_over is)
               (goes_on walked.rs walked.before walked.mine w walked.parts walked.wholes way
               (subst (λ (t : Bool). Tells b at (seen at.slot (cond t (begun b (asks c settled)) w)) e) (sym (ap is_over is)) tells))
 
       by_way : ((walked.mine ≡ []) × (w ≡ Ends) × (settled ≡ walked.rs)) ⊎ UnderWay walked.rs walked.mine w settled
-          → Walked (steps ++ record { before = at; deed = deed_next (seen at.slot (cond (is_over w) (begun b (asks c settled)) w)); entry = e } ∷ [])
+          → Walked (steps ++ step_next at (seen at.slot (cond (is_over w) (begun b (asks c settled)) w)) e ∷ [])
           (rest_of (seen at.slot (cond (is_over w) (begun b (asks c settled)) w)) (outcome_of e)) (settled ++ reply_at e)
       by_way way =
           elim way [
@@ -278,11 +280,11 @@ module _ (b : BoardView) (asks : Asks) (callers : ℕ) (c : ℕ) where
         → Walked b asks c (steps_in b asks c (e ∷ past)) (walk2 c) (settled2 c)
     own_step e walk2 settled2 mine tells walk settled =
         subst (λ (t : Bool). Walked b asks c
-        (cond t (steps_in b asks c past ++ record { before = n; deed = deed_next (current b asks n c); entry = e } ∷ []) (steps_in b asks c past)) (walk2 c) (settled2 c))
+        (cond t (steps_in b asks c past ++ step_next n (current b asks n c) e ∷ []) (steps_in b asks c past)) (walk2 c) (settled2 c))
         (sym (eq-eqb (caller_of e) c mine))
-        (subst (λ (w : WalkTree). Walked b asks c (steps_in b asks c past ++ record { before = n; deed = deed_next (current b asks n c); entry = e } ∷ []) w (settled2 c))
+        (subst (λ (w : WalkTree). Walked b asks c (steps_in b asks c past ++ step_next n (current b asks n c) e ∷ []) w (settled2 c))
         (sym walk)
-        (subst (λ (rs : List Reply). Walked b asks c (steps_in b asks c past ++ record { before = n; deed = deed_next (current b asks n c); entry = e } ∷ [])
+        (subst (λ (rs : List Reply). Walked b asks c (steps_in b asks c past ++ step_next n (current b asks n c) e ∷ [])
         (rest_of (current b asks n c) (outcome_of e)) rs) (sym settled)
         (walked_more b asks c (steps_in b asks c past) (n.walk c) (n.settled c) n e walked tells)))
 
@@ -291,7 +293,7 @@ module _ (b : BoardView) (asks : Asks) (callers : ℕ) (c : ℕ) where
         → Walked b asks c (steps_in b asks c (e ∷ past)) (walk2 c) (settled2 c)
     other_step e walk2 settled2 theirs walk settled =
         subst (λ (t : Bool). Walked b asks c
-        (cond t (steps_in b asks c past ++ record { before = n; deed = deed_next (current b asks n c); entry = e } ∷ []) (steps_in b asks c past)) (walk2 c) (settled2 c))
+        (cond t (steps_in b asks c past ++ step_next n (current b asks n c) e ∷ []) (steps_in b asks c past)) (walk2 c) (settled2 c))
         (sym (eqb-apart (caller_of e) c theirs))
         (subst (λ (w : WalkTree). Walked b asks c (steps_in b asks c past) w (settled2 c)) (sym walk)
         (subst (λ (rs : List Reply). Walked b asks c (steps_in b asks c past) (n.walk c) rs) (sym settled) walked))

@@ -198,7 +198,8 @@ splits-messages (suc left) job whose = λ k steps path.
     same-rule (MessageThen job whose (suc left)) (AreMessages job whose (suc left))
     (to_messages job whose (suc left)) k steps
     (splits-then (Send job (suc left)) (note_of job whose)
-    (λ o k. by_go (goes job left o) (messages left job (note_of job whose) k) (Then (Send job zero) (note_of job whose) (over job zero (note_of job whose) k))
+    (λ o k. by_go (goes job left o) (messages left job (note_of job whose) k)
+    (Then (Send job zero) (note_of job whose) (over job zero (note_of job whose) k))
     (over job (suc left) (note_of job whose) k o))
     (λ o steps out. NextOr (next_message job (suc left) o) (λ next. AreMessages job whose next steps out)
     (IsJobEnd job whose (suc left) o steps out))
@@ -216,7 +217,8 @@ leads-messages : (n : ℕ) (job : Job) (whose : List Job) → Leads (messages n 
 leads-messages zero job whose = leads-last job whose
 leads-messages (suc left) job whose = λ steps out kept k.
     leads-then (Send job (suc left)) (note_of job whose)
-    (λ o k. by_go (goes job left o) (messages left job (note_of job whose) k) (Then (Send job zero) (note_of job whose) (over job zero (note_of job whose) k))
+    (λ o k. by_go (goes job left o) (messages left job (note_of job whose) k)
+    (Then (Send job zero) (note_of job whose) (over job zero (note_of job whose) k))
     (over job (suc left) (note_of job whose) k o))
     (λ o steps out. NextOr (next_message job (suc left) o) (λ next. AreMessages job whose next steps out)
     (IsJobEnd job whose (suc left) o steps out))
@@ -257,7 +259,8 @@ keeps-at_bus : Keeps at_bus AtBus
 keeps-at_bus =
     record {
       splits = λ job whose.
-          splits-if (is_line job) (λ k. Then (Shift job) (note_of job whose) (over job zero (note_of job whose) k)) (messages (more_of job) job (note_of job whose))
+          splits-if (is_line job) (λ k. Then (Shift job) (note_of job whose) (over job zero (note_of job whose) k))
+          (messages (more_of job) job (note_of job whose))
           (IsLineStep job whose) (AreMessages job whose (more_of job))
           (λ k steps path. same-rule (StepThen (for_jobs (Shift job) (job ∷ whose)) (λ o. IsJobEnd job whose zero o)) (IsLineStep job whose)
           (to_line job whose) k steps
@@ -265,7 +268,8 @@ keeps-at_bus =
           (λ o. splits-over job zero whose o) k steps path))
           (splits-messages (more_of job) job whose);
       leads = λ job whose.
-          leads-if (is_line job) (λ k. Then (Shift job) (note_of job whose) (over job zero (note_of job whose) k)) (messages (more_of job) job (note_of job whose))
+          leads-if (is_line job) (λ k. Then (Shift job) (note_of job whose) (over job zero (note_of job whose) k))
+          (messages (more_of job) job (note_of job whose))
           (IsLineStep job whose) (AreMessages job whose (more_of job))
           (λ steps out kept k. leads-then (Shift job) (note_of job whose) (λ o k. over job zero (note_of job whose) k o) (λ o. IsJobEnd job whose zero o)
           (λ o. leads-over job zero whose o) steps out
@@ -275,7 +279,8 @@ keeps-at_bus =
 
 -- the locks that are freed, with one that is freed last
 freed-more : (l : LockId) (ls : List LockId)
-    → map (λ (i : LockId). Some (quiet (Free i))) (reverse (l ∷ ls)) ≡ map (λ (i : LockId). Some (quiet (Free i))) (reverse ls) ++ Some (quiet (Free l)) ∷ []
+    → map (λ (i : LockId). Some (quiet (Free i))) (reverse (l ∷ ls))
+    ≡ map (λ (i : LockId). Some (quiet (Free i))) (reverse ls) ++ Some (quiet (Free l)) ∷ []
 freed-more l ls = ap (map (λ (i : LockId). Some (quiet (Free i)))) (reverse-append (l ∷ []) ls)
     ∙ map_push (λ (i : LockId). Some (quiet (Free i))) (reverse ls) l
 
@@ -381,7 +386,8 @@ module _ (on : Doer) (rule : Rule) (keeps : Keeps on rule) where
       let t = keeps.splits (SwitchOff (Deselect h)) (job ∷ whose) (λ x. k o) steps path in
       (t.done, t.rest, t.all, (t.out, t.kept), t.goes_on)
 
-  leads-left : (job : Job) (whose : List Job) (stays : Bool) (h : Hop) (o : JobOutcome) (steps : List PathStep) → IsLeft stays h rule (job ∷ whose) steps → (k : JobOutcome → WalkTree)
+  leads-left : (job : Job) (whose : List Job) (stays : Bool) (h : Hop) (o : JobOutcome) (steps : List PathStep)
+      → IsLeft stays h rule (job ∷ whose) steps → (k : JobOutcome → WalkTree)
       → IsPath steps (left_behind stays h on k o) (k o)
   leads-left job whose true h o steps kept k = subst (λ (xs : List PathStep). IsPath xs (k o) (k o)) (sym kept) refl
   leads-left job whose false h o steps kept k = keeps.leads (SwitchOff (Deselect h)) (job ∷ whose) steps kept.0 kept.1 (λ x. k o)
@@ -611,13 +617,15 @@ keeps-inner b root (h ∷ hs) =
     let below = keeps-part (inner b root hs) (IsInner b root hs) (keeps-inner b root hs) h.parent (locks_of root hs) in
     record {
       splits = λ job whose.
-          splits-if (is_line job) (at_bus job (note_of job whose)) (behind b h (part h.parent (locks_of root hs) (inner b root hs)) job (note_of job whose))
+          splits-if (is_line job) (at_bus job (note_of job whose))
+          (behind b h (part h.parent (locks_of root hs) (inner b root hs)) job (note_of job whose))
           (AtBus job whose) (IsBehindMux b h (IsPart h.parent (locks_of root hs) (IsInner b root hs)) job whose)
           (keeps-at_bus.splits job whose)
           (splits-behind (part h.parent (locks_of root hs) (inner b root hs))
           (IsPart h.parent (locks_of root hs) (IsInner b root hs)) below b h job whose);
       leads = λ job whose.
-          leads-if (is_line job) (at_bus job (note_of job whose)) (behind b h (part h.parent (locks_of root hs) (inner b root hs)) job (note_of job whose))
+          leads-if (is_line job) (at_bus job (note_of job whose))
+          (behind b h (part h.parent (locks_of root hs) (inner b root hs)) job (note_of job whose))
           (AtBus job whose) (IsBehindMux b h (IsPart h.parent (locks_of root hs) (IsInner b root hs)) job whose)
           (keeps-at_bus.leads job whose)
           (leads-behind (part h.parent (locks_of root hs) (inner b root hs))

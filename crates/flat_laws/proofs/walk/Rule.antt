@@ -18,9 +18,9 @@ use Rattle.bus_spec.specs.Past.{Now, now, is_due}
 use Rattle.bus_spec.specs.Places.{outcome_of}
 use Rattle.bus_spec.specs.Tells.{Tells}
 use Rattle.bus_spec.specs.Stepwise.{IsStepwise}
-use Rattle.bus_spec.specs.Legal.{steps_in, KeepsWalks}
+use Rattle.bus_spec.specs.ByTree.{Step, deed_next, TellsAct, AreTold, AreTransfers, no_more, one_more, under_way, steps_in, KeepsWalks}
 use Rattle.bus_laws.specs.Reach.{AsksForMessages}
-use Rattle.bus_spec.specs.WalkRule.{Step, Deed, deed_next, quiet, PathStep, Saw, Did, deed_of, IsWalkBy, IsWalk, TellsAct, AreTold, first_done, AreTransfers, no_more, one_more, under_way}
+use Rattle.bus_spec.specs.WalkRule.{Deed, quiet, PathStep, Saw, Did, deed_of, IsWalkBy, IsWalk, first_done}
 use Rattle.flat_laws.proofs.past.Walks.{tells_none, walks-kept}
 use Rattle.flat_laws.specs.Paths.{deed_by, IsPath}
 use Rattle.flat_laws.specs.Led.{Leads, AreWalks, none, whole, front, AreAllWalks}
@@ -37,7 +37,8 @@ refused-walk : (e : Option Errno) (steps : List PathStep) → IsPath steps (Then
 refused-walk e [] p = absurd (let f : Then (Settle e) plain (λ o. Ends) ≡ Ends = p in cc)
 refused-walk e (Saw ask m ∷ steps) p = absurd p
 refused-walk e (Did a o ∷ steps) p =
-    ap (λ (x : Deed). Some x ∷ map deed_of steps) p.0 ∙ ap (λ (xs : List PathStep). Some (quiet (Settle e)) ∷ map deed_of xs) (at_end steps p.1)
+    ap (λ (x : Deed). Some x ∷ map deed_of steps) p.0
+    ∙ ap (λ (xs : List PathStep). Some (quiet (Settle e)) ∷ map deed_of xs) (at_end steps p.1)
 
 pub path-walk : (b : BoardView) (t : TransferView) (steps : List PathStep) → IsPath steps (walk_for b t) Ends → IsWalk b t steps
 path-walk b t steps path = by (refusal b t) path

@@ -18,9 +18,10 @@ use Rattle.bus_spec.specs.Grammar.{first_act, first_note}
 use Rattle.bus_spec.specs.Readings.{OfMessage, caller_of}
 use Rattle.bus_spec.specs.Past.{Now, current, step, now, world_at, calls_of, sent_by, lined_by}
 use Rattle.bus_spec.specs.Places.{transfer_at}
-use Rattle.bus_spec.specs.WalkRule.{Deed, PathStep, Saw, Did, Step, deed_next, replies_in, TellsAct, AreTold, AreTransfers, no_more, one_more, under_way}
+use Rattle.bus_spec.specs.WalkRule.{Deed, PathStep, Saw, Did}
+use Rattle.bus_spec.specs.ByTree.{Step, deed_next, step_next, replies_in, TellsAct, AreTold, AreTransfers, no_more, one_more, under_way, steps_in}
 use Rattle.bus_spec.specs.Stand.{Stand, stand_behind, stand, message_done, line_done, calls_by}
-use Rattle.bus_spec.specs.Legal.{steps_in, IsReached, is_forced, Reaches, IsLegal}
+use Rattle.bus_spec.specs.Legal.{IsReached, is_forced, Reaches, IsLegal}
 use Rattle.bus_spec.specs.Ruled.{SaysAct, Doing, doings_in, replies_said, AreSaid, AreDone, nothing, transfer, begun, ReachesBy, IsRuled}
 use Rattle.bus_laws.proofs.tree.Slots.{eqb-apart}
 
@@ -109,7 +110,8 @@ replies-said [] = refl
 replies-said (s ∷ steps) = by (replies-said steps) s.before s.deed s.entry
   where
     by : replies_said (map doing_of steps) ≡ replies_in steps → (n : Now) (d : Deed) (e : Entry)
-        → replies_said (map doing_of (record { before = n; deed = d; entry = e } ∷ steps)) ≡ replies_in (record { before = n; deed = d; entry = e } ∷ steps)
+        → replies_said (map doing_of (record { before = n; deed = d; entry = e } ∷ steps))
+        ≡ replies_in (record { before = n; deed = d; entry = e } ∷ steps)
     by more n d (entry.Take c l) = more
     by more n d (entry.Free c l) = more
     by more n d (entry.Message c bus purpose part parts addr reading bytes heard e) = more
@@ -127,29 +129,34 @@ module _ (b : BoardView) (asks : List Reply → Option TransferView) where
 
 -- THE ENTRIES OF A CALLER
 module _ (b : BoardView) (asks : Asks) (c : ℕ) where
-  doings : (past : List Entry) → map doing_of (steps_in b asks c past) ≡ doings_in b c (deeds_of b asks past) past
+  abbrev Alike : List Entry → Type 0
+  Alike past = map doing_of (steps_in b asks c past) ≡ doings_in b c (deeds_of b asks past) past
+
+  doings : (past : List Entry) → Alike past
   doings [] = refl
   doings (e ∷ past) = elim (eqb_tells (caller_of e) c) [ inl h ↦ own (doings past) h.1 | inr h ↦ other (doings past) h.1 ]
     where
       last : ℕ → Step
-      last d = record { before = now b asks past; deed = deed_next (current b asks (now b asks past) d); entry = e }
+      last d = step_next (now b asks past) (current b asks (now b asks past) d) e
 
       said : Deed → Doing
       said d = record { before = stand b (deeds_of b asks past) past; deed = d; entry = e }
 
-      own : map doing_of (steps_in b asks c past) ≡ doings_in b c (deeds_of b asks past) past → caller_of e ≡ c → map doing_of (steps_in b asks c (e ∷ past)) ≡ doings_in b c (deeds_of b asks (e ∷ past)) (e ∷ past)
+      own : Alike past → caller_of e ≡ c → Alike (e ∷ past)
       own same is =
-          ap (λ (t : Bool). map doing_of (cond t (steps_in b asks c past ++ last c ∷ []) (steps_in b asks c past))) (eq-eqb (caller_of e) c is)
+          ap (λ (t : Bool). map doing_of (cond t (steps_in b asks c past ++ last c ∷ []) (steps_in b asks c past)))
+          (eq-eqb (caller_of e) c is)
           ∙ map_push doing_of (steps_in b asks c past) (last c)
           ∙ ap (λ (xs : List Doing). xs ++ doing_of (last c) ∷ []) same
           ∙ ap (λ (d : ℕ). doings_in b c (deeds_of b asks past) past ++ doing_of (last d) ∷ []) (sym is)
           ∙ ap (λ (s : Stand). doings_in b c (deeds_of b asks past) past
-          ++ (record { before = s; deed = deed_next (current b asks (now b asks past) (caller_of e)); entry = e }) ∷ []) (past-stands b asks past)
+          ++ (record { before = s; deed = deed_next (current b asks (now b asks past) (caller_of e)); entry = e }) ∷ [])
+          (past-stands b asks past)
           ∙ sym (ap (λ (t : Bool). cond t (doings_in b c (deeds_of b asks past) past
           ++ said (deed_next (current b asks (now b asks past) (caller_of e))) ∷ []) (doings_in b c (deeds_of b asks past) past))
           (eq-eqb (caller_of e) c is))
 
-      other : map doing_of (steps_in b asks c past) ≡ doings_in b c (deeds_of b asks past) past → (caller_of e ≡ c → ⊥) → map doing_of (steps_in b asks c (e ∷ past)) ≡ doings_in b c (deeds_of b asks (e ∷ past)) (e ∷ past)
+      other : Alike past → (caller_of e ≡ c → ⊥) → Alike (e ∷ past)
       other same isnt =
           ap (λ (t : Bool). map doing_of (cond t (steps_in b asks c past ++ last c ∷ []) (steps_in b asks c past)))
           (eqb-apart (caller_of e) c isnt)
