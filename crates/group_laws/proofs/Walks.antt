@@ -1,17 +1,15 @@
 -- A walk stays on the root of its transfer. The inductions go over the messages of a job, over locks, and over hops.
-use Rattle.std.proofs.Common.{◌≡◌, ℕ, zero, suc, ◌<◌, Bool, true, false, cond, ◌&&◌, List, [], ◌∷◌, Option, Some, None, refl, ◌∙◌, ap, subst, inl, inr}
+use Rattle.std.proofs.Common.{◌≡◌, ℕ, ◌<◌, Bool, true, Some, None, ◌∙◌, ap, subst}
 use Rattle.std.proofs.lemmas.Bool.{ltb-true}
 use Rattle.i2c_base.specs.declared.ids.LockId.{LockId}
-use Rattle.i2c_base.specs.declared.errno.Errno.{Errno}
 use Rattle.i2c_base.specs.Board.{BoardView}
 use Rattle.i2c_base.specs.Transfer.{TransferView}
-use Rattle.i2c_spec.specs.Tree.{Hop, hops, buses, root_of, locks_of, IsAmongHops}
+use Rattle.i2c_spec.specs.Tree.{Hop, buses, root_of}
 use Rattle.i2c_spec.specs.TreeFacts.{IsTree}
-use Rattle.i2c_spec.specs.Messages.{messages_of}
 use Rattle.i2c_spec.specs.Flat.{refusal}
-use Rattle.bus_spec.specs.Walk.{Job, Call, Select, SwitchOff, Deselect, Close, Act, Free, Send, Shift, ActOutcome, JobOutcome, Good, Refused, Unsent, Failed, Note, KeptOf, WalkTree, Ends, Look, Then, Go, On, Last, Over, goes, job_bus, job_outcome, verdict_of, decides, is_line, more_of}
+use Rattle.bus_spec.specs.Walk.{Job, Act, Send, Shift, ActOutcome, Note, WalkTree, Ends, Look, Then, job_bus}
 use Rattle.bus_spec.specs.Slots.{Slots, answer_to}
-use Rattle.bus_spec.specs.Grammar.{Doer, settled, over, by_go, messages, at_bus, locked, part, with_mark, aside, if_sent, if_good, kind_of, closing, left_behind, opened, chosen, keeps, crossed, behind, inner, walk_by, walk_for, plain, seen, first_act, first_note, rest_of}
+use Rattle.bus_spec.specs.Grammar.{walk_for, seen, first_act, first_note, rest_of}
 use Rattle.bus_laws.proofs.tree.Law.{refusal-none}
 use Rattle.bus_laws.proofs.walk.Keeps.{GoesOver, GoesOverHop, walk-keeps}
 use Rattle.group_laws.specs.Groups.{root_of_lock, MarksIn, ActIn, StaysIn}
@@ -28,20 +26,20 @@ module _ (b : BoardView) (roots : ℕ → Bool) where
   abbrev LockIn : LockId → Type 0
   LockIn l = roots (root_of_lock b l) ≡ true
 
-  steps_in : GoesOver (StaysIn b roots) OwnIn LockIn
+  steps_in : GoesOver (λ n. StaysIn b roots) OwnIn LockIn
   steps_in = record {
-    settle = λ verdict w h. (tt, λ out. h);
-    send = λ job left note next own h. (let act : ActIn b roots (Send job left) note.marks = own in (act, h));
-    shift = λ job note next line own h. (let act : ActIn b roots (Shift job) note.marks = own in (act, h));
-    take = λ l next own h. (own, h);
-    free = λ l next own h. (own, h);
+    settle = λ n verdict w h. (tt, λ out. h);
+    send = λ n job left note next own h. (let act : ActIn b roots (Send job left) note.marks = own in (act, h));
+    shift = λ n job note next line own h. (let act : ActIn b roots (Shift job) note.marks = own in (act, h));
+    take = λ n l next own h. (own, h);
+    free = λ n l next own h. (own, h);
   }
 
-  hop_in : (h : Hop) → In h.on → GoesOverHop b (StaysIn b roots) OwnIn LockIn h
+  hop_in : (h : Hop) → In h.on → GoesOverHop b (λ n. StaysIn b roots) OwnIn LockIn h
   hop_in h at = record {
     lock = at;
-    mark = λ next keeps. (at, keeps);
-    kept = λ next keeps. (at, keeps);
+    mark = λ n next keeps. (at, keeps);
+    kept = λ n next keeps. (at, keeps);
     select = λ job note own. (at, (at, own.1));
     close = λ job note m own. (at, (at, own.1));
     deselect = (at, (at, tt));
@@ -50,7 +48,7 @@ module _ (b : BoardView) (roots : ℕ → Bool) where
   -- THE WALK of a transfer
   pub walk-in : IsTree b → (t : TransferView) → (t.bus < buses b → In t.bus) → StaysIn b roots (walk_for b t)
   walk-in tree t home =
-      walk-keeps b (StaysIn b roots) OwnIn LockIn steps_in t tt (λ at. (top at, tt)) top
+      walk-keeps b (λ n. StaysIn b roots) OwnIn LockIn steps_in t tt (λ at. (top at, tt)) top
       (λ at h among. hop_in h (ap roots (tree.root_same t.bus h among) ∙ top at))
     where
       top : refusal b t ≡ None → roots (root_of b t.bus) ≡ true
