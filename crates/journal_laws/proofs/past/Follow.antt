@@ -15,7 +15,7 @@ use Rattle.bus_spec.specs.Past.{Now, begun, talk_of}
 use Rattle.bus_spec.specs.Readings.{MessageEntry}
 use Rattle.bus_spec.specs.Tells.{TellsMessage, TellsLine, Tells}
 use Rattle.bus_spec.specs.Places.{outcome_of}
-use Rattle.bus_spec.specs.WalkRule.{Step, replies_in, AreTransfers}
+use Rattle.bus_spec.specs.ByTree.{Step, replies_in, AreTransfers}
 use Rattle.flat_laws.proofs.walk.Rule.{transfers-walks}
 use Rattle.flat_laws.specs.Led.{Leads, AreWalks, none, whole, front}
 use Rattle.flat_laws.proofs.past.Walks.{reply_at, replies_first}

@@ -16,8 +16,7 @@ use Rattle.bus_spec.specs.Past.{current, now, is_due}
 use Rattle.bus_spec.specs.Tells.{Tells}
 use Rattle.bus_spec.specs.Stepwise.{TellsNext}
 use Rattle.bus_spec.specs.Places.{outcome_of, walk_left}
-use Rattle.bus_spec.specs.WalkRule.{Step, deed_next, replies_in}
-use Rattle.bus_spec.specs.Legal.{steps_in}
+use Rattle.bus_spec.specs.ByTree.{Step, deed_next, step_next, replies_in, steps_in}
 use Rattle.flat_laws.specs.Led.{Leads, AreWalks, none, whole, front, AreAllWalks}
 use Rattle.bus_laws.proofs.tree.Slots.{eqb-apart}
 use Rattle.bus_laws.proofs.past.Asked.{settled-told}
@@ -111,15 +110,19 @@ module _ (b : BoardView) (asks : List Reply → Option TransferView) where
 
 -- THE ENTRIES OF A PAST
 module _ (b : BoardView) (asks : Asks) where
+  -- an entry as its caller's next step
+  abbrev as_next : List Entry → ℕ → Entry → Step
+  as_next past c e = step_next (now b asks past) (current b asks (now b asks past) c) e
+
   own_steps : (past : List Entry) (c : ℕ) (e : Entry) → caller_of e ≡ c
-      → steps_in b asks c (e ∷ past) ≡ steps_in b asks c past ++ record { before = now b asks past; deed = deed_next (current b asks (now b asks past) c); entry = e } ∷ []
+      → steps_in b asks c (e ∷ past) ≡ steps_in b asks c past ++ as_next past c e ∷ []
   own_steps past c e own =
-      ap (λ (t : Bool). cond t (steps_in b asks c past ++ record { before = now b asks past; deed = deed_next (current b asks (now b asks past) c); entry = e } ∷ []) (steps_in b asks c past))
+      ap (λ (t : Bool). cond t (steps_in b asks c past ++ as_next past c e ∷ []) (steps_in b asks c past))
       (eq-eqb (caller_of e) c own)
 
   other_steps : (past : List Entry) (c : ℕ) (e : Entry) → (caller_of e ≡ c → ⊥) → steps_in b asks c (e ∷ past) ≡ steps_in b asks c past
   other_steps past c e other =
-      ap (λ (t : Bool). cond t (steps_in b asks c past ++ record { before = now b asks past; deed = deed_next (current b asks (now b asks past) c); entry = e } ∷ []) (steps_in b asks c past))
+      ap (λ (t : Bool). cond t (steps_in b asks c past ++ as_next past c e ∷ []) (steps_in b asks c past))
       (eqb-apart (caller_of e) c other)
 
   -- the replies of a caller, behind an entry of its own and one of another's
@@ -143,7 +146,8 @@ module _ (b : BoardView) (asks : Asks) where
   replies_steps [] c = refl
   replies_steps (e ∷ past) c =
       elim (eqb_tells (caller_of e) c) [
-        | inl h ↦ ap replies_in (own_steps past c e h.1) ∙ replies_more (steps_in b asks c past) (now b asks past) (deed_next (current b asks (now b asks past) c)) e
+        | inl h ↦ ap replies_in (own_steps past c e h.1)
+            ∙ replies_more (steps_in b asks c past) (now b asks past) (deed_next (current b asks (now b asks past) c)) e
             ∙ ap (λ (rs : List Reply). rs ++ reply_at e) (replies_steps past c) ∙ sym (own_replies past c e h.1)
         | inr h ↦ ap replies_in (other_steps past c e h.1) ∙ replies_steps past c ∙ sym (other_replies past c e h.1)
       ]
@@ -163,7 +167,7 @@ module _ (b : BoardView) (asks : Asks) where
   walk_steps (e ∷ past) c =
       elim (eqb_tells c (caller_of e)) [
         | inl h ↦ ap (λ (ss : List Step). walk_behind b (asks c) [] Ends ss) (own_steps past c e (sym h.1))
-            ∙ behind_last b (asks c) [] Ends (steps_in b asks c past) (record { before = now b asks past; deed = deed_next (current b asks (now b asks past) c); entry = e })
+            ∙ behind_last b (asks c) [] Ends (steps_in b asks c past) (as_next past c e)
             ∙ ap (λ (w : WalkTree). rest_of (seen (now b asks past).slot w) (outcome_of e)) (hand past c (walk_steps past c))
             ∙ sym (ap (λ (t : Bool). cond t (rest_of (current b asks (now b asks past) c) (outcome_of e)) (walk_left b asks past c)) h.0)
             ∙ sym (walk-left b asks (e ∷ past) c)
@@ -181,11 +185,11 @@ module _ (b : BoardView) (asks : Asks) where
     subst (λ (w : WalkTree). Tells b (now b asks past) (seen (now b asks past).slot w) e)
         (hand past (caller_of e) (walk_steps past (caller_of e)))
         (follow_last b (asks (caller_of e)) [] Ends (steps_in b asks (caller_of e) past)
-        (record { before = now b asks past; deed = deed_next (current b asks (now b asks past) (caller_of e)); entry = e })
+        (as_next past (caller_of e) e)
         (subst (λ (ss : List Step). Follow b (asks (caller_of e)) [] Ends ss) (own_steps past (caller_of e) e refl)
         (follow (caller_of e)))),
     each-tells past (λ c. elim (eqb_tells (caller_of e) c) [
-      | inl h ↦ follow_front b (asks c) [] Ends (steps_in b asks c past) (record { before = now b asks past; deed = deed_next (current b asks (now b asks past) c); entry = e })
+      | inl h ↦ follow_front b (asks c) [] Ends (steps_in b asks c past) (as_next past c e)
           (subst (λ (ss : List Step). Follow b (asks c) [] Ends ss) (own_steps past c e h.1) (follow c))
       | inr h ↦ subst (λ (ss : List Step). Follow b (asks c) [] Ends ss) (other_steps past c e h.1) (follow c)
     ]),

@@ -17,9 +17,10 @@ use Rattle.bus_spec.specs.Grammar.{walk_for, seen, is_over, rest_of}
 use Rattle.bus_spec.specs.Readings.{OfMessage, caller_of}
 use Rattle.bus_spec.specs.Past.{Now, current, now, world_at, calls_of}
 use Rattle.bus_spec.specs.Places.{transfer_at, outcome_of}
-use Rattle.bus_spec.specs.WalkRule.{Deed, PathStep, Saw, Did, Step, deed_next, TellsAct, AreTold, AreTransfers, no_more, one_more, under_way}
+use Rattle.bus_spec.specs.WalkRule.{Deed, PathStep, Saw, Did}
+use Rattle.bus_spec.specs.ByTree.{Step, deed_next, step_next, TellsAct, AreTold, AreTransfers, no_more, one_more, under_way, steps_in}
 use Rattle.bus_spec.specs.Stand.{Stand, stand_behind, stand, calls_by}
-use Rattle.bus_spec.specs.Legal.{steps_in, IsReached, is_forced, Reaches, IsLegal}
+use Rattle.bus_spec.specs.Legal.{IsReached, is_forced, Reaches, IsLegal}
 use Rattle.bus_spec.specs.Ruled.{SaysAct, Doing, doings_in, replies_said, AreSaid, AreDone, nothing, transfer, begun, ReachesBy, IsRuled}
 use Rattle.flat_laws.specs.Paths.{IsPath}
 use Rattle.flat_laws.proofs.past.Walks.{reply_at}
@@ -178,7 +179,7 @@ module _ (b : BoardView) (asks : Asks) where
           ∙ ap (λ (w : WalkTree). deed_next (seen n.slot w)) (hand b asks past c0 (walk_steps b asks past c0))
 
       abbrev last : ℕ → Step
-      last c = record { before = n; deed = deed_next (current b asks n c); entry = e }
+      last c = step_next n (current b asks n c) e
 
       own_steps_is : (c : ℕ) → caller_of e ≡ c → steps_in b asks c (e ∷ past) ≡ steps_in b asks c past ++ last c ∷ []
       own_steps_is c is = ap (λ (t : Bool). cond t (steps_in b asks c past ++ last c ∷ []) (steps_in b asks c past)) (eq-eqb (caller_of e) c is)

@@ -9,9 +9,12 @@ use Rattle.journal_laws.proofs.walk_rows.a_failure_marks_its_way.Goals as goal
 pub returns : goal.returns
 returns c =
     record {
-      both = path-walk row.chain walk.behind_both walk.marks_both (refl, (refl, (refl, (refl, (refl, (refl, (refl, (refl, (refl, (refl, (refl, (refl, refl))))))))))));
-      to_the_deselect = path-walk row.chain walk.behind_both walk.marks_to_the_deselect (refl, (refl, (refl, (refl, (refl, (refl, (refl, (refl, (refl, (refl, (refl, (refl, (refl, (refl, (refl, (refl, (refl, (refl, (refl, (refl, (refl, (refl, refl))))))))))))))))))))));
-      none_beyond = path-walk row.chain walk.behind_both (walk.marks_none_beyond_by (walk.near_mark ∷ [])) (refl, (refl, (refl, (refl, (refl, (refl, (refl, (refl, (refl, (refl, (refl, (refl, (refl, (refl, (refl, (refl, (refl, (refl, refl))))))))))))))))));
+      both = path-walk row.chain walk.behind_both walk.marks_both
+          (refl, (refl, (refl, (refl, (refl, (refl, (refl, (refl, (refl, (refl, (refl, (refl, refl))))))))))));
+      to_the_deselect = path-walk row.chain walk.behind_both walk.marks_to_the_deselect
+          (refl, (refl, (refl, (refl, (refl, (refl, (refl, (refl, (refl, (refl, (refl, (refl, (refl, (refl, (refl, (refl, (refl, (refl, (refl, (refl, (refl, (refl, refl))))))))))))))))))))));
+      none_beyond = path-walk row.chain walk.behind_both (walk.marks_none_beyond_by (walk.near_mark ∷ []))
+          (refl, (refl, (refl, (refl, (refl, (refl, (refl, (refl, (refl, (refl, (refl, (refl, (refl, (refl, (refl, (refl, (refl, (refl, refl))))))))))))))))));
       not_beyond = λ w.
           (let f : walk.near_mark ∷ walk.far_mark ∷ [] ≡ walk.near_mark ∷ [] =
           ap (λ (d : Deed). d.marks) ((walk-path row.chain walk.behind_both

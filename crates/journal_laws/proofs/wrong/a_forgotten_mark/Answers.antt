@@ -2,7 +2,7 @@ use Rattle.std.proofs.Common.{◌≡◌, true, false, [], Some, ap, arith}
 use Rattle.i2c_base.specs.declared.board.MuxKind.TheVariants.{Pca9548}
 use Rattle.bus_spec.specs.Rows as row
 use Rattle.bus_spec.specs.Walk.{Select, Send}
-use Rattle.bus_spec.specs.Legal.{steps_in}
+use Rattle.bus_spec.specs.ByTree.{steps_in}
 use Rattle.journal_laws.specs.Wrong.{two_asks, mark_forgotten}
 use Rattle.journal_laws.proofs.past.Follow.{Head, transfers-follow, head-told}
 use Rattle.journal_laws.proofs.wrong.a_forgotten_mark.Goals as goal

@@ -3,7 +3,7 @@ use Rattle.i2c_spec.specs.Messages.{messages_of}
 use Rattle.bus_spec.specs.Walk.{Call, Send}
 use Rattle.journal_laws.proofs.past.Follow.{Head, transfers-follow, head-told}
 use Rattle.bus_spec.specs.Rows as row
-use Rattle.bus_spec.specs.Legal.{steps_in}
+use Rattle.bus_spec.specs.ByTree.{steps_in}
 use Rattle.journal_laws.specs.Wrong.{one_asks, another_direction}
 use Rattle.journal_laws.proofs.wrong.a_message_tells_its_direction.Goals as goal
 

@@ -3,7 +3,7 @@ use Rattle.i2c_base.specs.declared.ids.LockId.TheVariants as lock
 use Rattle.bus_spec.specs.Walk.{Send, Free}
 use Rattle.journal_laws.proofs.past.Follow.{transfers-follow}
 use Rattle.bus_spec.specs.Rows as row
-use Rattle.bus_spec.specs.Legal.{steps_in}
+use Rattle.bus_spec.specs.ByTree.{steps_in}
 use Rattle.journal_laws.specs.Wrong.{deep_asks, held_as_parent_locked}
 use Rattle.journal_laws.proofs.wrong.a_mux_locked_mux_frees_its_root.Goals as goal
 

@@ -3,7 +3,7 @@ use Rattle.i2c_base.specs.declared.board.MuxKind.TheVariants.{Pca9548}
 use Rattle.bus_spec.specs.Walk.{Select, Send}
 use Rattle.journal_laws.proofs.past.Follow.{Head, transfers-follow, head-told}
 use Rattle.bus_spec.specs.Rows as row
-use Rattle.bus_spec.specs.Legal.{steps_in}
+use Rattle.bus_spec.specs.ByTree.{steps_in}
 use Rattle.journal_laws.specs.Wrong.{deep_asks, select_joined}
 use Rattle.journal_laws.proofs.wrong.a_select_is_a_transfer_of_its_own.Goals as goal
 

@@ -1,7 +1,7 @@
 use Rattle.std.proofs.Common.{◌≡◌, true, [], Some, ap}
 use Rattle.i2c_base.specs.declared.board.MuxKind.TheVariants.{Pca9548}
 use Rattle.i2c_base.specs.declared.entry.Purpose.TheVariants as purpose
-use Rattle.bus_spec.specs.Legal.{steps_in}
+use Rattle.bus_spec.specs.ByTree.{steps_in}
 use Rattle.journal_laws.proofs.past.Follow.{Head, transfers-follow, head-told}
 use Rattle.bus_spec.specs.Walk.{Select, Send}
 use Rattle.journal_laws.specs.Wrong.{kept_board, keep_asks, select_left_out}

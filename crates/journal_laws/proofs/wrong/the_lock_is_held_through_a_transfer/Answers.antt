@@ -4,7 +4,7 @@ use Rattle.i2c_spec.specs.Messages.{messages_of}
 use Rattle.bus_spec.specs.Walk.{Call, Send, Free}
 use Rattle.journal_laws.proofs.past.Follow.{transfers-follow}
 use Rattle.bus_spec.specs.Rows as row
-use Rattle.bus_spec.specs.Legal.{steps_in}
+use Rattle.bus_spec.specs.ByTree.{steps_in}
 use Rattle.journal_laws.specs.Wrong.{one_asks, unlocked_early}
 use Rattle.journal_laws.proofs.wrong.the_lock_is_held_through_a_transfer.Goals as goal
 
