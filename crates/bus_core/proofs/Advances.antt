@@ -60,11 +60,11 @@ module _ {P C S : Type 0} (g : PortGhosts P) (c : CallerGhosts C S) (x : CorePar
       ap (λ (y : Seat C). y.number) (sym same) ∙ ap (λ (y : ℕ × S). y.0) from.2
 
   pub stuck-by : (s : Seat C) → slice_get x.seats.items place ≡ Some s
-      → IsHeldUp (holder_in x.locks) (slots_of (seen_of x.locks)) (walk_left x.board s) → IsTrue g.tells
+      → IsHeldUp (holder_in x.locks) (slots_of (seen_of x.locks)) (walk_left s) → IsTrue g.tells
       → IsStuck x.board (asks_in c x) (reverse x.journal.entries) caller
   stuck-by s here up tell =
       subst (λ (n : ℕ). IsStuck x.board (asks_in c x) (reverse x.journal.entries) n) (numbered s here)
-      (held-up-stuck (run_of g c x) (whole_of g c x kept.held kept.owes) kept.kept tell place (place_of c x.board s)
+      (held-up-stuck (run_of g c x) (whole_of g c x kept.held kept.owes) kept.kept tell place (place_of c s)
       (place-here g c x kept place s here) up)
 
   -- WHO WAITS is held up
@@ -72,7 +72,7 @@ module _ {P C S : Type 0} (g : PortGhosts P) (c : CallerGhosts C S) (x : CorePar
   blocked-held_up l h b = record { seat = b.comes.seat; here = b.comes.here; waits = inr (l, h, b.comes.next, b.held) }
 
   pub ended-held_up : HasEndedAt x place → IsHeldUpAt x place
-  ended-held_up e = record { seat = e.seat; here = e.here; waits = inl (over-none x.locks (walk_left x.board e.seat) e.over) }
+  ended-held_up e = record { seat = e.seat; here = e.here; waits = inl (over-none x.locks (walk_left e.seat) e.over) }
 
   -- .. and stuck
   pub blocked-stuck : (l : LockId) (h : ℕ) → IsBlockedAt x place l h → IsTrue g.tells

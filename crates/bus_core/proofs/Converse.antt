@@ -125,7 +125,7 @@ module _ {P C S : Type 0} (g : PortGhosts P) (c : CallerGhosts C S) (x : CorePar
   whole = whole_of g c x kept.held kept.owes
 
   abbrev pub p : Place
-  p = place_of c b s
+  p = place_of c s
 
   pub at : slice_get whole.places place ≡ Some p
   at = place-here g c x kept place s here
@@ -134,20 +134,20 @@ module _ {P C S : Type 0} (g : PortGhosts P) (c : CallerGhosts C S) (x : CorePar
   its = seated-here g c x kept place s here
 
   -- THE PORT of the root of a job that comes next
-  module _ (goes : is_over (walk_left b s) ≡ false) (low : s.transfer.bus < buses b) where
+  module _ (goes : is_over (walk_left s) ≡ false) (low : s.transfer.bus < buses b) where
     pub port : (y : RootPort) × (slice_get whole.sockets s.port ≡ Some y) × (y.root ≡ root_of b s.transfer.bus)
     port = (let f = map_from (λ (q : ℕ × P). q.0) x.ports.items s.port (root_of b s.transfer.bus) (its.plugged goes low) in
         (root_port g f.0, map_at (root_port g) x.ports.items s.port f.0 f.1, f.2))
 
-  module _ (job : Job) (more : ℕ) (next : NextMsg) (first : next_of x.locks (walk_left b s) ≡ Some (Send job more))
+  module _ (job : Job) (more : ℕ) (next : NextMsg) (first : next_of x.locks (walk_left s) ≡ Some (Send job more))
       (of : IsMessageOf job more next) where
-    pub goes : is_over (walk_left b s) ≡ false
-    goes = not_over (slots_of (seen_of x.locks)) (walk_left b s) (Send job more) first
+    pub goes : is_over (walk_left s) ≡ false
+    goes = not_over (slots_of (seen_of x.locks)) (walk_left s) (Send job more) first
 
     pub on-bus : s.transfer.bus < buses b
     on-bus = elim (its.there goes) [
       | inl low ↦ low
-      | inr lone ↦ absurd (let l = lone_act b (slots_of (seen_of x.locks)) (walk_left b s) lone (Send job more) first in
+      | inr lone ↦ absurd (let l = lone_act b (slots_of (seen_of x.locks)) (walk_left s) lone (Send job more) first in
           let f : Send job more ≡ Settle l.0 = l.1 in cc)
     ]
 
@@ -157,7 +157,7 @@ module _ {P C S : Type 0} (g : PortGhosts P) (c : CallerGhosts C S) (x : CorePar
     pub calls : (bus : ℕ) (ms : List MessageView) → job ≡ Call bus ms
         → (has_reply p.owed ≡ false) × IsCall b s.transfer bus ms × (s.sent + suc more ≡ length ms)
     calls bus ms is = call-wants run whole kept.kept place p at bus ms more
-        (subst (λ (j : Job). next_of x.locks (walk_left b s) ≡ Some (Send j more)) is first)
+        (subst (λ (j : Job). next_of x.locks (walk_left s) ≡ Some (Send j more)) is first)
 
     pub call-left : next.purpose ≡ purpose.Call → (has_reply p.owed ≡ false) × (s.sent < length s.transfer.msgs)
     call-left e =
@@ -203,7 +203,7 @@ module _ {P C S : Type 0} (g : PortGhosts P) (c : CallerGhosts C S) (x : CorePar
       message-bytes = bytes-message run whole kept.kept place p at job more first bytes few
 
       abbrev pub words2 : SeenView
-      words2 = words_after (updates_of b x.locks (walk.Sent sent.end bytes) s) (seen_of x.locks)
+      words2 = words_after (updates_of x.locks (walk.Sent sent.end bytes) s) (seen_of x.locks)
 
       keeps : KeepsPort b g.tells job more bytes sent.end spoken.before spoken.after
       keeps =
@@ -222,8 +222,8 @@ module _ {P C S : Type 0} (g : PortGhosts P) (c : CallerGhosts C S) (x : CorePar
 
       marked : AreMarked b p.tree x.locks (walk.Sent sent.end bytes) words2
       marked = record {
-        all = length-applied (updates_of b x.locks (walk.Sent sent.end bytes) s) x.locks.marks ∙ kept.kept.table.marked;
-        counted = length-applied_kept (updates_of b x.locks (walk.Sent sent.end bytes) s) x.locks.kept ∙ kept.kept.table.kept;
+        all = length-applied (updates_of x.locks (walk.Sent sent.end bytes) s) x.locks.marks ∙ kept.kept.table.marked;
+        counted = length-applied_kept (updates_of x.locks (walk.Sent sent.end bytes) s) x.locks.kept ∙ kept.kept.table.kept;
         marked = λ y told. tells-after (next_of x.locks p.tree) (first_note (seen (slots_of (seen_of x.locks)) p.tree))
             (walk.Sent sent.end bytes) y x.locks.marks told;
         kept = λ y told.
@@ -248,12 +248,12 @@ module _ {P C S : Type 0} (g : PortGhosts P) (c : CallerGhosts C S) (x : CorePar
       }
 
       -- the marks that it changes may be written
-      pub updates-own : AreHeld x.locks s.number (updates_of b x.locks (walk.Sent sent.end bytes) s)
+      pub updates-own : AreHeld x.locks s.number (updates_of x.locks (walk.Sent sent.end bytes) s)
       updates-own =
           let own = locks-here run whole kept.kept place p at in
           let has = held-wants run whole kept.kept place p at own.0 own.1 in
           let sends = send-wants run whole kept.kept place p at job more first in
-          updates-held x.locks s.number (updates_of b x.locks (walk.Sent sent.end bytes) s)
+          updates-held x.locks s.number (updates_of x.locks (walk.Sent sent.end bytes) s)
           (on-after (holds_mux x.locks s.number) (next_of x.locks p.tree) (first_note (seen (slots_of (seen_of x.locks)) p.tree))
           (walk.Sent sent.end bytes)
           (subst (λ (o : Option _). MayMark (holds_mux x.locks s.number) o (first_note (seen (slots_of (seen_of x.locks)) p.tree)))
@@ -275,7 +275,6 @@ module _ {P C S : Type 0} (g : PortGhosts P) (c : CallerGhosts C S) (x : CorePar
 
       pub may-hear : MayHear next sent.reading bytes sent.end s
       may-hear = record {
-        counted = its.counted;
         wrote = its.wrote;
         part = subst (λ (n : ℕ). 0 < n) (sym of.as_part) (part_low s.sent more job (λ bus ms is. (calls bus ms is).2));
         more = λ through. (call-left (call-through next.purpose sent.end through).0).1;
@@ -308,7 +307,7 @@ pub record ComesNext {P C : Type 0} (x : CoreParts P C) (place : ℕ) (next : Ne
   pub job : Job
   pub left : ℕ
   pub here : slice_get x.seats.items place ≡ Some s
-  pub first : next_of x.locks (walk_left x.board s) ≡ Some (Send job left)
+  pub first : next_of x.locks (walk_left s) ≡ Some (Send job left)
   pub of : IsMessageOf job left next
 
 pub comes-next : {P C : Type 0} (x : CoreParts P C) (place : ℕ) (next : NextMsg) (need : HasMessage x place next) (s : Seat C)

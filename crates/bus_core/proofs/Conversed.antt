@@ -47,11 +47,11 @@ use Rattle.i2c_base.specs.Need.{bytes_given}
 
 module _ {P C S : Type 0} (g : PortGhosts P) (c : CallerGhosts C S) (x : CoreParts P C) (kept : IsKept g c x) (place : ℕ) (s : Seat C)
     (here : slice_get x.seats.items place ≡ Some s)
-    (job : Job) (more : ℕ) (next : NextMsg) (first : next_of x.locks (walk_left x.board s) ≡ Some (Send job more))
+    (job : Job) (more : ℕ) (next : NextMsg) (first : next_of x.locks (walk_left s) ≡ Some (Send job more))
     (of : IsMessageOf job more next)
     (sockets2 : List RootPort) (bytes : List ℕ) (sent : MsgResult)
     (said : HasSpoken x.board g.tells next (root_ports g x.ports.items) sockets2 bytes sent s)
-    (t : Seat C) (heard : HasHeard x.board x.locks next sent.reading bytes sent.end s t) where
+    (t : Seat C) (heard : HasHeard x.locks next sent.reading bytes sent.end s t) where
   open standing g c x kept place s here use {run, whole, p, at, ls, n}
 
   abbrev words : SeenView
@@ -79,7 +79,7 @@ module _ {P C S : Type 0} (g : PortGhosts P) (c : CallerGhosts C S) (x : CorePar
       sent.end words
       (is-sent g c x kept place s here job more next first of sockets2 bytes sent said)
 
-  place-is : place_of c x.board t ≡ spoken whole p job next sent.reading bytes sent.end gone
+  place-is : place_of c t ≡ spoken whole p job next sent.reading bytes sent.end gone
   place-is = heard-place c x.board x.locks (roots_of x.ports.items) job more next of sent.reading bytes sent.end s t heard none
 
   seated : IsSeated c x.board (roots_of x.ports.items) t
@@ -97,7 +97,7 @@ module _ {P C S : Type 0} (g : PortGhosts P) (c : CallerGhosts C S) (x : CorePar
 
   -- the settle is none where the message decides nothing
   quiet : IsLeft run.board p.transfer (has_reply p.owed) gone behind → (verdict : Option Errno)
-      → next_of locks2 (walk_left x.board t) ≡ Some (Settle verdict) → ⊥
+      → next_of locks2 (walk_left t) ≡ Some (Settle verdict) → ⊥
   quiet is verdict comes = quiet-next (slots_of words) behind is.quiet verdict
       (subst (λ (w : WalkTree). next_of locks2 w ≡ Some (Settle verdict)) heard.walk comes)
 
@@ -105,9 +105,8 @@ module _ {P C S : Type 0} (g : PortGhosts P) (c : CallerGhosts C S) (x : CorePar
       sent.end ∷ []) (room : j.room + 1 ≡ x.journal.room)
       (room_bytes : j.room_bytes + length bytes ≡ x.journal.room_bytes) where
     -- THE SETTLE may be made
-    pub may-settle : MaySettle x.board locks2 j t
+    pub may-settle : MaySettle locks2 j t
     may-settle = record {
-      counted = seated.counted;
       room = λ verdict comes. elim leaves [
         | inl is ↦ absurd (quiet is.0 verdict comes)
         | inr d ↦ (let two : 2 ≤ x.journal.room = room-message run whole kept.kept place p at job more first d.0 in
@@ -132,7 +131,7 @@ module _ {P C S : Type 0} (g : PortGhosts P) (c : CallerGhosts C S) (x : CorePar
 
       -- NO SETTLE came
       pub conversed-quiet : new.seats.items ≡ set x.seats.items place t → new.journal ≡ j
-          → ((verdict : Option Errno) → next_of locks2 (walk_left x.board t) ≡ Some (Settle verdict) → ⊥)
+          → ((verdict : Option Errno) → next_of locks2 (walk_left t) ≡ Some (Settle verdict) → ⊥)
           → IsKept g c new × HasStepped g c place x new
       conversed-quiet seats journal undue = elim leaves [
         | inl is ↦ by is.0 is.1
@@ -163,7 +162,7 @@ module _ {P C S : Type 0} (g : PortGhosts P) (c : CallerGhosts C S) (x : CorePar
 
       -- THE SETTLE came
       pub conversed-settled : (verdict : Option Errno) (u : Seat C) → new.seats.items ≡ set x.seats.items place u
-          → IsSettledIn x.board locks2 verdict j new.journal t u → IsKept g c new × HasStepped g c place x new
+          → IsSettledIn locks2 verdict j new.journal t u → IsKept g c new × HasStepped g c place x new
       conversed-settled verdict u seats made = elim leaves [
         | inl is ↦ absurd (quiet is.0 verdict made.next)
         | inr d ↦ by d.0 d.1 d.2 d.3
@@ -180,7 +179,7 @@ module _ {P C S : Type 0} (g : PortGhosts P) (c : CallerGhosts C S) (x : CorePar
               let reply = reply_by verdict (Some t.transfer) t.replies.got in
               let decided : reply ≡ reply_by due (Some p.transfer) got = reply-is unsettled verdict
               ∙ ap (λ (o : Option Errno). reply_by o (Some p.transfer) got) is in
-              let first2 : first_act (walk_left x.board t) ≡ Some (Settle verdict) = subst
+              let first2 : first_act (walk_left t) ≡ Some (Settle verdict) = subst
               (λ (w : WalkTree). first_act w ≡ Some (Settle verdict)) (sym heard.walk) (decides.first
               ∙ ap (λ (o : Option Errno). Some (Settle o)) (sym is)) in
               let message = message_entry p next sent.addr sent.reading bytes sent.heard sent.end in
@@ -212,14 +211,14 @@ module _ {P C S : Type 0} (g : PortGhosts P) (c : CallerGhosts C S) (x : CorePar
 
       -- EITHER, as it is told
       pub conversed : (u : Seat C) → new.seats.items ≡ set x.seats.items place u → (came : Bool)
-          → (came ≡ true → (verdict : Option Errno) × IsSettledIn x.board new.locks verdict j new.journal t u)
-          → (came ≡ false → (verdict : Option Errno) → next_of new.locks (walk_left x.board t) ≡ Some (Settle verdict) → ⊥)
+          → (came ≡ true → (verdict : Option Errno) × IsSettledIn new.locks verdict j new.journal t u)
+          → (came ≡ false → (verdict : Option Errno) → next_of new.locks (walk_left t) ≡ Some (Settle verdict) → ⊥)
           → (came ≡ false → (u ≡ t) × (new.journal ≡ j)) → IsKept g c new × HasStepped g c place x new
       conversed u seats true made none stays =
           let m = made refl in
-          conversed-settled m.0 u seats (subst (λ (v : LocksView). IsSettledIn x.board v m.0 j new.journal t u) locks m.1)
+          conversed-settled m.0 u seats (subst (λ (v : LocksView). IsSettledIn v m.0 j new.journal t u) locks m.1)
       conversed u seats false made none stays =
           let st = stays refl in
           conversed-quiet (seats ∙ ap (set x.seats.items place) st.0) st.1
           (λ verdict comes. none refl verdict
-          (subst (λ (v : LocksView). next_of v (walk_left x.board t) ≡ Some (Settle verdict)) (sym locks) comes))
+          (subst (λ (v : LocksView). next_of v (walk_left t) ≡ Some (Settle verdict)) (sym locks) comes))

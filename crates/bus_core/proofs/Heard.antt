@@ -12,7 +12,7 @@ use Rattle.i2c_base.specs.declared.reply.Reply.{Reply}
 use Rattle.i2c_base.specs.Board.{BoardView}
 use Rattle.i2c_base.specs.Need.{Covers}
 use Rattle.i2c_base.specs.Transfer.{TransferView}
-use Rattle.i2c_spec.specs.Messages.{MessageView, messages_of}
+use Rattle.i2c_spec.specs.Messages.{MessageView}
 use Rattle.i2c_spec.specs.Tree.{buses, root_of}
 use Rattle.bus_spec.specs.Grammar.{is_over, first_act, rest_of}
 use Rattle.bus_spec.specs.Past.{got_after}
@@ -66,10 +66,10 @@ settle-first v (Look ask next) verdict e = absurd (let f : None ≡ Some (Settle
 settle-first v (Then act note next) verdict e = (e, refl)
 
 -- another walk, replies and counts
-place_with : {C S : Type 0} (c : CallerGhosts C S) (b : BoardView) (s t : Seat C) (q : Place) → place_of c b t ≡ q
+place_with : {C S : Type 0} (c : CallerGhosts C S) (s t : Seat C) (q : Place) → place_of c t ≡ q
     → (owed : List Reply) (w : WalkTree) (sent : ℕ) (got : List ℕ) → q.owed ≡ owed → q.tree ≡ w → q.sent ≡ sent → q.got ≡ got
-    → place_of c b t ≡ record q { owed = owed; tree = w; sent = sent; got = got }
-place_with c b s t q is owed w sent got o tr se go =
+    → place_of c t ≡ record q { owed = owed; tree = w; sent = sent; got = got }
+place_with c s t q is owed w sent got o tr se go =
     is
     ∙ ap (λ (y : List Reply). record q { owed = y }) o
     ∙ ap (λ (y : WalkTree). record q { owed = owed; tree = y }) tr
@@ -79,7 +79,7 @@ place_with c b s t q is owed w sent got o tr se go =
 module _ {C S : Type 0} (c : CallerGhosts C S) (b : BoardView) (v : LocksView) (roots : List ℕ) where
   -- A MESSAGE
   module _ (job : Job) (more : ℕ) (next : NextMsg) (of : IsMessageOf job more next) (reading : Bool) (bytes : List ℕ) (e : End)
-      (s t : Seat C) (heard : HasHeard b v next reading bytes e s t)
+      (s t : Seat C) (heard : HasHeard v next reading bytes e s t)
       (none : (bus : ℕ) (ms : List MessageView) → job ≡ Call bus ms → has_reply (owed_by s.decided s.replies) ≡ false) where
     replies : t.replies ≡ record s.replies { got = got_heard (job_purpose job) reading bytes s.replies.got }
     replies = heard.got ∙ ap (λ (y : Purpose). record s.replies { got = got_heard y reading bytes s.replies.got }) of.for_purpose
@@ -87,25 +87,25 @@ module _ {C S : Type 0} (c : CallerGhosts C S) (b : BoardView) (v : LocksView) (
     pub heard-gone : t.sent ≡ gone_after s.sent job e
     heard-gone = heard.gone ∙ ap (λ (y : Purpose). if is_call_through y e then s.sent + 1 else s.sent) of.for_purpose
 
-    pub heard-place : place_of c b t ≡ record (place_of c b s) {
-      tree = behind_of v (walk_left b s) (walk.Sent e bytes);
+    pub heard-place : place_of c t ≡ record (place_of c s) {
+      tree = behind_of v (walk_left s) (walk.Sent e bytes);
       sent = gone_after s.sent job e;
       got = got_after job reading bytes (got_by s.decided s.replies);
       cut = message_cut next.purpose next.part e;
     }
     heard-place =
-        place_with c b s t (place_of c b
+        place_with c s t (place_of c
         (record s {
           walk = t.walk;
           sent = t.sent;
           written = t.written;
           replies = t.replies;
           cut = message_cut next.purpose next.part e;
-        })) (ap (place_of c b) heard.same)
-        (owed_by s.decided s.replies) (behind_of v (walk_left b s) (walk.Sent e bytes)) (gone_after s.sent job e)
+        })) (ap (place_of c) heard.same)
+        (owed_by s.decided s.replies) (behind_of v (walk_left s) (walk.Sent e bytes)) (gone_after s.sent job e)
         (got_after job reading bytes (got_by s.decided s.replies))
         (ap (owed_by s.decided) replies ∙ owed_same s.decided s.replies job reading bytes none)
-        (sym (ap (walk_left b) heard.same) ∙ heard.walk) heard-gone
+        (sym (ap walk_left heard.same) ∙ heard.walk) heard-gone
         (ap (got_by s.decided) replies ∙ got_more s.decided s.replies job reading bytes none)
 
     -- what it has read
@@ -122,13 +122,12 @@ module _ {C S : Type 0} (c : CallerGhosts C S) (b : BoardView) (v : LocksView) (
         let g : t.sent ≡ s.sent + 1 = gone in omega (arith, low, g))
     heard_within seated left false is gone = (let g : t.sent ≡ s.sent = gone in omega (arith, g, seated.within))
 
-    pub heard-seated : IsSeated c b roots s → is_over (walk_left b s) ≡ false → s.transfer.bus < buses b
+    pub heard-seated : IsSeated c b roots s → is_over (walk_left s) ≡ false → s.transfer.bus < buses b
         → (next.purpose ≡ purpose.Call → s.sent < length s.transfer.msgs) → IsSeated c b roots t
     heard-seated seated going low left =
         let transfer : t.transfer ≡ s.transfer = ap (λ (y : Seat C). y.transfer) heard.same in
         record {
-          counted = ap (λ (y : TransferView). length (messages_of y)) transfer ∙ seated.counted
-              ∙ sym (ap (λ (y : RouteView). y.count) heard.route);
+          on = ap (λ (y : RouteView). y.board) heard.route ∙ seated.on;
           wrote = heard.wrote;
           within = subst (λ (y : TransferView). t.sent ≤ length y.msgs) (sym transfer)
               (heard_within seated left (is_call_through next.purpose e) refl heard.gone);
@@ -140,20 +139,20 @@ module _ {C S : Type 0} (c : CallerGhosts C S) (b : BoardView) (v : LocksView) (
         }
 
   -- A LINE STEP
-  module _ (out : ActOutcome) (cut : Cut) (s t : Seat C) (went : WentOn b v out cut s t) where
-    pub went-on-place : place_of c b t ≡ record (place_of c b s) { tree = behind_of v (walk_left b s) out; cut = cut }
+  module _ (out : ActOutcome) (cut : Cut) (s t : Seat C) (went : WentOn v out cut s t) where
+    pub went-on-place : place_of c t ≡ record (place_of c s) { tree = behind_of v (walk_left s) out; cut = cut }
     went-on-place =
-        ap (place_of c b) went.same ∙ ap (λ (y : WalkTree). record (place_of c b s) { tree = y; cut = cut })
-        (sym (ap (walk_left b) went.same) ∙ went.walk)
+        ap (place_of c) went.same ∙ ap (λ (y : WalkTree). record (place_of c s) { tree = y; cut = cut })
+        (sym (ap walk_left went.same) ∙ went.walk)
 
   -- THE SETTLE behind either
-  module _ (verdict : Option Errno) (t u : Seat C) (settled : HasSettled b v verdict t u) where
+  module _ (verdict : Option Errno) (t u : Seat C) (settled : HasSettled v verdict t u) where
     pub settled-place : (reply : Reply) → reply_by verdict (Some t.transfer) t.replies.got ≡ reply
-        → first_act (walk_left b t) ≡ Some (Settle verdict)
-        → place_of c b u ≡ record (place_of c b t) { tree = rest_of (walk_left b t) Passed; owed = reply ∷ []; got = []; cut = cut_at.No }
+        → first_act (walk_left t) ≡ Some (Settle verdict)
+        → place_of c u ≡ record (place_of c t) { tree = rest_of (walk_left t) Passed; owed = reply ∷ []; got = []; cut = cut_at.No }
     settled-place reply is first =
-        place_with c b t u (place_of c b (record t { walk = u.walk; replies = u.replies; decided = u.decided; cut = cut_at.No }))
-        (ap (place_of c b) settled.same)
-        (reply ∷ []) (rest_of (walk_left b t) Passed) t.sent []
+        place_with c t u (place_of c (record t { walk = u.walk; replies = u.replies; decided = u.decided; cut = cut_at.No }))
+        (ap (place_of c) settled.same)
+        (reply ∷ []) (rest_of (walk_left t) Passed) t.sent []
         (settled.owed ∙ ap (λ (r : Reply). r ∷ []) is)
-        (sym (ap (walk_left b) settled.same) ∙ settled.walk ∙ (settle-first v (walk_left b t) verdict first).1) refl settled.emptied
+        (sym (ap walk_left settled.same) ∙ settled.walk ∙ (settle-first v (walk_left t) verdict first).1) refl settled.emptied

@@ -129,15 +129,15 @@ module _ {P C S : Type 0} (g : PortGhosts P) (c : CallerGhosts C S) (x : CorePar
   once i k s t at to same =
       kept.kept.distinct i k t.number
       (subst (λ (n : ℕ). slice_get (numbers_of whole.places) i ≡ Some n) same
-      (map_at (λ (p : Place). p.number) whole.places i (place_of c board s) (map_at (place_of c board) x.seats.items i s at)))
-      (map_at (λ (p : Place). p.number) whole.places k (place_of c board t) (map_at (place_of c board) x.seats.items k t to))
+      (map_at (λ (p : Place). p.number) whole.places i (place_of c s) (map_at (place_of c) x.seats.items i s at)))
+      (map_at (λ (p : Place). p.number) whole.places k (place_of c t) (map_at (place_of c) x.seats.items k t to))
 
   module _ (place : ℕ) (s : Seat C) (here : slice_get x.seats.items place ≡ Some s) where
-    pub place-here : slice_get whole.places place ≡ Some (place_of c board s)
-    place-here = map_at (place_of c board) x.seats.items place s here
+    pub place-here : slice_get whole.places place ≡ Some (place_of c s)
+    place-here = map_at (place_of c) x.seats.items place s here
 
     pub number-small : s.number < MOST_CALLERS
-    number-small = kept.kept.below place (place_of c board s) place-here
+    number-small = kept.kept.below place (place_of c s) place-here
 
     script-here : script_at (scripts_of c x.seats.items) s.number ≡ Some (c.script s.caller)
     script-here = script-own c x.seats.items once place s here
@@ -166,7 +166,7 @@ module _ {P C S : Type 0} (g : PortGhosts P) (c : CallerGhosts C S) (x : CorePar
             past = reverse new.journal.entries;
             room = new.journal.room;
             room_bytes = new.journal.room_bytes;
-            places = set whole.places place (place_of c board t);
+            places = set whole.places place (place_of c t);
             held = held;
             owes = owes;
             locks = new.locks;
@@ -178,12 +178,12 @@ module _ {P C S : Type 0} (g : PortGhosts P) (c : CallerGhosts C S) (x : CorePar
         set_up = by_board (λ (b : BoardView). IsSetUp c.asked c.left c.board b (scripts_of c new.seats.items) (roots_of new.ports.items))
             (subst (λ (xs : List (ℕ × S)). IsSetUp c.asked c.left c.board board xs (roots_of new.ports.items)) (sym new-scripts)
             (subst (λ (rs : List ℕ). IsSetUp c.asked c.left c.board board (scripts_of c x.seats.items) rs) (sym roots) kept.set_up));
-        kept = by_board (λ (b : BoardView). CoreKept (run_of g c (record new { board = b })) (behind (places_of c b new.seats.items)))
+        kept = by_board (λ (b : BoardView). CoreKept (run_of g c (record new { board = b })) (behind (places_of c new.seats.items)))
             (subst (λ (xs : List (ℕ × S)). CoreKept
             (record { board = board; tells = g.tells; asks = asks_of c.asked xs; left = left_of c.left xs; callers = MOST_CALLERS })
-            (behind (places_of c board new.seats.items))) (sym new-scripts)
+            (behind (places_of c new.seats.items))) (sym new-scripts)
             (subst (λ (ps : List Place). CoreKept (run_of g c x) (behind ps))
-            (sym (ap (places_of c board) seats ∙ map-set (place_of c board) x.seats.items place t)) core));
+            (sym (ap (places_of c) seats ∙ map-set (place_of c) x.seats.items place t)) core));
         seated = λ i u at.
             by_board (λ (b : BoardView). IsSeated c b (roots_of new.ports.items) u)
             (subst (λ (rs : List ℕ). IsSeated c board rs u) (sym roots)
@@ -203,7 +203,7 @@ module _ {P C S : Type 0} (g : PortGhosts P) (c : CallerGhosts C S) (x : CorePar
       -- .. where the plain lists are these
       pub kept-whole : IsSeated c board (roots_of x.ports.items) t → (w : Whole) → CoreKept (run_of g c x) w
           → reverse new.journal.entries ≡ w.past → new.journal.room ≡ w.room → new.journal.room_bytes ≡ w.room_bytes
-          → set whole.places place (place_of c board t) ≡ w.places
+          → set whole.places place (place_of c t) ≡ w.places
           → new.locks ≡ w.locks → root_ports g new.ports.items ≡ w.sockets → IsKept g c new
       kept-whole seated w core past room room_bytes places locks sockets =
           kept-by seated w.held w.owes
@@ -212,7 +212,7 @@ module _ {P C S : Type 0} (g : PortGhosts P) (c : CallerGhosts C S) (x : CorePar
             past = y;
             room = new.journal.room;
             room_bytes = new.journal.room_bytes;
-            places = set whole.places place (place_of c board t);
+            places = set whole.places place (place_of c t);
             locks = new.locks;
             sockets = root_ports g new.ports.items;
           })) (sym past)
@@ -220,14 +220,14 @@ module _ {P C S : Type 0} (g : PortGhosts P) (c : CallerGhosts C S) (x : CorePar
           (record w {
             room = y;
             room_bytes = new.journal.room_bytes;
-            places = set whole.places place (place_of c board t);
+            places = set whole.places place (place_of c t);
             locks = new.locks;
             sockets = root_ports g new.ports.items;
           })) (sym room)
           (subst (λ (y : ℕ). CoreKept (run_of g c x)
           (record w {
             room_bytes = y;
-            places = set whole.places place (place_of c board t);
+            places = set whole.places place (place_of c t);
             locks = new.locks;
             sockets = root_ports g new.ports.items;
           })) (sym room_bytes)
@@ -280,7 +280,7 @@ abbrev pub standing : {P C S : Type 0} (g : PortGhosts P) (c : CallerGhosts C S)
 standing g c x kept place s here =
     let run = run_of g c x in
     let whole = whole_of g c x kept.held kept.owes in
-    let p = place_of c x.board s in
+    let p = place_of c s in
     let at = place-here g c x kept place s here in
     record {
       run = run;

@@ -42,11 +42,11 @@ is_given Q R (Ok a) good bad none = good
 is_given Q R (Err h) good bad none = absurd (none h bad)
 
 -- where a seat went on, all that is told of its caller is as before but for its walk and its cut
-pub went-place : {C S : Type 0} (c : CallerGhosts C S) (b : BoardView) (s t : Seat C) (w : WalkTree) (cut : Cut)
-    → t ≡ record s { walk = t.walk; cut = cut } → walk_left b t ≡ w
-    → place_of c b t ≡ record (place_of c b s) { tree = w; cut = cut }
-went-place c b s t w cut same walk =
-    ap (place_of c b) same ∙ ap (λ (y : WalkTree). record (place_of c b s) { tree = y; cut = cut }) (sym (ap (walk_left b) same) ∙ walk)
+pub went-place : {C S : Type 0} (c : CallerGhosts C S) (s t : Seat C) (w : WalkTree) (cut : Cut)
+    → t ≡ record s { walk = t.walk; cut = cut } → walk_left t ≡ w
+    → place_of c t ≡ record (place_of c s) { tree = w; cut = cut }
+went-place c s t w cut same walk =
+    ap (place_of c) same ∙ ap (λ (y : WalkTree). record (place_of c s) { tree = y; cut = cut }) (sym (ap walk_left same) ∙ walk)
 
 -- two that tell the same are the same
 pub same_place : (p q : Place) → p.number ≡ q.number → p.taken ≡ q.taken → p.owed ≡ q.owed → p.transfer ≡ q.transfer → p.tree ≡ q.tree
@@ -69,10 +69,10 @@ one-owed (Some d) rs e = (reply_decided d rs, refl)
 -- behind its end a seat shows its next transfer, or that there is none
 module _ {C S : Type 0} (c : CallerGhosts C S) (b : BoardView) (r : Reply) (s t : Seat C) (ended : HasEnded c b r cut_at.No s t) where
   pub ended-place : (replies : List Reply) → replies ≡ c.taken s.caller ++ r ∷ [] → (x : TransferView) (w : WalkTree) → t.transfer ≡ x
-      → walk_left b t ≡ w
-      → place_of c b t ≡ begun_with (place_of c b s) replies x w
+      → walk_left t ≡ w
+      → place_of c t ≡ begun_with (place_of c s) replies x w
   ended-place replies are x w transfer tree =
-      same_place (place_of c b t) (begun_with (place_of c b s) replies x w) ended.number (ended.handed.taken ∙ sym are)
+      same_place (place_of c t) (begun_with (place_of c s) replies x w) ended.number (ended.handed.taken ∙ sym are)
       (ap (λ (o : Option Decided). owed_by o t.replies) ended.loaded.undecided) transfer tree ended.loaded.sent
       (ap (λ (o : Option Decided). got_by o t.replies) ended.loaded.undecided ∙ ended.loaded.unread) ended.cut_is
 
@@ -80,17 +80,17 @@ module _ {P C S : Type 0} (g : PortGhosts P) (c : CallerGhosts C S) (x : CorePar
     (here : slice_get x.seats.items place ≡ Some s) where
   open standing g c x kept place s here use {run, whole, p, at, ls, n}
 
-  pub comes-here : (act : Act) → ComesAt x place act → next_of x.locks (walk_left x.board s) ≡ Some act
+  pub comes-here : (act : Act) → ComesAt x place act → next_of x.locks (walk_left s) ≡ Some act
   comes-here act comes = (let is : comes.seat ≡ s = same_seat x.seats.items place comes.seat s comes.here here in
-      subst (λ (y : Seat C). next_of x.locks (walk_left x.board y) ≡ Some act) is comes.next)
+      subst (λ (y : Seat C). next_of x.locks (walk_left y) ≡ Some act) is comes.next)
 
-  module _ (l : LockId) (first : next_of x.locks (walk_left x.board s) ≡ Some (Take l)) where
+  module _ (l : LockId) (first : next_of x.locks (walk_left s) ≡ Some (Take l)) where
     pub take-room : 1 ≤ x.journal.room
     take-room = room-one run whole kept.kept place p at (Take l) first
 
     module _ (free : holder_in x.locks l ≡ None) (new : CoreParts P C) (t : Seat C) (same_board : new.board ≡ x.board)
         (seats : new.seats.items ≡ set x.seats.items place t)
-        (went : WentOn x.board x.locks Passed cut_at.No s t) (locks : new.locks ≡ with_holder x.locks l (Some s.number))
+        (went : WentOn x.locks Passed cut_at.No s t) (locks : new.locks ≡ with_holder x.locks l (Some s.number))
         (ports : new.ports ≡ x.ports)
         (entries : new.journal.entries ≡ x.journal.entries ++ entry.Take s.number l ∷ []) (room : new.journal.room + 1 ≡ x.journal.room)
         (room_bytes : new.journal.room_bytes ≡ x.journal.room_bytes) where
@@ -110,7 +110,7 @@ module _ {P C S : Type 0} (g : PortGhosts P) (c : CallerGhosts C S) (x : CorePar
           kept-whole g c x kept place s here new t same_board seats (ap (λ (y : Seat C). y.number) went.same)
           (ap (λ (y : Seat C). c.script y.caller) went.same) (ap (λ (y : _). roots_of y.items) ports) seated _ core
           (ap reverse entries ∙ reverse-append x.journal.entries (entry.Take s.number l ∷ [])) refl room_bytes
-          (ap (set whole.places place) (went-place c x.board s t _ cut_at.No went.same went.walk)) locks
+          (ap (set whole.places place) (went-place c s t _ cut_at.No went.same went.walk)) locks
           (ap (λ (y : _). root_ports g y.items) ports)
 
       pub take-stepped : new.start ≡ x.start → new.places ≡ x.places → HasStepped g c place x new
@@ -119,7 +119,7 @@ module _ {P C S : Type 0} (g : PortGhosts P) (c : CallerGhosts C S) (x : CorePar
           (ap (λ (y : Seat C). c.script y.caller) went.same) (ap (λ (y : _). roots_of y.items) ports)
           start places (entry.Take s.number l) entries room refl refl (λ tell. (core.told tell).stepwise)
 
-  module _ (l : LockId) (first : next_of x.locks (walk_left x.board s) ≡ Some (Free l)) where
+  module _ (l : LockId) (first : next_of x.locks (walk_left s) ≡ Some (Free l)) where
     pub free-room : 1 ≤ x.journal.room
     free-room = room-one run whole kept.kept place p at (Free l) first
 
@@ -136,9 +136,9 @@ module _ {P C S : Type 0} (g : PortGhosts P) (c : CallerGhosts C S) (x : CorePar
 
     -- its number stays, whether its walk goes on or has ended
     pub freed-number : (t : Seat C) → HasFreed c x.board x.locks (roots_of x.ports.items) s t → t.number ≡ s.number
-    freed-number t freed = by (is_over (behind_of x.locks (walk_left x.board s) Passed)) refl
+    freed-number t freed = by (is_over (behind_of x.locks (walk_left s) Passed)) refl
       where
-        by : (over : Bool) → is_over (behind_of x.locks (walk_left x.board s) Passed) ≡ over → t.number ≡ s.number
+        by : (over : Bool) → is_over (behind_of x.locks (walk_left s) Passed) ≡ over → t.number ≡ s.number
         by true ends = (let owed = one-owed s.decided s.replies (end-owes run whole kept.kept place p at l first ends) in
             (freed.ended ends owed.0 owed.1).number)
         by false goes = ap (λ (y : Seat C). y.number) (freed.on goes).same
@@ -155,7 +155,7 @@ module _ {P C S : Type 0} (g : PortGhosts P) (c : CallerGhosts C S) (x : CorePar
       past : reverse new.journal.entries ≡ entry.Free s.number l ∷ reverse x.journal.entries
       past = ap reverse entries ∙ reverse-append x.journal.entries (entry.Free s.number l ∷ [])
 
-      by-whole : t.number ≡ s.number → c.script t.caller ≡ c.script s.caller → (q : Place) → place_of c x.board t ≡ q
+      by-whole : t.number ≡ s.number → c.script t.caller ≡ c.script s.caller → (q : Place) → place_of c t ≡ q
           → (ks : List LockId) (m : ℕ)
           → CoreKept run (record (with_place whole place q ks m) {
             past = entry.Free s.number l ∷ whole.past;
@@ -170,15 +170,15 @@ module _ {P C S : Type 0} (g : PortGhosts P) (c : CallerGhosts C S) (x : CorePar
             (entry.Free s.number l) entries room refl refl (λ tell. (core.told tell).stepwise),
       )
 
-      freed-on : is_over (behind_of x.locks (walk_left x.board s) Passed) ≡ false → IsKept g c new × HasStepped g c place x new
+      freed-on : is_over (behind_of x.locks (walk_left s) Passed) ≡ false → IsKept g c new × HasStepped g c place x new
       freed-on goes =
           let went = freed.on goes in
           by-whole (ap (λ (y : Seat C). y.number) went.same) (ap (λ (y : Seat C). c.script y.caller) went.same) (passed whole p)
-          (went-place c x.board s t _ cut_at.No went.same went.walk) _ _
+          (went-place c s t _ cut_at.No went.same went.walk) _ _
           (core-freed run (fair g c x kept) whole kept.kept place p ls n
           (standing g c x kept place s here).stands new.journal.room l first goes (sym room))
 
-      freed-ended : is_over (behind_of x.locks (walk_left x.board s) Passed) ≡ true → IsKept g c new × HasStepped g c place x new
+      freed-ended : is_over (behind_of x.locks (walk_left s) Passed) ≡ true → IsKept g c new × HasStepped g c place x new
       freed-ended ends =
           let owed = one-owed s.decided s.replies (end-owes run whole kept.kept place p at l first ends) in
           let its = freed.ended ends owed.0 owed.1 in
@@ -203,14 +203,14 @@ module _ {P C S : Type 0} (g : PortGhosts P) (c : CallerGhosts C S) (x : CorePar
               by-whole its.number its.handed.script (begun_with p (p.taken ++ p.owed) p.transfer Ends)
               (ended-place c x.board owed.0 s t its (p.taken ++ p.owed)
               (ap (λ (rs : List Reply). c.taken s.caller ++ rs) owed.1) p.transfer Ends (its.stays is)
-              (over_ends (walk_left x.board t) (its.loaded.none is))) _ _
+              (over_ends (walk_left t) (its.loaded.none is))) _ _
               (core-finished run (fair g c x kept) whole kept.kept place p ls n
               (standing g c x kept place s here).stands new.journal.room l first ends owed.0 owed.1 (sym room) (sym asks ∙ is))
 
       pub free-kept : IsKept g c new × HasStepped g c place x new
-      free-kept = by (is_over (behind_of x.locks (walk_left x.board s) Passed)) refl
+      free-kept = by (is_over (behind_of x.locks (walk_left s) Passed)) refl
         where
-          by : (over : Bool) → is_over (behind_of x.locks (walk_left x.board s) Passed) ≡ over
+          by : (over : Bool) → is_over (behind_of x.locks (walk_left s) Passed) ≡ over
               → IsKept g c new × HasStepped g c place x new
           by true e = freed-ended e
           by false e = freed-on e

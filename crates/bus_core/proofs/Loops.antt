@@ -187,27 +187,27 @@ module _ {P C S : Type 0} (g : PortGhosts P) (c : CallerGhosts C S) (x : CorePar
         → IsHeldUp (holder_in x.locks) (slots_of (seen_of x.locks)) w
     held-up i w at =
         let p = map_from (λ (y : Place). y.tree) whole.places i w at in
-        let s = map_from (place_of c b) x.seats.items i p.0 p.1 in
+        let s = map_from (place_of c) x.seats.items i p.0 p.1 in
         let its = up s.0.number i (core.placed.named i s.0.number (c.script s.0.caller) (map_at (script_of c) x.seats.items i s.0 s.1)) in
         let same : its.seat ≡ s.0 = same_seat x.seats.items i its.seat s.0 its.here s.1 in
-        subst (IsHeldUp (holder_in x.locks) (slots_of (seen_of x.locks))) (ap (walk_left b) same ∙ ap (λ (y : Place). y.tree) s.2
+        subst (IsHeldUp (holder_in x.locks) (slots_of (seen_of x.locks))) (ap walk_left same ∙ ap (λ (y : Place). y.tree) s.2
         ∙ p.2) its.waits
 
     pub all-through : AllThrough c.asked g.tells (state_of g c x)
     all-through i n taken at =
         let s = map_from (λ (y : Seat C). (y.number, c.taken y.caller)) x.seats.items i (n, taken) at in
         let here = place-here g c x core.kept i s.0 s.1 in
-        let done = all-finished (run_of g c x) whole core.kept.kept held-up i (place_of c b s.0) here in
+        let done = all-finished (run_of g c x) whole core.kept.kept held-up i (place_of c s.0) here in
         let number : s.0.number ≡ n = ap (λ (y : ℕ × List Reply). y.0) s.2 in
         let replies : c.taken s.0.caller ≡ taken = ap (λ (y : ℕ × List Reply). y.1) s.2 in
-        let over : walk_left b s.0 ≡ Ends = over_ends (walk_left b s.0)
-        (finished-over (run_of g c x) whole core.kept.kept i (place_of c b s.0) here
-        (asks-finished (run_of g c x) whole core.kept.kept i (place_of c b s.0) here done.0)) in
+        let over : walk_left s.0 ≡ Ends = over_ends (walk_left s.0)
+        (finished-over (run_of g c x) whole core.kept.kept i (place_of c s.0) here
+        (asks-finished (run_of g c x) whole core.kept.kept i (place_of c s.0) here done.0)) in
         let told : (tell : IsTrue g.tells)
-        → CallerTold b asks (now b asks past) s.0.number (walk_left b s.0) (c.taken s.0.caller ++ (place_of c b s.0).owed)
-        (place_of c b s.0).got s.0.cut =
-        (λ tell. (core.kept.kept.told tell).spots_told i (spot_of (place_of c b s.0))
-        (map_at spot_of whole.places i (place_of c b s.0) here)) in
+        → CallerTold b asks (now b asks past) s.0.number (walk_left s.0) (c.taken s.0.caller ++ (place_of c s.0).owed)
+        (place_of c s.0).got s.0.cut =
+        (λ tell. (core.kept.kept.told tell).spots_told i (spot_of (place_of c s.0))
+        (map_at spot_of whole.places i (place_of c s.0) here)) in
         record {
           asks = subst (λ (k : ℕ). asks k taken ≡ None) number (subst (λ (rs : List Reply). asks s.0.number rs ≡ None) replies done.0);
           walk = λ tell. subst (λ (k : ℕ). (now b asks past).walk k ≡ Ends) number

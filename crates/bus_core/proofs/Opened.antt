@@ -76,7 +76,7 @@ module _ {P C S : Type 0} (p : PortGhosts P) (c : CallerGhosts C S) (x : CorePar
   run = run_of p c x
 
   abbrev held : List (List LockId)
-  held = map (λ (q : Place). []) (places_of c b seats)
+  held = map (λ (q : Place). []) (places_of c seats)
 
   abbrev owes : List ℕ
   owes = lefts c scripts
@@ -143,24 +143,24 @@ module _ {P C S : Type 0} (p : PortGhosts P) (c : CallerGhosts C S) (x : CorePar
     got-none = ap (λ (d : Option Decided). got_by d s.replies) of.fresh.loaded.undecided ∙ of.fresh.loaded.unread
 
     -- it stands where its caller begins
-    place-fresh : (w : WalkTree) → walk_left b s ≡ w → place_of c b s ≡ starting s.number s.transfer w
+    place-fresh : (w : WalkTree) → walk_left s ≡ w → place_of c s ≡ starting s.number s.transfer w
     place-fresh w is =
-        ap (λ (rs : List Reply). record (place_of c b s) { taken = rs }) taken-none
-        ∙ ap (λ (rs : List Reply). record (place_of c b s) { taken = []; owed = rs }) owed-none
-        ∙ ap (λ (v : WalkTree). record (place_of c b s) { taken = []; owed = []; tree = v }) is
-        ∙ ap (λ (n : ℕ). record (place_of c b s) { taken = []; owed = []; tree = w; sent = n }) of.fresh.loaded.sent
-        ∙ ap (λ (g : List ℕ). record (place_of c b s) { taken = []; owed = []; tree = w; sent = 0; got = g }) got-none
-        ∙ ap (λ (k : _). record (place_of c b s) { taken = []; owed = []; tree = w; sent = 0; got = []; cut = k }) of.fresh.cut
+        ap (λ (rs : List Reply). record (place_of c s) { taken = rs }) taken-none
+        ∙ ap (λ (rs : List Reply). record (place_of c s) { taken = []; owed = rs }) owed-none
+        ∙ ap (λ (v : WalkTree). record (place_of c s) { taken = []; owed = []; tree = v }) is
+        ∙ ap (λ (n : ℕ). record (place_of c s) { taken = []; owed = []; tree = w; sent = n }) of.fresh.loaded.sent
+        ∙ ap (λ (g : List ℕ). record (place_of c s) { taken = []; owed = []; tree = w; sent = 0; got = g }) got-none
+        ∙ ap (λ (k : _). record (place_of c s) { taken = []; owed = []; tree = w; sent = 0; got = []; cut = k }) of.fresh.cut
 
-    begins : walk_left b s ≡ begun b (run.asks s.number [])
+    begins : walk_left s ≡ begun b (run.asks s.number [])
     begins =
-        asks_or_not (run.asks s.number []) (walk_left b s ≡ begun b (run.asks s.number []))
+        asks_or_not (run.asks s.number []) (walk_left s ≡ begun b (run.asks s.number []))
         (λ t is. (of.fresh.loaded.some t (asked-now ∙ is)).1 ∙ ap (begun b) (sym is))
-        (λ none. over_ends (walk_left b s) (of.fresh.loaded.none (asked-now ∙ none)) ∙ ap (begun b) (sym none))
+        (λ none. over_ends (walk_left s) (of.fresh.loaded.none (asked-now ∙ none)) ∙ ap (begun b) (sym none))
 
-    seat-fresh : (n : ℕ) → slice_get owes i ≡ Some n → SeatKept run (place_of c b s) [] n
+    seat-fresh : (n : ℕ) → slice_get owes i ≡ Some n → SeatKept run (place_of c s) [] n
     seat-fresh n owing =
-        asks_or_not (run.asks s.number []) (SeatKept run (place_of c b s) [] n)
+        asks_or_not (run.asks s.number []) (SeatKept run (place_of c s) [] n)
         (λ t is.
         let loaded = of.fresh.loaded.some t (asked-now ∙ is) in
         subst (λ (q : Place). SeatKept run q [] n)
@@ -168,7 +168,7 @@ module _ {P C S : Type 0} (p : PortGhosts P) (c : CallerGhosts C S) (x : CorePar
         (seat-loaded run fair s.number [] t is n enough))
         (λ none.
         subst (λ (q : Place). SeatKept run q [] n)
-        (sym (place-fresh Ends (over_ends (walk_left b s) (of.fresh.loaded.none (asked-now ∙ none)))))
+        (sym (place-fresh Ends (over_ends (walk_left s) (of.fresh.loaded.none (asked-now ∙ none)))))
         (seat-over run fair s.number [] s.transfer none n))
       where
         enough : run.left s.number [] ≤ n
@@ -194,13 +194,13 @@ module _ {P C S : Type 0} (p : PortGhosts P) (c : CallerGhosts C S) (x : CorePar
     is-opened = record {
       nothing = ap (λ (j : JournalView). reverse j.entries) blank;
       distinct = λ i k n at to.
-          let q = map_from (λ (y : Place). y.number) (places_of c b seats) i n at in
-          let r = map_from (λ (y : Place). y.number) (places_of c b seats) k n to in
-          let s = map_from (place_of c b) seats i q.0 q.1 in
-          let t = map_from (place_of c b) seats k r.0 r.1 in
+          let q = map_from (λ (y : Place). y.number) (places_of c seats) i n at in
+          let r = map_from (λ (y : Place). y.number) (places_of c seats) k n to in
+          let s = map_from (place_of c) seats i q.0 q.1 in
+          let t = map_from (place_of c) seats k r.0 r.1 in
           distinct-seats i k n s.0 t.0 s.1 t.1 (ap (λ (y : Place). y.number) s.2 ∙ q.2) (ap (λ (y : Place). y.number) t.2 ∙ r.2);
       below = λ i q at.
-          let s = map_from (place_of c b) seats i q at in
+          let s = map_from (place_of c) seats i q at in
           let of = of-seat i s.0 s.1 in
           subst (λ (n : ℕ). n < MOST_CALLERS) (sym of.fresh.number_is ∙ ap (λ (y : Place). y.number) s.2) (may.below i of.of of.here);
       once = λ i k y z at to same.
@@ -209,20 +209,20 @@ module _ {P C S : Type 0} (p : PortGhosts P) (c : CallerGhosts C S) (x : CorePar
           may.once i k z.root
           (map_at (λ (w : ℕ × P). w.0) x.ports.items i q.0 q.1 ∙ ap (λ (j : ℕ). Some j) (ap (λ (w : RootPort). w.root) q.2 ∙ same))
           (map_at (λ (w : ℕ × P). w.0) x.ports.items k r.0 r.1 ∙ ap (λ (j : ℕ). Some j) (ap (λ (w : RootPort). w.root) r.2));
-      counted = length-map scripts (λ (z : ℕ × S). c.left z.1 []) ∙ length-map seats (script_of c) ∙ sym (length-map seats (place_of c b));
+      counted = length-map scripts (λ (z : ℕ × S). c.left z.1 []) ∙ length-map seats (script_of c) ∙ sym (length-map seats (place_of c));
       none_held = refl;
       depths = depths;
       deep = deep;
       locks_free = locks;
       fresh = λ i q at.
-          let s = map_from (place_of c b) seats i q at in
+          let s = map_from (place_of c) seats i q at in
           subst (λ (y : Place). (y.taken ≡ []) × (y.owed ≡ []) × (y.got ≡ []) × (y.cut ≡ cut_at.No)) s.2
           (taken-none i s.0 s.1, owed-none i s.0 s.1, got-none i s.0 s.1, (of-seat i s.0 s.1).fresh.cut);
       loads = λ i q at.
-          let s = map_from (place_of c b) seats i q at in
+          let s = map_from (place_of c) seats i q at in
           subst (λ (y : Place). y.tree ≡ begun b (run.asks y.number [])) s.2 (begins i s.0 s.1);
       seats = λ i q n at owing.
-          let s = map_from (place_of c b) seats i q at in
+          let s = map_from (place_of c) seats i q at in
           subst (λ (y : Place). SeatKept run y [] n) s.2 (seat-fresh i s.0 s.1 n owing);
       idle = λ k y at.
           let q = map_from (root_port p) x.ports.items k y at in

@@ -31,10 +31,10 @@ use Rattle.bus_laws.proofs.past.StandsFacts.{over_ends}
 
 module _ {P C S : Type 0} (g : PortGhosts P) (c : CallerGhosts C S) (x : CoreParts P C) (kept : IsKept g c x) (place : ℕ) (s : Seat C)
     (here : slice_get x.seats.items place ≡ Some s)
-    (errno : Errno) (first : next_of x.locks (walk_left x.board s) ≡ Some (Settle (Some errno))) where
+    (errno : Errno) (first : next_of x.locks (walk_left s) ≡ Some (Settle (Some errno))) where
   open standing g c x kept place s here use {run, whole, p, at, ls, n}
 
-  lone : IsLone x.board (walk_left x.board s) × (p.owed ≡ [])
+  lone : IsLone x.board (walk_left s) × (p.owed ≡ [])
   lone = settle-lone run whole kept.kept place p at (Some errno) first
 
   pub may-refuse : MayRefuse c x.board (roots_of x.ports.items) errno x.journal s
@@ -92,7 +92,7 @@ module _ {P C S : Type 0} (g : PortGhosts P) (c : CallerGhosts C S) (x : CorePar
               };
         }
 
-    by-whole : (q : Place) → place_of c x.board t ≡ q → (ks : List LockId) (m : ℕ)
+    by-whole : (q : Place) → place_of c t ≡ q → (ks : List LockId) (m : ℕ)
         → CoreKept run (record (with_place whole place q ks m) { past = settle ∷ whole.past; room = new.journal.room })
         → IsKept g c new × HasStepped g c place x new
     by-whole q is ks m core = (
@@ -120,7 +120,7 @@ module _ {P C S : Type 0} (g : PortGhosts P) (c : CallerGhosts C S) (x : CorePar
         by None is =
             by-whole (begun_with p replies p.transfer Ends)
             (ended-place c x.board (answer.Err errno) s t refused.ended replies refl p.transfer Ends (refused.ended.stays is)
-            (over_ends (walk_left x.board t) (refused.ended.loaded.none is))) [] (n - 1)
+            (over_ends (walk_left t) (refused.ended.loaded.none is))) [] (n - 1)
             (core-lone-finished run (fair g c x kept) whole kept.kept place p ls n
             (standing g c x kept place s here).stands new.journal.room (Some errno) first (sym refused.room) (answer.Err errno) refl
             (sym asks ∙ is))

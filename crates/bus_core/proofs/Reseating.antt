@@ -40,7 +40,7 @@ still_going v Ends out h = absurd (let f : true ≡ false = h in cc)
 still_going v (Look ask next) out h = refl
 still_going v (Then act note next) out h = refl
 
-module _ {C : Type 0} (b : BoardView) (v : LocksView) (s m t : Seat C) where
+module _ {C : Type 0} (v : LocksView) (s m t : Seat C) where
   -- it counts a message, and goes on
   pub heard : (next : NextMsg) (reading : Bool) (bytes : List ℕ) (e : End)
       → m ≡ record s { sent = m.sent; written = m.written; replies = m.replies; cut = message_cut next.purpose next.part e }
@@ -48,14 +48,14 @@ module _ {C : Type 0} (b : BoardView) (v : LocksView) (s m t : Seat C) where
       → m.sent ≡ (if is_call_through next.purpose e then s.sent + 1 else s.sent)
       → m.replies ≡ record s.replies { got = got_heard next.purpose reading bytes s.replies.got }
       → m.written ≡ sum_by written_of (take m.sent m.transfer.msgs)
-      → walk_left b t ≡ behind_of v (walk_left b m) (Sent e bytes) → t.walk.route ≡ m.walk.route → HasHeard b v next reading bytes e s t
+      → walk_left t ≡ behind_of v (walk_left m) (Sent e bytes) → t.walk.route ≡ m.walk.route → HasHeard v next reading bytes e s t
   heard next reading bytes e counted went gone got wrote walk route =
-      subst (λ (x : Seat C). HasHeard b v next reading bytes e s x) (sym went)
+      subst (λ (x : Seat C). HasHeard v next reading bytes e s x) (sym went)
       (record {
         gone = gone;
         got = got;
         same = ap (λ (x : Seat C). record x { walk = t.walk }) counted;
-        walk = ap (walk_left b) (sym went) ∙ walk ∙ ap (λ (x : Seat C). behind_of v (walk_left b x) (Sent e bytes)) counted;
+        walk = ap walk_left (sym went) ∙ walk ∙ ap (λ (x : Seat C). behind_of v (walk_left x) (Sent e bytes)) counted;
         wrote = wrote;
         route = route ∙ ap (λ (x : Seat C). x.walk.route) counted;
       })
@@ -64,16 +64,16 @@ module _ {C : Type 0} (b : BoardView) (v : LocksView) (s m t : Seat C) where
   pub settled : (verdict : Option Errno) (d : Decided)
       → m ≡ record s { replies = m.replies; decided = Some d } → t ≡ record m { walk = t.walk; cut = cut_at.No }
       → reply_decided d m.replies ≡ reply_by verdict (Some s.transfer) s.replies.got
-      → walk_left b t ≡ behind_of v (walk_left b m) Passed → t.walk.route ≡ m.walk.route → HasSettled b v verdict s t
+      → walk_left t ≡ behind_of v (walk_left m) Passed → t.walk.route ≡ m.walk.route → HasSettled v verdict s t
   settled verdict d decides went replied walk route =
       let all : t ≡ record s { walk = t.walk; replies = m.replies; decided = Some d; cut = cut_at.No } =
       went ∙ ap (λ (x : Seat C). record x { walk = t.walk; cut = cut_at.No }) decides in
-      subst (λ (x : Seat C). HasSettled b v verdict s x) (sym all)
+      subst (λ (x : Seat C). HasSettled v verdict s x) (sym all)
       (record {
         same = refl;
         owed = ap (λ (r : Reply). r ∷ []) replied;
         emptied = refl;
-        walk = ap (walk_left b) (sym all) ∙ walk ∙ ap (λ (x : Seat C). behind_of v (walk_left b x) Passed) decides;
+        walk = ap walk_left (sym all) ∙ walk ∙ ap (λ (x : Seat C). behind_of v (walk_left x) Passed) decides;
         route = route ∙ ap (λ (x : Seat C). x.walk.route) decides;
       })
 
@@ -90,27 +90,27 @@ module _ {C S : Type 0} (c : CallerGhosts C S) (b : BoardView) (v : LocksView) (
   seated_behind : (out : ActOutcome)
       → t ≡ record s { walk = t.walk; sent = t.sent; written = t.written; replies = t.replies; decided = t.decided; cut = t.cut }
       → t.written ≡ sum_by written_of (take t.sent t.transfer.msgs) → t.sent ≤ length t.transfer.msgs
-      → walk_left b t ≡ behind_of v (walk_left b s) out → t.walk.route ≡ s.walk.route → IsSeated c b roots t
+      → walk_left t ≡ behind_of v (walk_left s) out → t.walk.route ≡ s.walk.route → IsSeated c b roots t
   seated_behind out same wrote within walk route =
       subst (λ (x : Seat C). x.written ≡ sum_by written_of (take x.sent x.transfer.msgs) → x.sent ≤ length x.transfer.msgs
       → IsSeated c b roots x) (sym same)
       (λ wrote within. record {
-        counted = seated.counted ∙ ap (λ (x : RouteView). x.count) (sym route);
+        on = ap (λ (x : RouteView). x.board) route ∙ seated.on;
         wrote = wrote;
         within = within;
         plugged = λ on bus. seated.plugged
-            (still_going (slots_of (seen_of v)) (walk_left b s) out (ap is_over (sym walk ∙ ap (walk_left b) same) ∙ on)) bus;
+            (still_going (slots_of (seen_of v)) (walk_left s) out (ap is_over (sym walk ∙ ap walk_left same) ∙ on)) bus;
         there = λ on.
-            let tree = sym walk ∙ ap (walk_left b) same in
+            let tree = sym walk ∙ ap walk_left same in
             subst (λ (w : WalkTree). (s.transfer.bus < buses b) ⊎ IsLone b w) tree
-            (there-behind b v s.transfer.bus (walk_left b s) out
-            (seated.there (still_going (slots_of (seen_of v)) (walk_left b s) out (ap is_over tree ∙ on))) (ap is_over tree ∙ on));
+            (there-behind b v s.transfer.bus (walk_left s) out
+            (seated.there (still_going (slots_of (seen_of v)) (walk_left s) out (ap is_over tree ∙ on))) (ap is_over tree ∙ on));
         spare = seated.spare;
       }) wrote within
 
   -- .. that counts none
   seated_same : (out : ActOutcome) → t ≡ record s { walk = t.walk; replies = t.replies; decided = t.decided; cut = t.cut }
-      → walk_left b t ≡ behind_of v (walk_left b s) out → t.walk.route ≡ s.walk.route → IsSeated c b roots t
+      → walk_left t ≡ behind_of v (walk_left s) out → t.walk.route ≡ s.walk.route → IsSeated c b roots t
   seated_same out same walk route =
       seated_behind out
       (subst (λ (x : Seat C). x ≡ record s {
@@ -125,13 +125,13 @@ module _ {C S : Type 0} (c : CallerGhosts C S) (b : BoardView) (v : LocksView) (
       (subst (λ (x : Seat C). x.sent ≤ length x.transfer.msgs) (sym same) seated.within)
       walk route
 
-  pub seated_on : (out : ActOutcome) (cut : Cut) → WentOn b v out cut s t → IsSeated c b roots t
+  pub seated_on : (out : ActOutcome) (cut : Cut) → WentOn v out cut s t → IsSeated c b roots t
   seated_on out cut on =
       seated_same out
       (subst (λ (x : Seat C). x ≡ record s { walk = x.walk; replies = x.replies; decided = x.decided; cut = x.cut }) (sym on.same) refl)
       on.walk on.route
 
-  pub seated_settled : (verdict : Option Errno) → HasSettled b v verdict s t → IsSeated c b roots t
+  pub seated_settled : (verdict : Option Errno) → HasSettled v verdict s t → IsSeated c b roots t
   seated_settled verdict on =
       seated_same Passed
       (subst (λ (x : Seat C). x ≡ record s { walk = x.walk; replies = x.replies; decided = x.decided; cut = x.cut }) (sym on.same) refl)
@@ -155,19 +155,19 @@ module _ {C S : Type 0} (c : CallerGhosts C S) (b : BoardView) (v : LocksView) (
       }
 
   -- behind a lock that is freed a walk goes on, or has ended
-  module _ (may : MayEnd c b roots s) (passed : WentOn b v Passed cut_at.No s m) where
+  module _ (may : MayEnd c b roots s) (passed : WentOn v Passed cut_at.No s m) where
     pub may_end : MayEnd c b roots m
     may_end =
         subst (λ (x : Seat C). IsSeated c b roots x → MayEnd c b roots x) (sym passed.same)
         (λ seated. record { seated = seated; fits = may.fits; wired = may.wired })
         (seated_on c b v roots s m may.seated Passed cut_at.No passed)
 
-    pub freed : (is_over (walk_left b m) ≡ false → t ≡ m)
-        → (is_over (walk_left b m) ≡ true → (r : Reply) → owed_by m.decided m.replies ≡ r ∷ [] → HasEnded c b r m.cut m t)
+    pub freed : (is_over (walk_left m) ≡ false → t ≡ m)
+        → (is_over (walk_left m) ≡ true → (r : Reply) → owed_by m.decided m.replies ≡ r ∷ [] → HasEnded c b r m.cut m t)
         → IsSeated c b roots t → HasFreed c b v roots s t
     freed on ended seated =
         record {
-          on = λ going. subst (λ (x : Seat C). WentOn b v Passed cut_at.No s x) (sym (on (ap is_over passed.walk ∙ going))) passed;
+          on = λ going. subst (λ (x : Seat C). WentOn v Passed cut_at.No s x) (sym (on (ap is_over passed.walk ∙ going))) passed;
           ended = λ over r owed. ended_from r cut_at.No
               (ended (ap is_over passed.walk ∙ over) r (ap (λ (x : Seat C). owed_by x.decided x.replies) passed.same ∙ owed))
               (ap (λ (x : Seat C). x.number) passed.same) (ap (λ (x : Seat C). x.caller) passed.same)
@@ -176,7 +176,7 @@ module _ {C S : Type 0} (c : CallerGhosts C S) (b : BoardView) (v : LocksView) (
         }
 
   -- the settle of a refused transfer ends its walk
-  module _ (errno : Errno) (journal : JournalView) (may : MayRefuse c b roots errno journal s) (on : HasSettled b v (Some errno) s m) where
+  module _ (errno : Errno) (journal : JournalView) (may : MayRefuse c b roots errno journal s) (on : HasSettled v (Some errno) s m) where
     fits : (r : Reply) → owed_by m.decided m.replies ≡ r ∷ [] → Fits s.transfer r
     fits r owed =
         let same : reply.Err errno ∷ [] ≡ r ∷ [] = sym on.owed ∙ owed in
@@ -190,7 +190,7 @@ module _ {C S : Type 0} (c : CallerGhosts C S) (b : BoardView) (v : LocksView) (
         (λ fits seated. record { seated = seated; fits = λ r owed. (may.asked, fits r owed); wired = may.wired })
         fits (seated_settled c b v roots s m may.seated (Some errno) on)
 
-    pub refused : (is_over (walk_left b m) ≡ true → (r : Reply) → owed_by m.decided m.replies ≡ r ∷ [] → HasEnded c b r m.cut m t)
+    pub refused : (is_over (walk_left m) ≡ true → (r : Reply) → owed_by m.decided m.replies ≡ r ∷ [] → HasEnded c b r m.cut m t)
         → HasEnded c b (reply.Err errno) cut_at.No s t
     refused ended =
         ended_from (reply.Err errno) cut_at.No

@@ -23,11 +23,11 @@ there_read xs i y low read = slice_get-get_or xs i y low ∙ ap Some (sym read)
 -- what comes next at a place comes next of the seat that was read there
 pub read_comes : {P C : Type 0} (x : CoreParts P C) (place : ℕ) (act : Act) (need : ComesAt x place act) (s : Seat C)
     → s ≡ get_or x.seats.items place s
-    → (slice_get x.seats.items place ≡ Some s) × (next_of x.locks (walk_left x.board s) ≡ Some act)
+    → (slice_get x.seats.items place ≡ Some s) × (next_of x.locks (walk_left s) ≡ Some act)
 read_comes x place act need s read =
     let is = read_here x.seats.items place need.seat s need.here read in (
       need.here ∙ ap Some (sym is),
-      subst (λ (y : Seat _). next_of x.locks (walk_left x.board y) ≡ Some act) (sym is) need.next,
+      subst (λ (y : Seat _). next_of x.locks (walk_left y) ≡ Some act) (sym is) need.next,
     )
 
 -- numbers that a test tells apart differ

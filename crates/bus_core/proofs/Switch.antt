@@ -79,19 +79,19 @@ no-bytes verdict err t got is = ap (λ (o : Option Errno). length (bytes_given (
 
 module _ {P C S : Type 0} (g : PortGhosts P) (c : CallerGhosts C S) (x : CoreParts P C) (kept : IsKept g c x) (place : ℕ) (s : Seat C)
     (here : slice_get x.seats.items place ≡ Some s)
-    (job : Job) (first : next_of x.locks (walk_left x.board s) ≡ Some (Shift job)) where
+    (job : Job) (first : next_of x.locks (walk_left s) ≡ Some (Shift job)) where
   open standing g c x kept place s here use {run, whole, p, at, ls, n}
 
   its : IsSeated c x.board (roots_of x.ports.items) s
   its = seated-here g c x kept place s here
 
-  goes : is_over (walk_left x.board s) ≡ false
-  goes = not_over (slots_of (seen_of x.locks)) (walk_left x.board s) (Shift job) first
+  goes : is_over (walk_left s) ≡ false
+  goes = not_over (slots_of (seen_of x.locks)) (walk_left s) (Shift job) first
 
   on-bus : s.transfer.bus < buses x.board
   on-bus = elim (its.there goes) [
     | inl low ↦ low
-    | inr lone ↦ absurd (let l = lone_act x.board (slots_of (seen_of x.locks)) (walk_left x.board s) lone (Shift job) first in
+    | inr lone ↦ absurd (let l = lone_act x.board (slots_of (seen_of x.locks)) (walk_left s) lone (Shift job) first in
         let f : Shift job ≡ Settle l.0 = l.1 in cc)
   ]
 
@@ -131,12 +131,12 @@ module _ {P C S : Type 0} (g : PortGhosts P) (c : CallerGhosts C S) (x : CorePar
   -- IT WAS DONE
   module _ (failed : Bool) where
     -- the marks that it changes may be written
-    pub line-updates-own : AreHeld x.locks s.number (updates_of x.board x.locks (Lined failed) s)
+    pub line-updates-own : AreHeld x.locks s.number (updates_of x.locks (Lined failed) s)
     line-updates-own =
         let own = locks-here run whole kept.kept place p at in
         let has = held-wants run whole kept.kept place p at own.0 own.1 in
         let sends = shift-wants run whole kept.kept place p at job first in
-        updates-held x.locks s.number (updates_of x.board x.locks (Lined failed) s)
+        updates-held x.locks s.number (updates_of x.locks (Lined failed) s)
         (on-after (holds_mux x.locks s.number) (next_of x.locks p.tree) (first_note (seen (slots_of (seen_of x.locks)) p.tree))
         (Lined failed)
         (subst (λ (o : Option Act). MayMark (holds_mux x.locks s.number) o (first_note (seen (slots_of (seen_of x.locks)) p.tree)))
@@ -147,7 +147,7 @@ module _ {P C S : Type 0} (g : PortGhosts P) (c : CallerGhosts C S) (x : CorePar
         )))
 
     abbrev words : SeenView
-    words = words_after (updates_of x.board x.locks (Lined failed) s) (seen_of x.locks)
+    words = words_after (updates_of x.locks (Lined failed) s) (seen_of x.locks)
 
     abbrev locks2 : LocksView
     locks2 = turned_to x.locks words
@@ -159,20 +159,20 @@ module _ {P C S : Type 0} (g : PortGhosts P) (c : CallerGhosts C S) (x : CorePar
         ⊎ ((has_reply p.owed ≡ false) × (err : Errno) × IsDecided run.board p.transfer (Some err) behind)
     leaves = lined-leaves run whole kept.kept place p at job first failed
 
-    module _ (t : Seat C) (went : WentOn x.board x.locks (Lined failed) (cut_of_line failed) s t) where
-      place-is : place_of c x.board t ≡ switched whole p job failed
+    module _ (t : Seat C) (went : WentOn x.locks (Lined failed) (cut_of_line failed) s t) where
+      place-is : place_of c t ≡ switched whole p job failed
       place-is = went-on-place c x.board x.locks (roots_of x.ports.items) (Lined failed) (cut_of_line failed) s t went
 
       seated : IsSeated c x.board (roots_of x.ports.items) t
       seated = seated_on c x.board x.locks (roots_of x.ports.items) s t its (Lined failed) (cut_of_line failed) went
 
       quiet : IsLeft run.board p.transfer (has_reply p.owed) p.sent behind → (verdict : Option Errno)
-          → next_of locks2 (walk_left x.board t) ≡ Some (Settle verdict) → ⊥
+          → next_of locks2 (walk_left t) ≡ Some (Settle verdict) → ⊥
       quiet is verdict comes = quiet-next (slots_of words) behind is.quiet verdict
           (subst (λ (w : WalkTree). next_of locks2 w ≡ Some (Settle verdict)) went.walk comes)
 
       verdict-is : (err : Errno) → IsDecided run.board p.transfer (Some err) behind → (verdict : Option Errno)
-          → next_of locks2 (walk_left x.board t) ≡ Some (Settle verdict) → verdict ≡ Some err
+          → next_of locks2 (walk_left t) ≡ Some (Settle verdict) → verdict ≡ Some err
       verdict-is err decides verdict comes =
           let comes2 : next_of locks2 behind ≡ Some (Settle verdict) = subst
           (λ (w : WalkTree). next_of locks2 w ≡ Some (Settle verdict)) went.walk comes in
@@ -182,9 +182,8 @@ module _ {P C S : Type 0} (g : PortGhosts P) (c : CallerGhosts C S) (x : CorePar
       module _ (j : JournalView) (entries : j.entries ≡ x.journal.entries ++ line_entry p job failed ∷ [])
           (room : j.room + 1 ≡ x.journal.room) (room_bytes : j.room_bytes ≡ x.journal.room_bytes) where
         -- THE SETTLE may be made
-        pub line-may-settle : MaySettle x.board locks2 j t
+        pub line-may-settle : MaySettle locks2 j t
         line-may-settle = record {
-          counted = seated.counted;
           room = λ verdict comes. elim leaves [
             | inl is ↦ absurd (quiet is verdict comes)
             | inr d ↦ (let two : 2 ≤ x.journal.room = room-line run whole kept.kept place p at job first d.0 in
@@ -204,8 +203,8 @@ module _ {P C S : Type 0} (g : PortGhosts P) (c : CallerGhosts C S) (x : CorePar
 
           marked : AreMarked x.board p.tree x.locks (Lined failed) words
           marked = record {
-            all = length-applied (updates_of x.board x.locks (Lined failed) s) x.locks.marks ∙ kept.kept.table.marked;
-            counted = length-applied_kept (updates_of x.board x.locks (Lined failed) s) x.locks.kept ∙ kept.kept.table.kept;
+            all = length-applied (updates_of x.locks (Lined failed) s) x.locks.marks ∙ kept.kept.table.marked;
+            counted = length-applied_kept (updates_of x.locks (Lined failed) s) x.locks.kept ∙ kept.kept.table.kept;
             marked = λ y told. tells-after (next_of x.locks p.tree) (first_note (seen (slots_of (seen_of x.locks)) p.tree))
                 (Lined failed) y x.locks.marks told;
             kept = λ y told.
@@ -231,7 +230,7 @@ module _ {P C S : Type 0} (g : PortGhosts P) (c : CallerGhosts C S) (x : CorePar
 
           -- NO SETTLE came
           switched-quiet : new.seats.items ≡ set x.seats.items place t → new.journal ≡ j
-              → ((verdict : Option Errno) → next_of locks2 (walk_left x.board t) ≡ Some (Settle verdict) → ⊥)
+              → ((verdict : Option Errno) → next_of locks2 (walk_left t) ≡ Some (Settle verdict) → ⊥)
               → IsKept g c new × HasStepped g c place x new
           switched-quiet seats journal undue = elim leaves [
             | inl is ↦ by is
@@ -258,7 +257,7 @@ module _ {P C S : Type 0} (g : PortGhosts P) (c : CallerGhosts C S) (x : CorePar
 
           -- THE SETTLE came
           switched-settled : (verdict : Option Errno) (u : Seat C) → new.seats.items ≡ set x.seats.items place u
-              → IsSettledIn x.board locks2 verdict j new.journal t u → IsKept g c new × HasStepped g c place x new
+              → IsSettledIn locks2 verdict j new.journal t u → IsKept g c new × HasStepped g c place x new
           switched-settled verdict u seats made = elim leaves [
             | inl is ↦ absurd (quiet is verdict made.next)
             | inr d ↦ by d.0 d.1 d.2
@@ -271,7 +270,7 @@ module _ {P C S : Type 0} (g : PortGhosts P) (c : CallerGhosts C S) (x : CorePar
                   let reply : reply_by verdict (Some t.transfer) t.replies.got ≡ answer.Err err = ap
                   (λ (o : Option Errno). reply_by o (Some t.transfer) t.replies.got) is in
                   let zeros = no-bytes verdict err (Some t.transfer) t.replies.got is in
-                  let first2 : first_act (walk_left x.board t) ≡ Some (Settle verdict) = subst
+                  let first2 : first_act (walk_left t) ≡ Some (Settle verdict) = subst
                   (λ (w : WalkTree). first_act w ≡ Some (Settle verdict)) (sym went.walk) (decides.first
                   ∙ ap (λ (o : Option Errno). Some (Settle o)) (sym is)) in
                   let line = line_entry p job failed in
@@ -305,14 +304,14 @@ module _ {P C S : Type 0} (g : PortGhosts P) (c : CallerGhosts C S) (x : CorePar
 
           -- EITHER, as it is told
           pub line-done : (u : Seat C) → new.seats.items ≡ set x.seats.items place u → (came : Bool)
-              → (came ≡ true → (verdict : Option Errno) × IsSettledIn x.board new.locks verdict j new.journal t u)
-              → (came ≡ false → (verdict : Option Errno) → next_of new.locks (walk_left x.board t) ≡ Some (Settle verdict) → ⊥)
+              → (came ≡ true → (verdict : Option Errno) × IsSettledIn new.locks verdict j new.journal t u)
+              → (came ≡ false → (verdict : Option Errno) → next_of new.locks (walk_left t) ≡ Some (Settle verdict) → ⊥)
               → (came ≡ false → (u ≡ t) × (new.journal ≡ j)) → IsKept g c new × HasStepped g c place x new
           line-done u seats true made none stays =
               let m = made refl in
-              switched-settled m.0 u seats (subst (λ (v : LocksView). IsSettledIn x.board v m.0 j new.journal t u) locks m.1)
+              switched-settled m.0 u seats (subst (λ (v : LocksView). IsSettledIn v m.0 j new.journal t u) locks m.1)
           line-done u seats false made none stays =
               let st = stays refl in
               switched-quiet (seats ∙ ap (set x.seats.items place) st.0) st.1
               (λ verdict comes. none refl verdict
-              (subst (λ (v : LocksView). next_of v (walk_left x.board t) ≡ Some (Settle verdict)) (sym locks) comes))
+              (subst (λ (v : LocksView). next_of v (walk_left t) ≡ Some (Settle verdict)) (sym locks) comes))

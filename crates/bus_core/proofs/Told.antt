@@ -111,7 +111,7 @@ came-by g c x new core caller place at answer.Finished stepped blocked finished 
     (sym (finished refl)) (come-refl g c x)
 
 pub core-after : {P C S : Type 0} (g : PortGhosts P) (c : CallerGhosts C S) (x new : CoreParts P C) → IsCore g c x → IsKept g c new
-    → AreLooked new.board new.locks new.seats.items → HasCome g c x new → IsCore g c new
+    → AreLooked new.locks new.seats.items → HasCome g c x new → IsCore g c new
 core-after g c x new core kept looked come = record {
   kept = kept;
   looked = looked;
@@ -182,9 +182,9 @@ module _ {P C S : Type 0} (g : PortGhosts P) (c : CallerGhosts C S) (x : CorePar
         (core.placed.named i s.0.number (c.script s.0.caller) (map_at (script_of c) x.seats.items i s.0 s.1)) in
         let same : i ≡ place = (let f : Some (Some i) ≡ Some (Some place) = sym mine ∙ at in cc) in
         let here = subst (λ (k : ℕ). slice_get x.seats.items k ≡ Some s.0) same s.1 in
-        let over = subst (λ (y : Seat C). next_of x.locks (walk_left b y) ≡ None) (same_seat x.seats.items place e.seat s.0 e.here here)
-        (over-none x.locks (walk_left b e.seat) e.over) in
-        let done = finished-asks (run_of g c x) (whole_of g c x core.kept.held core.kept.owes) core.kept.kept place (place_of c b s.0)
+        let over = subst (λ (y : Seat C). next_of x.locks (walk_left y) ≡ None) (same_seat x.seats.items place e.seat s.0 e.here here)
+        (over-none x.locks (walk_left e.seat) e.over) in
+        let done = finished-asks (run_of g c x) (whole_of g c x core.kept.held core.kept.owes) core.kept.kept place (place_of c s.0)
         (place-here g c x core.kept place s.0 here) over in
         subst (λ (k : ℕ). asks_in c x k taken ≡ None) number
         (subst (λ (rs : List Reply). asks_in c x s.0.number rs ≡ None) (ap (λ (y : ℕ × List Reply). y.1) s.2) done.0)
@@ -192,19 +192,19 @@ module _ {P C S : Type 0} (g : PortGhosts P) (c : CallerGhosts C S) (x : CorePar
     -- by the journal too it is over
     pub over-told : HasEndedAt x place → IsTrue g.tells → IsOverIn c.asked state caller
     over-told e tell =
-        let p : Place = place_of c b e.seat in
+        let p : Place = place_of c e.seat in
         let here = place-here g c x core.kept place e.seat e.here in
-        let done = finished-asks (run_of g c x) (whole_of g c x core.kept.held core.kept.owes) core.kept.kept place (place_of c b e.seat) here
-        (over-none x.locks (walk_left b e.seat) e.over) in
-        let told : CallerTold b (asks_in c x) (now_in c.asked state) e.seat.number (walk_left b e.seat)
-        (c.taken e.seat.caller ++ (place_of c b e.seat).owed) (place_of c b e.seat).got e.seat.cut =
-        (core.kept.kept.told tell).spots_told place (spot_of (place_of c b e.seat))
-        (map_at spot_of (places_of c b x.seats.items) place (place_of c b e.seat) here) in
+        let done = finished-asks (run_of g c x) (whole_of g c x core.kept.held core.kept.owes) core.kept.kept place (place_of c e.seat) here
+        (over-none x.locks (walk_left e.seat) e.over) in
+        let told : CallerTold b (asks_in c x) (now_in c.asked state) e.seat.number (walk_left e.seat)
+        (c.taken e.seat.caller ++ (place_of c e.seat).owed) (place_of c e.seat).got e.seat.cut =
+        (core.kept.kept.told tell).spots_told place (spot_of (place_of c e.seat))
+        (map_at spot_of (places_of c x.seats.items) place (place_of c e.seat) here) in
         let settled : (now_in c.asked state).settled e.seat.number ≡ c.taken e.seat.caller = told.settled
         ∙ ap (λ (rs : List Reply). c.taken e.seat.caller ++ rs) done.1 ∙ append-nil (c.taken e.seat.caller) in
         subst (λ (n : ℕ). IsOverIn c.asked state n) (numbered g c x core.kept core.placed caller place at e.seat e.here)
         (record {
-          walk = walk-ended b (asks_in c x) (now_in c.asked state) e.seat.number (told.walk ∙ over_ends (walk_left b e.seat) e.over);
+          walk = walk-ended b (asks_in c x) (now_in c.asked state) e.seat.number (told.walk ∙ over_ends (walk_left e.seat) e.over);
           asks = ap (asks_in c x e.seat.number) settled ∙ done.0;
         })
 
@@ -214,7 +214,7 @@ module _ {P C S : Type 0} (g : PortGhosts P) (c : CallerGhosts C S) (x : CorePar
         record {
           another = λ same.
               let wants = take-wants (run_of g c x) (whole_of g c x core.kept.held core.kept.owes) core.kept.kept place
-              (place_of c b blocked.comes.seat) (place-here g c x core.kept place blocked.comes.seat blocked.comes.here)
+              (place_of c blocked.comes.seat) (place-here g c x core.kept place blocked.comes.seat blocked.comes.here)
               l blocked.comes.next in
               let own : holder_in x.locks l ≡ Some blocked.comes.seat.number = blocked.held
               ∙ ap Some (same ∙ sym (numbered g c x core.kept core.placed caller place at blocked.comes.seat blocked.comes.here)) in
@@ -222,12 +222,12 @@ module _ {P C S : Type 0} (g : PortGhosts P) (c : CallerGhosts C S) (x : CorePar
           held = blocked.held;
           told = λ tell.
               holder-same (run_of g c x) (whole_of g c x core.kept.held core.kept.owes) core.kept.kept tell place
-              (place_of c b blocked.comes.seat) (place-here g c x core.kept place blocked.comes.seat blocked.comes.here) l h blocked.held;
+              (place_of c blocked.comes.seat) (place-here g c x core.kept place blocked.comes.seat blocked.comes.here) l h blocked.held;
           next = λ tell.
               ap (λ (n : ℕ). first_act (current b (asks_in c x) (now_in c.asked state) n))
               (sym (numbered g c x core.kept core.placed caller place at blocked.comes.seat blocked.comes.here))
               ∙ next-same (run_of g c x) (whole_of g c x core.kept.held core.kept.owes) core.kept.kept tell place
-              (place_of c b blocked.comes.seat) (place-here g c x core.kept place blocked.comes.seat blocked.comes.here)
+              (place_of c blocked.comes.seat) (place-here g c x core.kept place blocked.comes.seat blocked.comes.here)
               ∙ blocked.comes.next;
         }
 
@@ -238,7 +238,7 @@ module _ {P C S : Type 0} (g : PortGhosts P) (c : CallerGhosts C S) (x : CorePar
         has = of-placed n ready.place ready.at;
         can = λ tell stuck.
             free-ready (run_of g c x) (whole_of g c x core.kept.held core.kept.owes) core.kept.kept tell ready.place
-            (place_of c b ready.can.seat) (place-here g c x core.kept ready.place ready.can.seat ready.can.here)
+            (place_of c ready.can.seat) (place-here g c x core.kept ready.place ready.can.seat ready.can.here)
             ready.can.act ready.can.next ready.can.free
             (subst (λ (k : ℕ). IsStuck b (asks_in c x) (reverse x.journal.entries) k)
             (sym (numbered g c x core.kept core.placed n ready.place ready.at ready.can.seat ready.can.here)) stuck);

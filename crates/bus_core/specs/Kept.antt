@@ -9,7 +9,6 @@ use Rattle.i2c_base.specs.Limits.{MOST_CALLERS}
 use Rattle.i2c_base.specs.Need.{Covers}
 use Rattle.i2c_base.specs.Transfer.{written_of}
 use Rattle.i2c_spec.specs.History.{Asks}
-use Rattle.i2c_spec.specs.Messages.{messages_of}
 use Rattle.i2c_spec.specs.Tree.{buses, root_of}
 use Rattle.bus_spec.specs.Grammar.{is_over}
 use Rattle.bus_spec.specs.Schedule.{Turn}
@@ -30,14 +29,14 @@ use Rattle.bus_core.specs.declared.seat.Seat.{Seat}
 abbrev pub roots_of : {P : Type 0} → List (ℕ × P) → List ℕ
 roots_of ports = map (λ (p : ℕ × _). p.0) ports
 
--- a seat: what its walk knows and its counts are those of its transfer; the port of its root is known while it is on a
+-- a seat: its walk is over the board, and its counts are those of its transfer; the port of its root is known while it is on a
 -- bus; a transfer on a bus that isn't there is refused; and its caller has room for the replies to come
 pub record IsSeated {C S : Type 0} (c : CallerGhosts C S) (b : BoardView) (roots : List ℕ) (s : Seat C) : Type 0 where
-  pub counted : length (messages_of s.transfer) ≡ s.walk.route.count
+  pub on : s.walk.route.board ≡ b
   pub wrote : s.written ≡ sum_by written_of (take s.sent s.transfer.msgs)
   pub within : s.sent ≤ length s.transfer.msgs
-  pub plugged : is_over (walk_left b s) ≡ false → s.transfer.bus < buses b → slice_get roots s.port ≡ Some (root_of b s.transfer.bus)
-  pub there : is_over (walk_left b s) ≡ false → (s.transfer.bus < buses b) ⊎ IsLone b (walk_left b s)
+  pub plugged : is_over (walk_left s) ≡ false → s.transfer.bus < buses b → slice_get roots s.port ≡ Some (root_of b s.transfer.bus)
+  pub there : is_over (walk_left s) ≡ false → (s.transfer.bus < buses b) ⊎ IsLone b (walk_left s)
   pub spare : Covers (c.spare s.caller) (c.owed (c.script s.caller) (c.taken s.caller))
 
 -- what all callers ask for, and have left, by what they were opened with
@@ -57,7 +56,7 @@ whole_of p c x held owes =
       past = reverse x.journal.entries;
       room = x.journal.room;
       room_bytes = x.journal.room_bytes;
-      places = places_of c x.board x.seats.items;
+      places = places_of c x.seats.items;
       held = held;
       owes = owes;
       locks = x.locks;
@@ -75,13 +74,13 @@ pub record IsKept {P C S : Type 0} (p : PortGhosts P) (c : CallerGhosts C S) (x 
 -- .. with the looks in front of each caller's next step answered
 pub record IsResting {P C S : Type 0} (p : PortGhosts P) (c : CallerGhosts C S) (x : CoreParts P C) : Type 0 where
   pub kept : IsKept p c x
-  pub looked : AreLooked x.board x.locks x.seats.items
+  pub looked : AreLooked x.locks x.seats.items
 
 -- this comes next of the caller at a place
 pub record ComesAt {P C : Type 0} (x : CoreParts P C) (place : ℕ) (act : Act) : Type 0 where
   pub seat : Seat C
   pub here : slice_get x.seats.items place ≡ Some seat
-  pub next : next_of x.locks (walk_left x.board seat) ≡ Some act
+  pub next : next_of x.locks (walk_left seat) ≡ Some act
 
 -- this message comes next of it
 pub record HasMessage {P C : Type 0} (x : CoreParts P C) (place : ℕ) (next : NextMsg) : Type 0 where
@@ -131,7 +130,7 @@ pub record ArePlaced {S : Type 0} (places : List (Option ℕ)) (scripts : List (
 -- the core between two steps
 pub record IsCore {P C S : Type 0} (p : PortGhosts P) (c : CallerGhosts C S) (x : CoreParts P C) : Type 0 where
   pub kept : IsKept p c x
-  pub looked : AreLooked x.board x.locks x.seats.items
+  pub looked : AreLooked x.locks x.seats.items
   pub placed : ArePlaced x.places.items (scripts_of c x.seats.items)
 
 -- one core came from another: what was opened is as before, and the journal has as many entries more as it has less room

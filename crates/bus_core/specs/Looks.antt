@@ -1,7 +1,5 @@
 -- The looks in front of each caller's next action are answered by the lock words.
 use Rattle.std.specs.Prelude.{◌≡◌, ℕ, List, Some, slice_get}
-use Rattle.i2c_base.specs.Board.{BoardView}
-use Rattle.i2c_spec.specs.Messages.{messages_of}
 use Rattle.mux_plan.specs.Looks.{IsLooked}
 use Rattle.mux_plan.specs.Plans.{slots_of}
 use Rattle.seg_locks.specs.Locks.{LocksView}
@@ -9,9 +7,9 @@ use Rattle.core_laws.specs.Spots.{seen_of}
 use Rattle.bus_core.specs.declared.seat.Seat.{Seat}
 
 -- those of a caller
-abbrev pub IsLookedAt : {C : Type 0} → BoardView → LocksView → Seat C → Type 0
-IsLookedAt b v s = IsLooked b (messages_of s.transfer) (slots_of (seen_of v)) s.walk
+abbrev pub IsLookedAt : {C : Type 0} → LocksView → Seat C → Type 0
+IsLookedAt v s = IsLooked (slots_of (seen_of v)) s.walk
 
 -- those of all callers
-abbrev pub AreLooked : {C : Type 0} → BoardView → LocksView → List (Seat C) → Type 0
-AreLooked b v seats = (i : ℕ) (s : Seat _) → slice_get seats i ≡ Some s → IsLookedAt b v s
+abbrev pub AreLooked : {C : Type 0} → LocksView → List (Seat C) → Type 0
+AreLooked v seats = (i : ℕ) (s : Seat _) → slice_get seats i ≡ Some s → IsLookedAt v s

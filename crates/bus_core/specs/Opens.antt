@@ -72,7 +72,7 @@ pub record IsFreshSeat {C S : Type 0} (c : CallerGhosts C S) (b : BoardView) (ro
   pub script : c.script s.caller ≡ c.script caller
   pub taken : c.taken s.caller ≡ c.taken caller
   pub loaded : IsLoaded c b s
-  pub looked : (v : LocksView) → IsLookedAt b v s
+  pub looked : (v : LocksView) → IsLookedAt v s
   pub cut : s.cut ≡ cut_at.No
   pub seated : ((t : TransferView) → c.asked (c.script caller) (c.taken caller) ≡ Some t → t.bus < buses b
       → HasRoot roots (root_of b t.bus)) → IsSeated c b roots s

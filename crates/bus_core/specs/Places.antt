@@ -3,11 +3,9 @@ use Rattle.std.specs.Prelude.{ℕ, ◌==◌, List, [], ◌∷◌, map, Option, S
 use Rattle.std.specs.Option.{option_map_or}
 use Rattle.i2c_base.specs.declared.caller.Caller.{Ghosts as CallerGhosts}
 use Rattle.i2c_base.specs.declared.reply.Reply.{Reply}
-use Rattle.i2c_base.specs.Board.{BoardView}
 use Rattle.i2c_base.specs.Need.{Covers}
 use Rattle.i2c_base.specs.Transfer.{TransferView}
 use Rattle.i2c_spec.specs.History.{Asks}
-use Rattle.i2c_spec.specs.Messages.{messages_of}
 use Rattle.bus_spec.specs.Walk.{WalkTree}
 use Rattle.mux_plan.specs.Plans.{walk_of}
 use Rattle.core_laws.specs.Core.{Place}
@@ -16,8 +14,8 @@ use Rattle.bus_core.specs.declared.replies.Decided.{Decided}
 use Rattle.bus_core.specs.declared.seat.Seat.{Seat}
 
 -- what is left of a caller's walk
-abbrev pub walk_left : {C : Type 0} → BoardView → Seat C → WalkTree
-walk_left b s = walk_of b (messages_of s.transfer) s.walk
+abbrev pub walk_left : {C : Type 0} → Seat C → WalkTree
+walk_left s = walk_of s.walk
 
 -- the reply that is settled and not handed over yet
 abbrev pub owed_by : Option Decided → RepliesView → List Reply
@@ -29,21 +27,21 @@ abbrev pub got_by : Option Decided → RepliesView → List ℕ
 got_by None r = r.got
 got_by (Some d) r = []
 
-abbrev pub place_of : {C S : Type 0} → CallerGhosts C S → BoardView → Seat C → Place
-place_of c b s =
+abbrev pub place_of : {C S : Type 0} → CallerGhosts C S → Seat C → Place
+place_of c s =
     record {
       number = s.number;
       taken = c.taken s.caller;
       owed = owed_by s.decided s.replies;
       transfer = s.transfer;
-      tree = walk_left b s;
+      tree = walk_left s;
       sent = s.sent;
       got = got_by s.decided s.replies;
       cut = s.cut;
     }
 
-abbrev pub places_of : {C S : Type 0} → CallerGhosts C S → BoardView → List (Seat C) → List Place
-places_of c b seats = map (place_of c b) seats
+abbrev pub places_of : {C S : Type 0} → CallerGhosts C S → List (Seat C) → List Place
+places_of c seats = map (place_of c) seats
 
 -- each caller's number, and what it was opened with
 abbrev pub script_of : {C S : Type 0} → CallerGhosts C S → Seat C → ℕ × S

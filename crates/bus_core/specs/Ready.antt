@@ -15,14 +15,14 @@ use Rattle.core_laws.specs.Spots.{seen_of}
 pub record IsHeldUpAt {P C : Type 0} (x : CoreParts P C) (place : ℕ) : Type 0 where
   pub seat : Seat C
   pub here : slice_get x.seats.items place ≡ Some seat
-  pub waits : IsHeldUp (holder_in x.locks) (slots_of (seen_of x.locks)) (walk_left x.board seat)
+  pub waits : IsHeldUp (holder_in x.locks) (slots_of (seen_of x.locks)) (walk_left seat)
 
 -- it has a step, and where that takes a lock nobody has it
 pub record CanStepAt {P C : Type 0} (x : CoreParts P C) (place : ℕ) : Type 0 where
   pub seat : Seat C
   pub here : slice_get x.seats.items place ≡ Some seat
   pub act : Act
-  pub next : next_of x.locks (walk_left x.board seat) ≡ Some act
+  pub next : next_of x.locks (walk_left seat) ≡ Some act
   pub free : (l : LockId) → act ≡ Take l → holder_in x.locks l ≡ None
 
 -- every caller below this number is held up

@@ -14,17 +14,16 @@ use Rattle.i2c_base.specs.declared.reply.Reply.TheVariants as reply
 use Rattle.i2c_base.specs.Fitting.{Fits}
 use Rattle.i2c_base.specs.Board.{BoardView}
 use Rattle.i2c_base.specs.Transfer.{IsTransfer, TransferView, written_of}
-use Rattle.i2c_spec.specs.Messages.{messages_of}
 use Rattle.i2c_spec.specs.Tree.{buses, root_of}
 use Rattle.bus_journal.specs.View.{JournalView}
-use Rattle.bus_spec.specs.Grammar.{is_over, first_note, seen, plain, walk_for}
+use Rattle.bus_spec.specs.Grammar.{is_over, first_act, first_note, rest_of, seen, plain, walk_for}
 use Rattle.bus_spec.specs.Readings.{message_cut}
 use Rattle.bus_spec.specs.Stepwise.{reply_by}
 use Rattle.bus_spec.specs.Walk.{ActOutcome, Passed, Settle, Then, Ends}
 use Rattle.bus_spec.specs.Walk as walk
 use Rattle.mux_plan.specs.declared.task.NextMsg.{NextMsg}
 use Rattle.mux_plan.specs.Looks.{IsFresh}
-use Rattle.mux_plan.specs.Plans.{is_call_through, action_of}
+use Rattle.mux_plan.specs.Plans.{is_call_through, action_of, looked_of}
 use Rattle.mux_plan.specs.declared.task.Action.{Action}
 use Rattle.core_laws.specs.Spots.{seen_of}
 use Rattle.bus_message.specs.Ports.{RootPort}
@@ -43,9 +42,9 @@ use Rattle.bus_core.specs.declared.seat.Seat.{Seat}
 use Rattle.i2c_base.specs.Need.{bytes_given}
 
 -- it went on in its walk behind a step with this outcome, and its caller's last entry tells this cut
-pub record WentOn {C : Type 0} (b : BoardView) (v : LocksView) (out : ActOutcome) (cut : Cut) (s t : Seat C) : Type 0 where
+pub record WentOn {C : Type 0} (v : LocksView) (out : ActOutcome) (cut : Cut) (s t : Seat C) : Type 0 where
   pub same : t ≡ record s { walk = t.walk; cut = cut }
-  pub walk : walk_left b t ≡ behind_of v (walk_left b s) out
+  pub walk : walk_left t ≡ behind_of v (walk_left s) out
   pub route : t.walk.route ≡ s.walk.route
 
 -- nothing was sent, read or decided yet
@@ -57,37 +56,39 @@ pub record IsUnused {C : Type 0} (s : Seat C) : Type 0 where
   pub decided : s.decided ≡ None
   pub cut : s.cut ≡ cut_at.No
 
--- its next action, and the settle that comes next, if one does, by whatever lock words answer its looks
+-- its next action, and the settle that comes next, if one does
 abbrev pub TellsAction : {C : Type 0} → Action → Seat C → Type 0
-TellsAction a s = (b : BoardView) (v : LocksView) → IsLookedAt b v s → a ≡ action_of (next_of v (walk_left b s))
+TellsAction a s = a ≡ action_of (first_act (looked_of s.walk))
 
 pub record TellsSettle {C : Type 0} (o : Option (Option Errno)) (s : Seat C) : Type 0 where
-  pub some : (b : BoardView) (v : LocksView) → IsLookedAt b v s → IfSome o (λ verdict. next_of v (walk_left b s) ≡ Some (Settle verdict))
-  pub none : (b : BoardView) (v : LocksView) (verdict : Option Errno) → IsLookedAt b v s → o ≡ None
-      → next_of v (walk_left b s) ≡ Some (Settle verdict) → ⊥
+  pub some : IfSome o (λ verdict. first_act (looked_of s.walk) ≡ Some (Settle verdict))
+  pub none : (verdict : Option Errno) → o ≡ None → first_act (looked_of s.walk) ≡ Some (Settle verdict) → ⊥
 
--- the marks that such a step changes
-abbrev pub updates_of : {C : Type 0} → BoardView → LocksView → ActOutcome → Seat C → List MuxUpdate
-updates_of b v out s = updates_after (next_of v (walk_left b s)) (first_note (seen (slots_of (seen_of v)) (walk_left b s))) out
+-- the marks that such a step changes, and the same by lock words that answer its looks
+abbrev pub updates_ahead : {C : Type 0} → ActOutcome → Seat C → List MuxUpdate
+updates_ahead out s = updates_after (first_act (looked_of s.walk)) (first_note (looked_of s.walk)) out
+
+abbrev pub updates_of : {C : Type 0} → LocksView → ActOutcome → Seat C → List MuxUpdate
+updates_of v out s = updates_after (next_of v (walk_left s)) (first_note (seen (slots_of (seen_of v)) (walk_left s))) out
 
 -- it went on behind a step with this outcome; the looks in front of its next one are open
 pub record HasAdvanced {C : Type 0} (out : ActOutcome) (s t : Seat C) : Type 0 where
   pub same : t ≡ record s { walk = t.walk }
   pub route : t.walk.route ≡ s.walk.route
   pub fresh : IsFresh t.walk
-  pub walk : (b : BoardView) (v : LocksView) → IsLookedAt b v s → walk_left b t ≡ behind_of v (walk_left b s) out
+  pub walk : walk_left t ≡ rest_of (looked_of s.walk) out
 
 -- .. and these are answered
-pub record HasLooked {C : Type 0} (b : BoardView) (v : LocksView) (s t : Seat C) : Type 0 where
-  pub looked : IsLookedAt b v t
+pub record HasLooked {C : Type 0} (v : LocksView) (s t : Seat C) : Type 0 where
+  pub looked : IsLookedAt v t
   pub same : t ≡ record s { walk = t.walk }
   pub route : t.walk.route ≡ s.walk.route
-  pub walk : (x : BoardView) → walk_left x t ≡ walk_left x s
+  pub walk : walk_left t ≡ walk_left s
 
 -- both, behind a lock or a settle
-pub record HasPassed {C : Type 0} (b : BoardView) (v : LocksView) (s t : Seat C) : Type 0 where
-  pub went : WentOn b v Passed cut_at.No s t
-  pub looked : IsLookedAt b v t
+pub record HasPassed {C : Type 0} (v : LocksView) (s t : Seat C) : Type 0 where
+  pub went : WentOn v Passed cut_at.No s t
+  pub looked : IsLookedAt v t
 
 -- a reply was handed to its caller, which has room for it
 pub record IsHanded {C S : Type 0} (c : CallerGhosts C S) (r : Reply) (s t : Seat C) : Type 0 where
@@ -97,8 +98,8 @@ pub record IsHanded {C S : Type 0} (c : CallerGhosts C S) (r : Reply) (s t : Sea
 -- the caller's next transfer is loaded, if it has one
 pub record IsLoaded {C S : Type 0} (c : CallerGhosts C S) (b : BoardView) (t : Seat C) : Type 0 where
   pub some : (x : TransferView) → c.asked (c.script t.caller) (c.taken t.caller) ≡ Some x
-      → (t.transfer ≡ x) × (walk_left b t ≡ walk_for b x)
-  pub none : c.asked (c.script t.caller) (c.taken t.caller) ≡ None → is_over (walk_left b t) ≡ true
+      → (t.transfer ≡ x) × (walk_left t ≡ walk_for b x)
+  pub none : c.asked (c.script t.caller) (c.taken t.caller) ≡ None → is_over (walk_left t) ≡ true
   pub sent : t.sent ≡ 0
   pub undecided : t.decided ≡ None
   pub unread : t.replies.got ≡ []
@@ -111,9 +112,9 @@ pub record HasEnded {C S : Type 0} (c : CallerGhosts C S) (b : BoardView) (r : R
   pub loaded : IsLoaded c b t
   pub stays : c.asked (c.script t.caller) (c.taken t.caller) ≡ None → t.transfer ≡ s.transfer
 
--- its walk knows how many messages its transfer has
-abbrev pub IsCounted : {C : Type 0} → Seat C → Type 0
-IsCounted s = length (messages_of s.transfer) ≡ s.walk.route.count
+-- its walk is over this board
+abbrev pub IsOn : {C : Type 0} → BoardView → Seat C → Type 0
+IsOn b s = s.walk.route.board ≡ b
 
 -- the reply that it was settled with may be handed over, and the next transfer loaded: each root that is asked for has a
 -- port
@@ -126,14 +127,13 @@ pub record MayEnd {C S : Type 0} (c : CallerGhosts C S) (b : BoardView) (roots :
 
 -- behind a lock that was freed: the walk goes on, or has ended
 pub record HasFreed {C S : Type 0} (c : CallerGhosts C S) (b : BoardView) (v : LocksView) (roots : List ℕ) (s t : Seat C) : Type 0 where
-  pub on : is_over (behind_of v (walk_left b s) Passed) ≡ false → WentOn b v Passed cut_at.No s t
-  pub ended : is_over (behind_of v (walk_left b s) Passed) ≡ true → (r : Reply) → owed_by s.decided s.replies ≡ r ∷ []
+  pub on : is_over (behind_of v (walk_left s) Passed) ≡ false → WentOn v Passed cut_at.No s t
+  pub ended : is_over (behind_of v (walk_left s) Passed) ≡ true → (r : Reply) → owed_by s.decided s.replies ≡ r ∷ []
       → HasEnded c b r cut_at.No s t
   pub seated : IsSeated c b roots t
 
 -- it may hear a message of its walk: one of the caller's is left where it went through, and what it read has room
 pub record MayHear {C : Type 0} (next : NextMsg) (reading : Bool) (bytes : List ℕ) (e : End) (s : Seat C) : Type 0 where
-  pub counted : IsCounted s
   pub wrote : s.written ≡ sum_by written_of (take s.sent s.transfer.msgs)
   pub part : 0 < next.part
   pub more : is_call_through next.purpose e ≡ true → s.sent < length s.transfer.msgs
@@ -145,7 +145,7 @@ got_heard purpose.Call reading bytes got = if reading then got ++ bytes else got
 got_heard (purpose.Control m) reading bytes got = got
 
 -- it heard a message, and went on behind it: one of the caller's that went through is counted
-pub record HasHeard {C : Type 0} (b : BoardView) (v : LocksView) (next : NextMsg) (reading : Bool) (bytes : List ℕ) (e : End)
+pub record HasHeard {C : Type 0} (v : LocksView) (next : NextMsg) (reading : Bool) (bytes : List ℕ) (e : End)
     (s t : Seat C) : Type 0 where
   pub same : t ≡ record s {
     walk = t.walk;
@@ -156,7 +156,7 @@ pub record HasHeard {C : Type 0} (b : BoardView) (v : LocksView) (next : NextMsg
   }
   pub gone : t.sent ≡ (if is_call_through next.purpose e then s.sent + 1 else s.sent)
   pub got : t.replies ≡ record s.replies { got = got_heard next.purpose reading bytes s.replies.got }
-  pub walk : walk_left b t ≡ behind_of v (walk_left b s) (walk.Sent e bytes)
+  pub walk : walk_left t ≡ behind_of v (walk_left s) (walk.Sent e bytes)
   pub wrote : t.written ≡ sum_by written_of (take t.sent t.transfer.msgs)
   pub route : t.walk.route ≡ s.walk.route
 
@@ -167,34 +167,33 @@ cut_of_line failed = if failed then cut_at.Way else cut_at.No
 -- .. by whatever lock words answer its looks, and these marks it changes; and so behind a line step
 pub record HearsOut {C : Type 0} (next : NextMsg) (reading : Bool) (bytes : List ℕ) (e : End) (ds : List MuxUpdate)
     (s t : Seat C) : Type 0 where
-  pub heard : (b : BoardView) (v : LocksView) → IsLookedAt b v s → HasHeard b v next reading bytes e s t
-  pub updates : (b : BoardView) (v : LocksView) → IsLookedAt b v s → ds ≡ updates_of b v (walk.Sent e bytes) s
+  pub heard : (v : LocksView) → IsLookedAt v s → HasHeard v next reading bytes e s t
+  pub updates : ds ≡ updates_ahead (walk.Sent e bytes) s
   pub fresh : IsFresh t.walk
 
 pub record LinesOut {C : Type 0} (failed : Bool) (ds : List MuxUpdate) (s t : Seat C) : Type 0 where
-  pub went : (b : BoardView) (v : LocksView) → IsLookedAt b v s → WentOn b v (walk.Lined failed) (cut_of_line failed) s t
-  pub updates : (b : BoardView) (v : LocksView) → IsLookedAt b v s → ds ≡ updates_of b v (walk.Lined failed) s
+  pub went : (v : LocksView) → IsLookedAt v s → WentOn v (walk.Lined failed) (cut_of_line failed) s t
+  pub updates : ds ≡ updates_ahead (walk.Lined failed) s
   pub fresh : IsFresh t.walk
 
 -- its reply was settled, and it went on behind the settle
-pub record HasSettled {C : Type 0} (b : BoardView) (v : LocksView) (verdict : Option Errno) (s t : Seat C) : Type 0 where
+pub record HasSettled {C : Type 0} (v : LocksView) (verdict : Option Errno) (s t : Seat C) : Type 0 where
   pub same : t ≡ record s { walk = t.walk; replies = t.replies; decided = t.decided; cut = cut_at.No }
   pub owed : owed_by t.decided t.replies ≡ reply_by verdict (Some s.transfer) s.replies.got ∷ []
   pub emptied : got_by t.decided t.replies ≡ []
-  pub walk : walk_left b t ≡ behind_of v (walk_left b s) Passed
+  pub walk : walk_left t ≡ behind_of v (walk_left s) Passed
   pub route : t.walk.route ≡ s.walk.route
 
 -- the journal has room for the settle that comes next, if one does
-pub record MaySettle {C : Type 0} (b : BoardView) (v : LocksView) (journal : JournalView) (s : Seat C) : Type 0 where
-  pub counted : IsCounted s
-  pub room : (verdict : Option Errno) → next_of v (walk_left b s) ≡ Some (Settle verdict)
+pub record MaySettle {C : Type 0} (v : LocksView) (journal : JournalView) (s : Seat C) : Type 0 where
+  pub room : (verdict : Option Errno) → next_of v (walk_left s) ≡ Some (Settle verdict)
       → (0 < journal.room) × (length (bytes_given (reply_by verdict (Some s.transfer) s.replies.got)) ≤ journal.room_bytes)
 
 -- the settle that comes next was made, with its entry, or none comes next
-pub record IsSettledIn {C : Type 0} (b : BoardView) (v : LocksView) (verdict : Option Errno) (old new : JournalView)
+pub record IsSettledIn {C : Type 0} (v : LocksView) (verdict : Option Errno) (old new : JournalView)
     (s t : Seat C) : Type 0 where
-  pub next : next_of v (walk_left b s) ≡ Some (Settle verdict)
-  pub settled : HasSettled b v verdict s t
+  pub next : next_of v (walk_left s) ≡ Some (Settle verdict)
+  pub settled : HasSettled v verdict s t
   pub entries : new.entries ≡ old.entries ++ entry.Settle s.number (reply_by verdict (Some s.transfer) s.replies.got) s.cut ∷ []
   pub room : new.room + 1 ≡ old.room
   pub room_bytes : new.room_bytes + length (bytes_given (reply_by verdict (Some s.transfer) s.replies.got)) ≡ old.room_bytes
@@ -203,7 +202,7 @@ pub record IsSettledIn {C : Type 0} (b : BoardView) (v : LocksView) (verdict : O
 pub record MayRefuse {C S : Type 0} (c : CallerGhosts C S) (b : BoardView) (roots : List ℕ) (errno : Errno) (journal : JournalView)
     (s : Seat C) : Type 0 where
   pub seated : IsSeated c b roots s
-  pub lone : walk_left b s ≡ Then (Settle (Some errno)) plain (λ o. Ends)
+  pub lone : walk_left s ≡ Then (Settle (Some errno)) plain (λ o. Ends)
   pub asked : c.asked (c.script s.caller) (c.taken s.caller) ≡ Some s.transfer
   pub wired : (rs : List Reply) (t : TransferView) → c.asked (c.script s.caller) rs ≡ Some t → t.bus < buses b
       → HasRoot roots (root_of b t.bus)

@@ -18,4 +18,4 @@ pub record IsBlockedAt {P C : Type 0} (x : CoreParts P C) (place : ℕ) (l : Loc
 pub record HasEndedAt {P C : Type 0} (x : CoreParts P C) (place : ℕ) : Type 0 where
   pub seat : Seat C
   pub here : slice_get x.seats.items place ≡ Some seat
-  pub over : is_over (walk_left x.board seat) ≡ true
+  pub over : is_over (walk_left seat) ≡ true

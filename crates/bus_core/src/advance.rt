@@ -7,7 +7,7 @@ ghost use Rattle.bus_core.specs.Kept.{roots_of};
 ghost use Rattle.bus_core.specs.Looks.{IsLookedAt};
 ghost use Rattle.mux_plan.specs.Rooms.{IsStep};
 ghost use Rattle.bus_core.specs.Places.{walk_left};
-ghost use Rattle.bus_core.specs.Seats.{HasFreed, HearsOut, IsRefusedIn, IsSettledIn, LinesOut, MayEnd, MayHear, MayRefuse, MaySettle};
+ghost use Rattle.bus_core.specs.Seats.{HasFreed, HearsOut, IsRefusedIn, IsSettledIn, LinesOut, MayEnd, MayHear, MayRefuse, IsOn, MaySettle};
 
 use crate::seat::Seat;
 use bus_journal::Journal;
@@ -27,9 +27,9 @@ impl<C: Caller> Seat<C> {
         ports: &[(SegId, P)],
     )
         requires may { MayEnd C.Caller board.old (roots_of ports.now) self.old }
-        requires looked { IsLookedAt board.old locks.now self.old }
+        requires looked { IsLookedAt locks.now self.old }
         ensures freed { HasFreed C.Caller board.old locks.now (roots_of ports.now) self.old self.new }
-        ensures looked { IsLookedAt board.old locks.now self.new }
+        ensures looked { IsLookedAt locks.now self.new }
         ensures board { board.new ≡ board.old }
     {
         self.lock_done(board, locks);
@@ -73,12 +73,13 @@ impl<C: Caller> Seat<C> {
     /// Makes the settle that comes next, with its entry; tells whether one does.
     #[inline(always)]
     pub fn settle(&mut self, board: &CachedBoard<'_>, locks: &Locks, journal: &mut Journal) -> bool
-        requires may { MaySettle board.now locks.now journal.old self.old }
-        requires looked { IsLookedAt board.now locks.now self.old }
-        ensures settled { result ≡ true → (verdict : Option Errno) × IsSettledIn board.now locks.now verdict journal.old journal.new self.old self.new }
-        ensures none { result ≡ false → (verdict : Option Errno) → next_of locks.now (walk_left board.now self.old) ≡ Some (Settle verdict) → ⊥ }
+        requires may { MaySettle locks.now journal.old self.old }
+        requires on { IsOn board.now self.old }
+        requires looked { IsLookedAt locks.now self.old }
+        ensures settled { result ≡ true → (verdict : Option Errno) × IsSettledIn locks.now verdict journal.old journal.new self.old self.new }
+        ensures none { result ≡ false → (verdict : Option Errno) → next_of locks.now (walk_left self.old) ≡ Some (Settle verdict) → ⊥ }
         ensures stays { result ≡ false → (self.new ≡ self.old) × (journal.new ≡ journal.old) }
-        ensures looked { IsLookedAt board.now locks.now self.new }
+        ensures looked { IsLookedAt locks.now self.new }
     {
         let Some(verdict) = self.settles() else {
             return false;
@@ -99,9 +100,9 @@ impl<C: Caller> Seat<C> {
         errno: Errno,
     )
         requires may { MayRefuse C.Caller board.old (roots_of ports.now) errno journal.old self.old }
-        requires looked { IsLookedAt board.old locks.now self.old }
+        requires looked { IsLookedAt locks.now self.old }
         ensures refused { IsRefusedIn C.Caller board.old (roots_of ports.now) errno journal.old journal.new self.old self.new }
-        ensures looked { IsLookedAt board.old locks.now self.new }
+        ensures looked { IsLookedAt locks.now self.new }
         ensures board { board.new ≡ board.old }
     {
         let decided = self.decide(Some(errno));

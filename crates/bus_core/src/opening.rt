@@ -44,7 +44,7 @@ fn seat_of<P: Port, C: Caller>(
     ensures seat { IsFreshSeat C.Caller board.old (roots_of ports.now) number caller result }
     ensures board { board.new ≡ board.old }
 {
-    let mut seat = Seat::resting(number, caller);
+    let mut seat = Seat::resting(board.board(), number, caller);
     seat.load(board, ports);
     seat
 }

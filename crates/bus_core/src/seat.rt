@@ -6,7 +6,6 @@ ghost use Rattle.i2c_base.specs.Need.{bytes_given};
 ghost use Rattle.i2c_base.specs.declared.entry.Entry.TheVariants as entry;
 ghost use Rattle.i2c_base.specs.declared.entry.Purpose.TheVariants as purpose;
 ghost use Rattle.bus_journal.specs.Borrowed.{entry_seen, most_bytes};
-ghost use Rattle.i2c_base.specs.Board.{BoardView};
 ghost use Rattle.i2c_base.specs.declared.reply.Reply.{Reply};
 ghost use Rattle.i2c_base.specs.Fitting.{Fits};
 ghost use Rattle.i2c_base.specs.Transfer.{IsTransfer, TransferView, written_of};
@@ -30,14 +29,14 @@ ghost use Rattle.bus_core.specs.Looks.{IsLookedAt};
 ghost use Rattle.bus_core.specs.Opening.{HasRoot};
 ghost use Rattle.bus_core.specs.Places.{HasSpare, asked_next, owed_by, walk_left};
 ghost use Rattle.bus_core.specs.Replies.{reply_decided};
-ghost use Rattle.bus_core.specs.Seats.{HasAdvanced, HasEnded, HasLooked, HasPassed, IsCounted, IsUnused, MayEnd, MayHear, TellsAction, TellsSettle, got_heard, updates_of};
+ghost use Rattle.bus_core.specs.Seats.{HasAdvanced, HasEnded, HasLooked, HasPassed, IsOn, IsUnused, MayEnd, MayHear, TellsAction, TellsSettle, got_heard, updates_ahead};
 
 use crate::marks::seen as words_of;
 use crate::replies::{Decided, Replies};
 use bus_journal::EntryRef;
 use bus_message::{MsgResult, TransferCursor};
 use i2c_base::{Caller, Cut, End, Errno, Grant, Kind, Purpose, SegId, Transfer};
-use i2c_board::CachedBoard;
+use i2c_board::{Board, CachedBoard};
 use mux_plan::{Action, MuxUpdates, NextMsg, Outcome, Walk};
 use ports::Port;
 use seg_locks::Locks;
@@ -93,19 +92,21 @@ fn port_of<P: Port>(ports: &[(SegId, P)], root: SegId) -> usize
 
 impl<C: Caller> Seat<C> {
     /// A seat of a caller that has made no step: nothing is loaded.
-    pub fn resting(number: u8, caller: C) -> Self
+    pub fn resting(board: &Board, number: u8, caller: C) -> Self
         ensures number { result.number ≡ number }
         ensures caller { result.caller ≡ caller }
-        ensures over { (b : BoardView) → walk_left b result ≡ Ends }
-        ensures looked { (b : BoardView) (v : LocksView) → IsLookedAt b v result }
-        ensures counted { IsCounted result }
+        ensures over { walk_left result ≡ Ends }
+        ensures looked { (v : LocksView) → IsLookedAt v result }
+        ensures on { IsOn board.now result }
         ensures unused { IsUnused result }
     {
+        let transfer = Transfer::new(0, Kind::Plain, false);
+        let walk = Walk::ended(board, &transfer);
         Seat {
             number,
             caller,
-            transfer: Transfer::new(0, Kind::Plain, false),
-            walk: Walk::ended(),
+            transfer,
+            walk,
             port: 0,
             sent: 0,
             written: 0,
@@ -118,10 +119,9 @@ impl<C: Caller> Seat<C> {
     /// The next action of its walk: Done exactly where the walk is over.
     #[inline(always)]
     pub fn next(&self) -> Action
-        requires counted { IsCounted self.now }
-        requires step { IsStep self.now.walk.looked }
+        requires { IsStep self.now.walk.looked }
         ensures first { TellsAction result self.now }
-        ensures over { result ≡ action.Done → (b : BoardView) → is_over (walk_left b self.now) ≡ true }
+        ensures over { result ≡ action.Done → is_over (walk_left self.now) ≡ true }
     {
         self.walk.next()
     }
@@ -139,7 +139,7 @@ impl<C: Caller> Seat<C> {
     #[inline(always)]
     pub fn updates(&self, outcome: &Outcome<'_>, updates: &mut MuxUpdates)
         requires { IsStep self.now.walk.looked }
-        ensures { (b : BoardView) (v : LocksView) → IsLookedAt b v self.now → updates.new.items ≡ updates_of b v (outcome_of outcome.now) self.now }
+        ensures { updates.new.items ≡ updates_ahead (outcome_of outcome.now) self.now }
     {
         self.walk.updates(outcome, updates);
     }
@@ -158,8 +158,8 @@ impl<C: Caller> Seat<C> {
     #[inline(always)]
     pub fn look(&mut self, board: &CachedBoard<'_>, locks: &Locks)
         requires fresh { IsFresh self.old.walk }
-        requires counted { IsCounted self.old }
-        ensures { HasLooked board.now locks.now self.old self.new }
+        requires on { IsOn board.now self.old }
+        ensures { HasLooked locks.now self.old self.new }
     {
         self.walk.look(board.board(), &words_of(locks));
     }
@@ -167,9 +167,9 @@ impl<C: Caller> Seat<C> {
     /// Goes on in its walk behind a lock or a settle, which tell no cut and change no mark.
     #[inline(always)]
     pub fn lock_done(&mut self, board: &CachedBoard<'_>, locks: &Locks)
-        requires looked { IsLookedAt board.now locks.now self.old }
-        requires counted { IsCounted self.old }
-        ensures { HasPassed board.now locks.now self.old self.new }
+        requires looked { IsLookedAt locks.now self.old }
+        requires on { IsOn board.now self.old }
+        ensures { HasPassed locks.now self.old self.new }
     {
         self.advance_walk(&Outcome::Passed);
         self.look(board, locks);
@@ -303,16 +303,16 @@ impl<C: Caller> Seat<C> {
     /// Loads the caller's next transfer, where it has one. Its walk is over before.
     #[inline(always)]
     pub fn load<P: Port>(&mut self, board: &mut CachedBoard<'_>, ports: &[(SegId, P)])
-        requires over { is_over (walk_left board.old self.old) ≡ true }
-        requires counted { IsCounted self.old }
-        ensures some { (t : TransferView) → asked_next C.Caller self.old ≡ Some t → (self.new.transfer ≡ t) × (walk_left board.old self.new ≡ walk_for board.old t) }
-        ensures none { asked_next C.Caller self.old ≡ None → is_over (walk_left board.old self.new) ≡ true }
+        requires over { is_over (walk_left self.old) ≡ true }
+        requires on { IsOn board.old self.old }
+        ensures some { (t : TransferView) → asked_next C.Caller self.old ≡ Some t → (self.new.transfer ≡ t) × (walk_left self.new ≡ walk_for board.old t) }
+        ensures none { asked_next C.Caller self.old ≡ None → is_over (walk_left self.new) ≡ true }
         ensures stays { asked_next C.Caller self.old ≡ None → self.new.transfer ≡ self.old.transfer }
         ensures same { self.new ≡ record self.old { transfer = self.new.transfer; walk = self.new.walk; port = self.new.port; sent = 0; written = 0; replies = self.new.replies; decided = None } }
         ensures cleared { self.new.replies.got ≡ [] }
-        ensures looked { (v : LocksView) → IsLookedAt board.old v self.old → IsLookedAt board.old v self.new }
-        ensures counted { IsCounted self.new }
-        ensures plugged { HasRoot (roots_of ports.now) (root_of board.old self.new.transfer.bus) → self.new.transfer.bus < buses board.old → is_over (walk_left board.old self.new) ≡ false
+        ensures looked { (v : LocksView) → IsLookedAt v self.old → IsLookedAt v self.new }
+        ensures on { IsOn board.old self.new }
+        ensures plugged { HasRoot (roots_of ports.now) (root_of board.old self.new.transfer.bus) → self.new.transfer.bus < buses board.old → is_over (walk_left self.new) ≡ false
             → slice_get (roots_of ports.now) self.new.port ≡ Some (root_of board.old self.new.transfer.bus) }
         ensures board { board.new ≡ board.old }
     {
@@ -331,11 +331,11 @@ impl<C: Caller> Seat<C> {
     #[inline(always)]
     pub fn end<P: Port>(&mut self, board: &mut CachedBoard<'_>, ports: &[(SegId, P)])
         requires may { MayEnd C.Caller board.old (roots_of ports.now) self.old }
-        ensures on { is_over (walk_left board.old self.old) ≡ false → self.new ≡ self.old }
+        ensures on { is_over (walk_left self.old) ≡ false → self.new ≡ self.old }
         ensures number { self.new.number ≡ self.old.number }
-        ensures ended { is_over (walk_left board.old self.old) ≡ true → (r : Reply) → owed_by self.old.decided self.old.replies ≡ r ∷ [] → HasEnded C.Caller board.old r self.old.cut self.old self.new }
+        ensures ended { is_over (walk_left self.old) ≡ true → (r : Reply) → owed_by self.old.decided self.old.replies ≡ r ∷ [] → HasEnded C.Caller board.old r self.old.cut self.old self.new }
         ensures seated { IsSeated C.Caller board.old (roots_of ports.now) self.new }
-        ensures looked { (v : LocksView) → IsLookedAt board.old v self.old → IsLookedAt board.old v self.new }
+        ensures looked { (v : LocksView) → IsLookedAt v self.old → IsLookedAt v self.new }
         ensures board { board.new ≡ board.old }
     {
         if !self.walk.is_over() {

@@ -1,8 +1,6 @@
 -- A step that is neither a message nor a line changes no mark.
 use Rattle.std.proofs.Common.{◌≡◌, ℕ, List, [], ◌∷◌, drop, refl, sym, subst}
-use Rattle.i2c_base.specs.Board.{BoardView}
 use Rattle.i2c_spec.specs.Tree.{Hop, locks_of}
-use Rattle.i2c_spec.specs.Messages.{MessageView}
 use Rattle.bus_spec.specs.Walk.{ActOutcome, JobOutcome}
 use Rattle.bus_spec.specs.Grammar.{first_act, first_note, locked, inner}
 use Rattle.mux_plan.specs.declared.task.Work.{Work}
@@ -12,22 +10,22 @@ use Rattle.mux_plan.specs.Plans.{RouteView, job_of, note_of, tree_of}
 use Rattle.mux_plan.specs.Marks.{updates_after}
 use Rattle.mux_plan.specs.Rooms.{IsStep}
 
-module _ (b : BoardView) (ms : List MessageView) (c : RouteView) (out : JobOutcome) (o : ActOutcome) where
+module _ (c : RouteView) (out : JobOutcome) (o : ActOutcome) where
   updates-lock : (m n : ℕ) (w : Work) (ts : List Task)
-      → updates_after (first_act (tree_of b ms c (Lock m n w ∷ ts) out)) (first_note (tree_of b ms c (Lock m n w ∷ ts) out)) o ≡ []
+      → updates_after (first_act (tree_of c (Lock m n w ∷ ts) out)) (first_note (tree_of c (Lock m n w ∷ ts) out)) o ≡ []
   updates-lock m n w ts = by (drop m c.path)
     where
       by : (hs : List Hop)
-          → updates_after (first_act (locked (locks_of c.root hs) (inner b c.root (drop n c.path)) (job_of c ms w) (note_of c ts)
-          (tree_of b ms c ts)))
-          (first_note (locked (locks_of c.root hs) (inner b c.root (drop n c.path)) (job_of c ms w) (note_of c ts) (tree_of b ms c ts))) o
+          → updates_after (first_act (locked (locks_of c.root hs) (inner c.board c.root (drop n c.path)) (job_of c w) (note_of c ts)
+          (tree_of c ts)))
+          (first_note (locked (locks_of c.root hs) (inner c.board c.root (drop n c.path)) (job_of c w) (note_of c ts) (tree_of c ts))) o
           ≡ []
       by [] = refl
       by (g ∷ hs) = refl
 
   updates-other : (t : Task) (ts : List Task) → IsStep (t ∷ ts) → ((left : ℕ) (w : Work) → t ≡ Rest left w → ⊥)
       → ((w : Work) → t ≡ Line w → ⊥)
-      → updates_after (first_act (tree_of b ms c (t ∷ ts) out)) (first_note (tree_of b ms c (t ∷ ts) out)) o ≡ []
+      → updates_after (first_act (tree_of c (t ∷ ts) out)) (first_note (tree_of c (t ∷ ts) out)) o ≡ []
   updates-other (Enter n w) ts step no_message no_line = absurd step
   updates-other (Lock m n w) ts step no_message no_line = updates-lock m n w ts
   updates-other (Free l) ts step no_message no_line = refl
@@ -42,7 +40,7 @@ module _ (b : BoardView) (ms : List MessageView) (c : RouteView) (out : JobOutco
 
   pub no-updates : (stack : List Task) (t : Task) (ts : List Task) → stack ≡ t ∷ ts → IsStep stack
       → ((left : ℕ) (w : Work) → t ≡ Rest left w → ⊥) → ((w : Work) → t ≡ Line w → ⊥)
-      → updates_after (first_act (tree_of b ms c stack out)) (first_note (tree_of b ms c stack out)) o ≡ []
+      → updates_after (first_act (tree_of c stack out)) (first_note (tree_of c stack out)) o ≡ []
   no-updates stack t ts e step no_message no_line =
-      subst (λ (xs : List Task). updates_after (first_act (tree_of b ms c xs out)) (first_note (tree_of b ms c xs out)) o ≡ []) (sym e)
+      subst (λ (xs : List Task). updates_after (first_act (tree_of c xs out)) (first_note (tree_of c xs out)) o ≡ []) (sym e)
       (updates-other t ts (subst IsStep e step) no_message no_line)

@@ -1,7 +1,5 @@
 -- A stack has room: below each task lie so many tasks for each mux that was crossed.
 use Rattle.std.proofs.Common.{◌≡◌, ℕ, ◌+◌, ◌*◌, ◌<◌, ◌≤◌, Bool, true, false, cond, sym, ◌∙◌, ap, subst, List, ◌∷◌, drop, length, Option, Some, None, arith}
-use Rattle.i2c_base.specs.Board.{BoardView}
-use Rattle.i2c_spec.specs.Messages.{MessageView}
 use Rattle.bus_spec.specs.Walk.{JobOutcome}
 use Rattle.mux_plan.specs.declared.task.Work.{Work}
 use Rattle.mux_plan.specs.declared.task.Task.{Task}
@@ -115,5 +113,5 @@ module _ (c : RouteView) (stack left : List Task) (top task : Task) (on : stack 
   pub top-planned : IsPlanned c stack → IsPlanned c (task ∷ left)
   top-planned p = subst (λ (ts : List Task). IsPlanned c ts) over_left p
 
-  pub top-tree : (b : BoardView) (ms : List MessageView) (out : JobOutcome) → tree_of b ms c (task ∷ left) out ≡ tree_of b ms c stack out
-  top-tree b ms out = sym (ap (λ (ts : List Task). tree_of b ms c ts out) over_left)
+  pub top-tree : (out : JobOutcome) → tree_of c (task ∷ left) out ≡ tree_of c stack out
+  top-tree out = sym (ap (λ (ts : List Task). tree_of c ts out) over_left)

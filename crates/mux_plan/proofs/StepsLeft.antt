@@ -1,8 +1,6 @@
 -- A walk with a task that doesn't wait has a step to come: its tree doesn't end.
 use Rattle.std.proofs.Common.{◌≡◌, ℕ, zero, suc, Bool, true, false, cond, List, [], ◌∷◌, length, drop, ◌<◌, refl, sym, ◌∙◌, arith}
-use Rattle.i2c_base.specs.Board.{BoardView}
 use Rattle.i2c_spec.specs.Tree.{Hop, locks_of}
-use Rattle.i2c_spec.specs.Messages.{MessageView}
 use Rattle.bus_spec.specs.Walk.{Job, JobOutcome, Note, WalkTree, Then, is_line, more_of}
 use Rattle.bus_spec.specs.Walk as walk
 use Rattle.bus_spec.specs.Grammar.{over, locked, part, messages, at_bus, behind, inner, is_over}
@@ -11,7 +9,7 @@ use Rattle.mux_plan.specs.declared.task.Task.TheVariants.{Enter, Lock, Free, Res
 use Rattle.mux_plan.specs.Plans.{RouteView, job_of, note_of, tree_of}
 use Rattle.mux_plan.specs.Rooms.{IsReady, IsWalk}
 
-module _ (b : BoardView) (ms : List MessageView) (c : RouteView) where
+module _ (c : RouteView) where
   goes_on-messages : (left : ℕ) (job : Job) (note : Note) (k : JobOutcome → WalkTree) → is_over (messages left job note k) ≡ false
   goes_on-messages zero job note k = refl
   goes_on-messages (suc left) job note k = refl
@@ -23,25 +21,25 @@ module _ (b : BoardView) (ms : List MessageView) (c : RouteView) where
       by true = refl
       by false = goes_on-messages (more_of job) job note k
 
-  goes_on-inner : (hs : List Hop) (job : Job) (note : Note) (k : JobOutcome → WalkTree) → is_over (inner b c.root hs job note k) ≡ false
+  goes_on-inner : (hs : List Hop) (job : Job) (note : Note) (k : JobOutcome → WalkTree) → is_over (inner c.board c.root hs job note k) ≡ false
   goes_on-inner [] job note k = goes_on-bus job note k
   goes_on-inner (h ∷ hs) job note k = by (is_line job)
     where
       by : (x : Bool) → is_over (cond x (at_bus job note k)
-          (behind b h (part h.parent (locks_of c.root hs) (inner b c.root hs)) job note k)) ≡ false
+          (behind c.board h (part h.parent (locks_of c.root hs) (inner c.board c.root hs)) job note k)) ≡ false
       by true = goes_on-bus job note k
       by false = refl
 
-  goes_on : (t : Task) (ts : List Task) (out : JobOutcome) → IsReady (t ∷ ts) → is_over (tree_of b ms c (t ∷ ts) out) ≡ false
-  goes_on (Enter n w) ts out ready = goes_on-inner (drop n c.path) (job_of c ms w) (note_of c ts) (tree_of b ms c ts)
+  goes_on : (t : Task) (ts : List Task) (out : JobOutcome) → IsReady (t ∷ ts) → is_over (tree_of c (t ∷ ts) out) ≡ false
+  goes_on (Enter n w) ts out ready = goes_on-inner (drop n c.path) (job_of c w) (note_of c ts) (tree_of c ts)
   goes_on (Lock m n w) ts out ready = by (drop m c.path)
     where
       by : (hs : List Hop) → is_over
-          (locked (locks_of c.root hs) (inner b c.root (drop n c.path)) (job_of c ms w) (note_of c ts) (tree_of b ms c ts)) ≡ false
+          (locked (locks_of c.root hs) (inner c.board c.root (drop n c.path)) (job_of c w) (note_of c ts) (tree_of c ts)) ≡ false
       by [] = refl
       by (g ∷ hs) = refl
   goes_on (Free l) ts out ready = refl
-  goes_on (Rest left w) ts out ready = goes_on-messages left (job_of c ms w) (note_of c ts) (tree_of b ms c ts)
+  goes_on (Rest left w) ts out ready = goes_on-messages left (job_of c w) (note_of c ts) (tree_of c ts)
   goes_on (Line w) ts out ready = refl
   goes_on (Settle x) ts out ready = refl
   goes_on (AwaitClose k m w) ts out ready = absurd ready
@@ -51,7 +49,7 @@ module _ (b : BoardView) (ms : List MessageView) (c : RouteView) where
   goes_on (AwaitDeselect k was) ts out ready = absurd ready
 
   pub is_over-empty : (ts : List Task) (out : JobOutcome) (empty : Bool) → IsReady ts → (empty ≡ true → ts ≡ [])
-      → (empty ≡ false → 0 < length ts) → empty ≡ is_over (tree_of b ms c ts out)
+      → (empty ≡ false → 0 < length ts) → empty ≡ is_over (tree_of c ts out)
   is_over-empty [] out true ready none some = refl
   is_over-empty [] out false ready none some = absurd (omega (arith, some refl))
   is_over-empty (t ∷ ts) out true ready none some = absurd (let e : t ∷ ts ≡ [] = none refl in cc)
@@ -59,7 +57,7 @@ module _ (b : BoardView) (ms : List MessageView) (c : RouteView) where
 
   -- the tasks of a walk and those with its looks answered end together
   pub both-over : (out : JobOutcome) (tasks looked : List Task) → IsWalk c tasks looked
-      → is_over (tree_of b ms c looked out) ≡ is_over (tree_of b ms c tasks out)
+      → is_over (tree_of c looked out) ≡ is_over (tree_of c tasks out)
   both-over out [] [] is = refl
   both-over out [] (t ∷ ts) is = absurd (let e : t ∷ ts ≡ [] = is.none refl in cc)
   both-over out (t ∷ ts) [] is = absurd (omega (arith, is.some (omega arith)))

@@ -1,7 +1,5 @@
 -- The looks in front of the next step of a walk.
-use Rattle.std.specs.Prelude.{◌≡◌, List}
-use Rattle.i2c_base.specs.Board.{BoardView}
-use Rattle.i2c_spec.specs.Messages.{MessageView}
+use Rattle.std.specs.Prelude.{◌≡◌}
 use Rattle.bus_spec.specs.Slots.{Slots}
 use Rattle.bus_spec.specs.Grammar.{seen}
 use Rattle.mux_plan.specs.Plans.{WalkView, walk_of, looked_of}
@@ -12,6 +10,6 @@ abbrev pub IsFresh : WalkView → Type 0
 IsFresh w = w.looked ≡ w.tasks
 
 -- the looks are answered by this, and a step comes next, or none
-pub record IsLooked (b : BoardView) (ms : List MessageView) (v : Slots) (w : WalkView) : Type 0 where
+pub record IsLooked (v : Slots) (w : WalkView) : Type 0 where
   pub step : IsStep w.looked
-  pub same : looked_of b ms w ≡ seen v (walk_of b ms w)
+  pub same : looked_of w ≡ seen v (walk_of w)

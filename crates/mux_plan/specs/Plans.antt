@@ -8,9 +8,10 @@ use Rattle.i2c_base.specs.declared.ids.LockId.{LockId}
 use Rattle.i2c_base.specs.declared.ids.LockId.TheVariants as lock
 use Rattle.i2c_base.specs.Board.{BoardView}
 use Rattle.i2c_base.specs.declared.board.MuxKind.TheVariants.{Gpio}
-use Rattle.i2c_spec.specs.Tree.{Hop, locks_of}
+use Rattle.i2c_base.specs.Transfer.{TransferView}
+use Rattle.i2c_spec.specs.Tree.{Hop, hops, root_of, locks_of}
 use Rattle.i2c_spec.specs.Chips.{select_value, close_value}
-use Rattle.i2c_spec.specs.Messages.{MessageView}
+use Rattle.i2c_spec.specs.Messages.{MessageView, messages_of}
 use Rattle.bus_spec.specs.Walk.{Job, Call, Select, SwitchOff, Deselect, Close, Act, ActOutcome, JobOutcome, Note, WalkTree, KeptOf, Go, Ends, Look, Then, job_bus, job_purpose, part_of, parts_of, line_mux, line_level}
 use Rattle.bus_spec.specs.Walk as walk
 use Rattle.bus_spec.specs.Slots.{MuxSlot, Clean, Marked, Slots, mark_in, after_job}
@@ -29,12 +30,17 @@ use Rattle.mux_plan.specs.declared.task.NextMsg.{NextMsg}
 use Rattle.mux_plan.specs.declared.task.Action.{Action}
 use Rattle.mux_plan.specs.declared.task.Action.TheVariants as action
 
--- what a walk knows of its transfer: the root, the muxes over its bus, nearest first, and how many messages it has
+-- what a walk knows of its transfer: the board, the root, the muxes over its bus, nearest first, and its messages
 pub record RouteView : Type 0 where
+  pub board : BoardView
   pub root : ℕ
   pub path : List Hop
   pub bus : ℕ
-  pub count : ℕ
+  pub messages : List MessageView
+
+-- .. where it leads to the transfer's bus
+abbrev pub route_of : BoardView → TransferView → RouteView
+route_of b t = record { board = b; root = root_of b t.bus; path = hops b t.bus; bus = t.bus; messages = messages_of t }
 
 -- a walk: its tasks, the one on the top first, before the looks in front of the next step and with these answered; and what
 -- came of the last job
@@ -51,11 +57,11 @@ no_hop = record { bus = 0; mux = 0; channel = 0; on = 0; parent = false; kind = 
 abbrev pub hop_at : RouteView → ℕ → Hop
 hop_at c k = slice_index_or c.path k no_hop
 
-abbrev pub job_of : RouteView → List MessageView → Work → Job
-job_of c ms work.Call = Call c.bus ms
-job_of c ms (work.Select k) = Select (hop_at c k)
-job_of c ms (work.Deselect k) = SwitchOff (Deselect (hop_at c k))
-job_of c ms (work.Close on mux kind) = SwitchOff (Close on mux kind)
+abbrev pub job_of : RouteView → Work → Job
+job_of c work.Call = Call c.bus c.messages
+job_of c (work.Select k) = Select (hop_at c k)
+job_of c (work.Deselect k) = SwitchOff (Deselect (hop_at c k))
+job_of c (work.Close on mux kind) = SwitchOff (Close on mux kind)
 
 abbrev pub came_of : WorkResult → JobOutcome
 came_of came.Good = walk.Good
@@ -89,29 +95,29 @@ note_of c (AwaitWork k ∷ ts) = note_of c ts
 note_of c (AwaitDeselect k was ∷ ts) = aside (hop_at c k)
 
 -- what does a job on the bus that mux k of the path stands on
-abbrev pub on_bus : BoardView → RouteView → ℕ → Doer
-on_bus b c k = part (hop_at c k).parent (locks_of c.root (drop (k + 1) c.path)) (inner b c.root (drop (k + 1) c.path))
+abbrev pub on_bus : RouteView → ℕ → Doer
+on_bus c k = part (hop_at c k).parent (locks_of c.root (drop (k + 1) c.path)) (inner c.board c.root (drop (k + 1) c.path))
 
 -- the walk that these tasks stand for, where this came of the last job
-abbrev pub tree_of : BoardView → List MessageView → RouteView → List Task → JobOutcome → WalkTree
-tree_of b ms c [] out = Ends
-tree_of b ms c (Enter n w ∷ ts) out = inner b c.root (drop n c.path) (job_of c ms w) (note_of c ts) (tree_of b ms c ts)
-tree_of b ms c (Lock m n w ∷ ts) out =
-    locked (locks_of c.root (drop m c.path)) (inner b c.root (drop n c.path)) (job_of c ms w) (note_of c ts) (tree_of b ms c ts)
-tree_of b ms c (Free l ∷ ts) out = Then (walk.Free l) plain (λ o. tree_of b ms c ts out)
-tree_of b ms c (Rest left w ∷ ts) out = messages left (job_of c ms w) (note_of c ts) (tree_of b ms c ts)
-tree_of b ms c (Line w ∷ ts) out = Then (walk.Shift (job_of c ms w)) (note_of c ts)
-    (over (job_of c ms w) zero (note_of c ts) (tree_of b ms c ts))
-tree_of b ms c (Settle v ∷ ts) out = Then (walk.Settle v) plain (λ o. tree_of b ms c ts out)
-tree_of b ms c (AwaitClose k m w ∷ ts) out =
+abbrev pub tree_of : RouteView → List Task → JobOutcome → WalkTree
+tree_of c [] out = Ends
+tree_of c (Enter n w ∷ ts) out = inner c.board c.root (drop n c.path) (job_of c w) (note_of c ts) (tree_of c ts)
+tree_of c (Lock m n w ∷ ts) out =
+    locked (locks_of c.root (drop m c.path)) (inner c.board c.root (drop n c.path)) (job_of c w) (note_of c ts) (tree_of c ts)
+tree_of c (Free l ∷ ts) out = Then (walk.Free l) plain (λ o. tree_of c ts out)
+tree_of c (Rest left w ∷ ts) out = messages left (job_of c w) (note_of c ts) (tree_of c ts)
+tree_of c (Line w ∷ ts) out = Then (walk.Shift (job_of c w)) (note_of c ts)
+    (over (job_of c w) zero (note_of c ts) (tree_of c ts))
+tree_of c (Settle v ∷ ts) out = Then (walk.Settle v) plain (λ o. tree_of c ts out)
+tree_of c (AwaitClose k m w ∷ ts) out =
     if_sent out (Look (KeptOf (hop_at c k).on (hop_at c k).mux)
-    (crossed (hop_at c k) (on_bus b c k) (job_of c ms w) (note_of c ts) (tree_of b ms c ts))) (tree_of b ms c ts)
-tree_of b ms c (Pass k w ∷ ts) out = Look (KeptOf (hop_at c k).on (hop_at c k).mux)
-    (crossed (hop_at c k) (on_bus b c k) (job_of c ms w) (note_of c ts) (tree_of b ms c ts))
-tree_of b ms c (AwaitSelect k w ∷ ts) out =
-    if_good out (opened (hop_at c k) (on_bus b c k) (job_of c ms w) (note_of c ts) (tree_of b ms c ts)) (tree_of b ms c ts)
-tree_of b ms c (AwaitWork k ∷ ts) out = on_bus b c k (SwitchOff (Deselect (hop_at c k))) (aside (hop_at c k)) (λ o. tree_of b ms c ts out)
-tree_of b ms c (AwaitDeselect k was ∷ ts) out = tree_of b ms c ts (came_of was)
+    (crossed (hop_at c k) (on_bus c k) (job_of c w) (note_of c ts) (tree_of c ts))) (tree_of c ts)
+tree_of c (Pass k w ∷ ts) out = Look (KeptOf (hop_at c k).on (hop_at c k).mux)
+    (crossed (hop_at c k) (on_bus c k) (job_of c w) (note_of c ts) (tree_of c ts))
+tree_of c (AwaitSelect k w ∷ ts) out =
+    if_good out (opened (hop_at c k) (on_bus c k) (job_of c w) (note_of c ts) (tree_of c ts)) (tree_of c ts)
+tree_of c (AwaitWork k ∷ ts) out = on_bus c k (SwitchOff (Deselect (hop_at c k))) (aside (hop_at c k)) (λ o. tree_of c ts out)
+tree_of c (AwaitDeselect k was ∷ ts) out = tree_of c ts (came_of was)
 
 -- the job on the bus at place n: the locks of a mux-locked mux come first
 abbrev pub part_task : Bool → ℕ → Work → Task
@@ -124,9 +130,9 @@ choice_of c k true w = w
 choice_of c k false w = work.Select k
 
 -- .. and a marked one is closed before
-abbrev pub switch_of : BoardView → RouteView → ℕ → Option ℕ → Bool → Work → Work
-switch_of b c k None kept w = choice_of c k kept w
-switch_of b c k (Some m) kept w = work.Close (hop_at c k).on m (kind_of b m)
+abbrev pub switch_of : RouteView → ℕ → Option ℕ → Bool → Work → Work
+switch_of c k None kept w = choice_of c k kept w
+switch_of c k (Some m) kept w = work.Close (hop_at c k).on m (kind_of c.board m)
 
 -- what waits for that job, above these tasks: nothing where no select is made
 abbrev pub select_tasks : Bool → ℕ → Work → List Task → List Task
@@ -170,12 +176,12 @@ is_deselect (AwaitSelect k w) = false
 is_deselect (AwaitWork k) = false
 is_deselect (AwaitDeselect k was) = true
 
--- the walk that its tasks stand for, before the looks in front of its next step, and with these answered
-abbrev pub walk_of : BoardView → List MessageView → WalkView → WalkTree
-walk_of b ms w = tree_of b ms w.route w.tasks w.came
+-- the tree of a walk, before the looks in front of its next step, and with these answered
+abbrev pub walk_of : WalkView → WalkTree
+walk_of w = tree_of w.route w.tasks w.came
 
-abbrev pub looked_of : BoardView → List MessageView → WalkView → WalkTree
-looked_of b ms w = tree_of b ms w.route w.looked w.came
+abbrev pub looked_of : WalkView → WalkTree
+looked_of w = tree_of w.route w.looked w.came
 
 -- what lock words tell: the mark of each bus, and the channel that each mux keeps open
 pub record SeenView : Type 0 where

@@ -1,6 +1,5 @@
 //! Which marks and kept channels a step changes.
-ghost use Rattle.std.specs.Prelude.{◌≡◌, ℕ, ◌+◌, ◌<◌, ◌≤◌, List, [], ◌∷◌, ◌++◌, Some, None, length, reverse, All};
-ghost use Rattle.i2c_spec.specs.Messages.{MessageView};
+ghost use Rattle.std.specs.Prelude.{◌≡◌, ◌+◌, ◌<◌, ◌≤◌, [], ◌∷◌, ◌++◌, Some, None, length, reverse, All};
 ghost use Rattle.mux_plan.specs.Plans.{job_of, note_of, outcome_of};
 ghost use Rattle.mux_plan.specs.Marks.{all_marked, left_open, updates_on, updates_of_job};
 ghost use Rattle.mux_plan.specs.Rooms.{IsPlaced, IsNarrow, IsPlacedWork, STACK_ROOM};
@@ -135,8 +134,7 @@ pub fn mark_work(
     requires empty { updates.old.items ≡ [] }
     requires work { IsPlacedWork (length route.now.path) work.now }
     requires narrow { All IsNarrow route.now.path }
-    ensures { (ms : List MessageView)
-        → updates.new.items ≡ updates_of_job (job_of route.now ms work.now) left (note_of route.now (reverse tasks.now)).marks (outcome_of outcome.now) }
+    ensures { updates.new.items ≡ updates_of_job (job_of route.now work.now) left (note_of route.now (reverse tasks.now)).marks (outcome_of outcome.now) }
 {
     match work {
         Work::Call => {}

@@ -1,25 +1,19 @@
 //! A walk as a stack of tasks.
-ghost use Rattle.std.specs.Prelude.{◌≡◌, ◌+◌, ◌<◌, ◌≤◌, ℕ, true, false, List, [], ◌∷◌, length, Option, None, Some, IfSome};
+ghost use Rattle.std.specs.Prelude.{◌≡◌, ◌+◌, ◌<◌, ◌≤◌, ℕ, true, false, List, [], ◌∷◌, length};
 ghost use Rattle.std.specs.List.{list_any};
-ghost use Rattle.i2c_base.specs.Board.{BoardView};
-ghost use Rattle.i2c_spec.specs.Messages.{MessageView};
-ghost use Rattle.i2c_base.specs.declared.errno.Errno.{Errno};
 ghost use Rattle.bus_spec.specs.Slots.{Slots};
-ghost use Rattle.bus_spec.specs.Walk.{JobOutcome, ActOutcome, Settle, Look, KeptOf};
-ghost use Rattle.bus_spec.specs.Grammar.{at_bus, lost as lost_of, is_over, first_act, first_note, keeps, crossed, opened, over, seen as seen_by, rest_of};
-ghost use Rattle.mux_plan.specs.Plans.{job_of, hop_at, came_of, outcome_of, note_of, on_bus, tree_of, action_of, slots_of, mark_on, kept_of, part_task, select_tasks, wait_tasks, work_tasks, crossed_tasks, choice_of, switch_of};
+ghost use Rattle.bus_spec.specs.Walk.{JobOutcome, ActOutcome, Look, KeptOf};
+ghost use Rattle.bus_spec.specs.Grammar.{at_bus, lost as lost_of, keeps, crossed, opened, over, seen as seen_by, rest_of};
+ghost use Rattle.mux_plan.specs.Plans.{job_of, hop_at, came_of, outcome_of, note_of, on_bus, tree_of, slots_of, mark_on, kept_of, part_task, select_tasks, wait_tasks, work_tasks, crossed_tasks, choice_of, switch_of};
 ghost use Rattle.mux_plan.specs.Plans as plans;
-ghost use Rattle.mux_plan.specs.Marks.{updates_after};
 ghost use Rattle.mux_plan.specs.Rooms.{IsPlacedWork, IsPlanned, IsReady, IsStep, STACK_ROOM};
 ghost use Rattle.mux_plan.specs.declared.task.Task.TheVariants.{Enter, Lock, Rest, Pass, AwaitClose, AwaitSelect, AwaitWork};
-ghost use Rattle.mux_plan.specs.declared.task.Action.TheVariants.{Done};
 
-use crate::marks::{MuxUpdates, mark_work};
 use crate::route::close;
 use crate::stack::Stack;
 use crate::work::Continuation;
-use crate::{Action, Outcome, Route, Seen, Task, Work, WorkResult};
-use i2c_base::{Errno, MuxId};
+use crate::{Outcome, Route, Seen, Task, Work, WorkResult};
+use i2c_base::MuxId;
 use i2c_board::Board;
 
 /// The parts of a walk.
@@ -101,9 +95,10 @@ impl WalkParts {
 
     // The work waits for what comes first at a mux, which is given.
     fn wait(&mut self, board: &Board, seen: &Seen<'_>, hop: u8, work: &Work) -> Work
+        requires on { board.now ≡ self.old.route.board }
         requires room { length self.old.stack < STACK_ROOM }
         requires there { hop < length self.old.route.path }
-        ensures next { result ≡ switch_of board.now self.old.route hop (mark_on seen.now (hop_at self.old.route hop).on) (keeps (hop_at self.old.route hop) (kept_of seen.now (hop_at self.old.route hop).mux)) work.now }
+        ensures next { result ≡ switch_of self.old.route hop (mark_on seen.now (hop_at self.old.route hop).on) (keeps (hop_at self.old.route hop) (kept_of seen.now (hop_at self.old.route hop).mux)) work.now }
         ensures placed { IsPlacedWork (length self.old.route.path) work.now → IsPlacedWork (length self.old.route.path) result }
         ensures few { length self.new.stack ≤ length self.old.stack + 1 }
         ensures stack { self.new.stack ≡ wait_tasks (mark_on seen.now (hop_at self.old.route hop).on) (keeps (hop_at self.old.route hop) (kept_of seen.now (hop_at self.old.route hop).mux)) hop work.now self.old.stack }
@@ -127,10 +122,11 @@ impl WalkParts {
     // At a mux the work waits. Gives what comes first there, which takes the locks of a mux-locked one.
     #[inline(always)]
     fn cross(&mut self, board: &Board, seen: &Seen<'_>, hop: u8, work: &Work) -> Work
+        requires on { board.now ≡ self.old.route.board }
         requires room { length self.old.stack + 2 ≤ STACK_ROOM }
         requires there { hop < length self.old.route.path }
         requires low { hop + 1 < 256 }
-        ensures next { result ≡ switch_of board.now self.old.route hop (mark_on seen.now (hop_at self.old.route hop).on) (keeps (hop_at self.old.route hop) (kept_of seen.now (hop_at self.old.route hop).mux)) work.now }
+        ensures next { result ≡ switch_of self.old.route hop (mark_on seen.now (hop_at self.old.route hop).on) (keeps (hop_at self.old.route hop) (kept_of seen.now (hop_at self.old.route hop).mux)) work.now }
         ensures placed { IsPlacedWork (length self.old.route.path) work.now → IsPlacedWork (length self.old.route.path) result }
         ensures stack { self.new.stack ≡ crossed_tasks (hop_at self.old.route hop).parent (mark_on seen.now (hop_at self.old.route hop).on) (keeps (hop_at self.old.route hop) (kept_of seen.now (hop_at self.old.route hop).mux)) hop work.now result self.old.stack }
         ensures route { self.new.route ≡ self.old.route }
@@ -147,8 +143,7 @@ impl WalkParts {
     fn reach(&mut self, work: &Work)
         requires room { length self.old.stack < STACK_ROOM }
         requires placed { IsPlacedWork (length self.old.route.path) work.now }
-        ensures tree { (b : BoardView) (ms : List MessageView) (out : JobOutcome) → length ms ≡ self.old.route.count
-            → tree_of b ms self.new.route self.new.stack out ≡ at_bus (job_of self.old.route ms work.now) (note_of self.old.route self.old.stack) (tree_of b ms self.old.route self.old.stack) }
+        ensures tree { (out : JobOutcome) → tree_of self.new.route self.new.stack out ≡ at_bus (job_of self.old.route work.now) (note_of self.old.route self.old.stack) (tree_of self.old.route self.old.stack) }
         ensures planned { (n : ℕ) → IsPlanned self.old.route (Enter n work.now ∷ self.old.stack) → IsPlanned self.new.route self.new.stack }
         ensures step { IsStep self.new.stack }
         ensures some { 0 < length self.new.stack }
@@ -163,10 +158,10 @@ impl WalkParts {
     /// is on the top.
     #[inline(always)]
     pub fn enter(&mut self, board: &Board, seen: &Seen<'_>, place: u8, work: Work)
+        requires on { board.now ≡ self.old.route.board }
         requires planned { IsPlanned self.old.route (Enter place work ∷ self.old.stack) }
-        ensures tree { (ms : List MessageView) (out : JobOutcome) → length ms ≡ self.old.route.count
-            → tree_of board.now ms self.new.route self.new.stack out
-            ≡ seen_by (slots_of seen.now) (tree_of board.now ms self.old.route (Enter place work ∷ self.old.stack) out) }
+        ensures tree { (out : JobOutcome) → tree_of self.new.route self.new.stack out
+            ≡ seen_by (slots_of seen.now) (tree_of self.old.route (Enter place work ∷ self.old.stack) out) }
         ensures planned { IsPlanned self.new.route self.new.stack }
         ensures step { IsStep self.new.stack }
         ensures some { 0 < length self.new.stack }
@@ -190,10 +185,10 @@ impl WalkParts {
     // comes then. Apart, since few walks come here.
     #[inline(never)]
     fn pass(&mut self, board: &Board, seen: &Seen<'_>, hop: u8, work: &Work)
+        requires on { board.now ≡ self.old.route.board }
         requires planned { IsPlanned self.old.route (Pass hop work.now ∷ self.old.stack) }
-        ensures tree { (ms : List MessageView) (out : JobOutcome) → length ms ≡ self.old.route.count
-            → tree_of board.now ms self.new.route self.new.stack out
-            ≡ seen_by (slots_of seen.now) (tree_of board.now ms self.old.route (Pass hop work.now ∷ self.old.stack) out) }
+        ensures tree { (out : JobOutcome) → tree_of self.new.route self.new.stack out
+            ≡ seen_by (slots_of seen.now) (tree_of self.old.route (Pass hop work.now ∷ self.old.stack) out) }
         ensures planned { IsPlanned self.new.route self.new.stack }
         ensures step { IsStep self.new.stack }
         ensures some { 0 < length self.new.stack }
@@ -211,11 +206,11 @@ impl WalkParts {
     /// Answers the looks in front of the next step.
     #[inline(always)]
     pub fn look(&mut self, board: &Board, seen: &Seen<'_>)
+        requires on { board.now ≡ self.old.route.board }
         requires planned { IsPlanned self.old.route self.old.stack }
         requires ready { IsReady self.old.stack }
-        ensures tree { (ms : List MessageView) (out : JobOutcome) → length ms ≡ self.old.route.count
-            → tree_of board.now ms self.new.route self.new.stack out
-            ≡ seen_by (slots_of seen.now) (tree_of board.now ms self.old.route self.old.stack out) }
+        ensures tree { (out : JobOutcome) → tree_of self.new.route self.new.stack out
+            ≡ seen_by (slots_of seen.now) (tree_of self.old.route self.old.stack out) }
         ensures planned { IsPlanned self.new.route self.new.stack }
         ensures step { IsStep self.new.stack }
         ensures some { 0 < length self.old.stack → 0 < length self.new.stack }
@@ -246,8 +241,8 @@ impl WalkParts {
     // Takes the first of the locks from a place on.
     fn lock(&mut self, from: u8, place: u8, work: Work)
         requires planned { IsPlanned self.old.route (Lock from place work ∷ self.old.stack) }
-        ensures tree { (b : BoardView) (ms : List MessageView) (out out2 : JobOutcome) (o : ActOutcome)
-            → tree_of b ms self.new.route self.new.stack out ≡ rest_of (tree_of b ms self.old.route (Lock from place work ∷ self.old.stack) out2) o }
+        ensures tree { (out out2 : JobOutcome) (o : ActOutcome)
+            → tree_of self.new.route self.new.stack out ≡ rest_of (tree_of self.old.route (Lock from place work ∷ self.old.stack) out2) o }
         ensures planned { IsPlanned self.new.route self.new.stack }
         ensures route { self.new.route ≡ self.old.route }
     {
@@ -274,9 +269,8 @@ impl WalkParts {
     #[inline(always)]
     fn end(&mut self, left: u8, work: Work, outcome: &Outcome<'_>)
         requires planned { IsPlanned self.old.route (Rest left work ∷ self.old.stack) }
-        ensures tree { (b : BoardView) (ms : List MessageView)
-            → tree_of b ms self.new.route self.new.stack (came_of self.new.came)
-            ≡ over (job_of self.old.route ms work) left (note_of self.old.route self.old.stack) (tree_of b ms self.old.route self.old.stack) (outcome_of outcome.now) }
+        ensures tree { tree_of self.new.route self.new.stack (came_of self.new.came)
+            ≡ over (job_of self.old.route work) left (note_of self.old.route self.old.stack) (tree_of self.old.route self.old.stack) (outcome_of outcome.now) }
         ensures planned { IsPlanned self.new.route self.new.stack }
         ensures route { self.new.route ≡ self.old.route }
     {
@@ -291,9 +285,9 @@ impl WalkParts {
     #[inline(always)]
     fn message(&mut self, left: u8, work: Work, outcome: &Outcome<'_>)
         requires planned { IsPlanned self.old.route (Rest left work ∷ self.old.stack) }
-        ensures tree { (b : BoardView) (ms : List MessageView) (out : JobOutcome)
-            → tree_of b ms self.new.route self.new.stack (came_of self.new.came)
-            ≡ rest_of (tree_of b ms self.old.route (Rest left work ∷ self.old.stack) out) (outcome_of outcome.now) }
+        ensures tree { (out : JobOutcome)
+            → tree_of self.new.route self.new.stack (came_of self.new.came)
+            ≡ rest_of (tree_of self.old.route (Rest left work ∷ self.old.stack) out) (outcome_of outcome.now) }
         ensures planned { IsPlanned self.new.route self.new.stack }
         ensures route { self.new.route ≡ self.old.route }
     {
@@ -311,41 +305,13 @@ impl WalkParts {
         }
     }
 
-    /// Which marks change where the step on the top has this outcome.
-    #[inline(always)]
-    pub fn mark(&self, updates: &mut MuxUpdates, outcome: &Outcome<'_>)
-        requires planned { IsPlanned self.now.route self.now.stack }
-        requires step { IsStep self.now.stack }
-        requires few { length self.now.stack ≤ STACK_ROOM }
-        requires empty { updates.old.items ≡ [] }
-        ensures { (b : BoardView) (ms : List MessageView) (out : JobOutcome)
-            → updates.new.items ≡ updates_after (first_act (tree_of b ms self.now.route self.now.stack out)) (first_note (tree_of b ms self.now.route self.now.stack out)) (outcome_of outcome.now) }
-    {
-        let Some((top, below)) = self.stack.split() else {
-            return;
-        };
-        match top {
-            Task::Rest { left, work } => mark_work(
-                updates,
-                &self.route,
-                below,
-                *left,
-                work,
-                outcome,
-            ),
-            Task::Line { work } => mark_work(updates, &self.route, below, 0, work, outcome),
-            _ => {}
-        }
-    }
-
     /// The step on the top is done, and had this outcome.
     #[inline(always)]
     pub fn act(&mut self, outcome: &Outcome<'_>)
         requires planned { IsPlanned self.old.route self.old.stack }
         requires step { IsStep self.old.stack }
-        ensures tree { (b : BoardView) (ms : List MessageView)
-            → tree_of b ms self.new.route self.new.stack (came_of self.new.came)
-            ≡ rest_of (tree_of b ms self.old.route self.old.stack (came_of self.old.came)) (outcome_of outcome.now) }
+        ensures tree { tree_of self.new.route self.new.stack (came_of self.new.came)
+            ≡ rest_of (tree_of self.old.route self.old.stack (came_of self.old.came)) (outcome_of outcome.now) }
         ensures planned { IsPlanned self.new.route self.new.stack }
         ensures route { self.new.route ≡ self.old.route }
     {
@@ -384,10 +350,10 @@ impl WalkParts {
     // A marked mux was closed: the look at the kept channel comes next.
     fn closed(&mut self, hop: u8, mux: MuxId, work: Work)
         requires planned { IsPlanned self.old.route (AwaitClose hop mux work ∷ self.old.stack) }
-        ensures tree { (b : BoardView) (ms : List MessageView) (out : JobOutcome)
-            → tree_of b ms self.new.route self.new.stack out
+        ensures tree { (out : JobOutcome)
+            → tree_of self.new.route self.new.stack out
             ≡ Look (KeptOf (hop_at self.old.route hop).on (hop_at self.old.route hop).mux)
-            (crossed (hop_at self.old.route hop) (on_bus b self.old.route hop) (job_of self.old.route ms work) (note_of self.old.route self.old.stack) (tree_of b ms self.old.route self.old.stack)) }
+            (crossed (hop_at self.old.route hop) (on_bus self.old.route hop) (job_of self.old.route work) (note_of self.old.route self.old.stack) (tree_of self.old.route self.old.stack)) }
         ensures planned { IsPlanned self.new.route self.new.stack }
         ensures ready { IsReady self.new.stack }
         ensures route { self.new.route ≡ self.old.route }
@@ -413,9 +379,9 @@ impl WalkParts {
     // The channel is selected: the work is done.
     fn serve(&mut self, hop: u8, work: Work)
         requires planned { IsPlanned self.old.route (AwaitSelect hop work ∷ self.old.stack) }
-        ensures tree { (b : BoardView) (ms : List MessageView) (out : JobOutcome)
-            → tree_of b ms self.new.route self.new.stack out
-            ≡ opened (hop_at self.old.route hop) (on_bus b self.old.route hop) (job_of self.old.route ms work) (note_of self.old.route self.old.stack) (tree_of b ms self.old.route self.old.stack) }
+        ensures tree { (out : JobOutcome)
+            → tree_of self.new.route self.new.stack out
+            ≡ opened (hop_at self.old.route hop) (on_bus self.old.route hop) (job_of self.old.route work) (note_of self.old.route self.old.stack) (tree_of self.old.route self.old.stack) }
         ensures planned { IsPlanned self.new.route self.new.stack }
         ensures ready { IsReady self.new.stack }
         ensures route { self.new.route ≡ self.old.route }
@@ -430,9 +396,9 @@ impl WalkParts {
     #[inline(never)]
     fn deselect(&mut self, hop: u8)
         requires planned { IsPlanned self.old.route (AwaitWork hop ∷ self.old.stack) }
-        ensures tree { (b : BoardView) (ms : List MessageView) (out : JobOutcome)
-            → tree_of b ms self.new.route self.new.stack out
-            ≡ tree_of b ms self.old.route (AwaitWork hop ∷ self.old.stack) (came_of self.old.came) }
+        ensures tree { (out : JobOutcome)
+            → tree_of self.new.route self.new.stack out
+            ≡ tree_of self.old.route (AwaitWork hop ∷ self.old.stack) (came_of self.old.came) }
         ensures planned { IsPlanned self.new.route self.new.stack }
         ensures ready { IsReady self.new.stack }
         ensures route { self.new.route ≡ self.old.route }
@@ -451,8 +417,7 @@ impl WalkParts {
     #[inline(always)]
     fn wake(&mut self) -> bool
         requires planned { IsPlanned self.old.route self.old.stack }
-        ensures tree { (b : BoardView) (ms : List MessageView)
-            → tree_of b ms self.new.route self.new.stack (came_of self.new.came) ≡ tree_of b ms self.old.route self.old.stack (came_of self.old.came) }
+        ensures tree { tree_of self.new.route self.new.stack (came_of self.new.came) ≡ tree_of self.old.route self.old.stack (came_of self.old.came) }
         ensures planned { IsPlanned self.new.route self.new.stack }
         ensures route { self.new.route ≡ self.old.route }
         ensures ready { result ≡ false → IsReady self.new.stack }
@@ -501,9 +466,8 @@ impl WalkParts {
     #[inline(never)]
     fn wake_close(&mut self, hop: u8, mux: MuxId, work: Work) -> bool
         requires planned { IsPlanned self.old.route (AwaitClose hop mux work ∷ self.old.stack) }
-        ensures tree { (b : BoardView) (ms : List MessageView)
-            → tree_of b ms self.new.route self.new.stack (came_of self.new.came)
-            ≡ tree_of b ms self.old.route (AwaitClose hop mux work ∷ self.old.stack) (came_of self.old.came) }
+        ensures tree { tree_of self.new.route self.new.stack (came_of self.new.came)
+            ≡ tree_of self.old.route (AwaitClose hop mux work ∷ self.old.stack) (came_of self.old.came) }
         ensures planned { IsPlanned self.new.route self.new.stack }
         ensures route { self.new.route ≡ self.old.route }
         ensures ready { result ≡ false → IsReady self.new.stack }
@@ -522,9 +486,8 @@ impl WalkParts {
     #[inline(never)]
     fn wake_select(&mut self, hop: u8, work: Work) -> bool
         requires planned { IsPlanned self.old.route (AwaitSelect hop work ∷ self.old.stack) }
-        ensures tree { (b : BoardView) (ms : List MessageView)
-            → tree_of b ms self.new.route self.new.stack (came_of self.new.came)
-            ≡ tree_of b ms self.old.route (AwaitSelect hop work ∷ self.old.stack) (came_of self.old.came) }
+        ensures tree { tree_of self.new.route self.new.stack (came_of self.new.came)
+            ≡ tree_of self.old.route (AwaitSelect hop work ∷ self.old.stack) (came_of self.old.came) }
         ensures planned { IsPlanned self.new.route self.new.stack }
         ensures route { self.new.route ≡ self.old.route }
         ensures ready { result ≡ false → IsReady self.new.stack }
@@ -546,51 +509,11 @@ impl WalkParts {
     #[inline(always)]
     pub fn resume(&mut self)
         requires planned { IsPlanned self.old.route self.old.stack }
-        ensures tree { (b : BoardView) (ms : List MessageView)
-            → tree_of b ms self.new.route self.new.stack (came_of self.new.came) ≡ tree_of b ms self.old.route self.old.stack (came_of self.old.came) }
+        ensures tree { tree_of self.new.route self.new.stack (came_of self.new.came) ≡ tree_of self.old.route self.old.stack (came_of self.old.came) }
         ensures planned { IsPlanned self.new.route self.new.stack }
         ensures ready { IsReady self.new.stack }
         ensures route { self.new.route ≡ self.old.route }
     {
         'waiting: while self.wake() {}
-    }
-
-    /// No task is left, and so no step.
-    pub fn is_over(&self) -> bool
-        requires ready { IsReady self.now.stack }
-        ensures { (b : BoardView) (ms : List MessageView) → result ≡ is_over (tree_of b ms self.now.route self.now.stack (came_of self.now.came)) }
-    {
-        self.stack.is_empty()
-    }
-
-    /// The settle on the top, if one is there: why the reply is an error, or none.
-    pub fn settles(&self) -> Option<Option<Errno>>
-        requires step { IsStep self.now.stack }
-        ensures some { (b : BoardView) (ms : List MessageView) → IfSome result (λ verdict. first_act (tree_of b ms self.now.route self.now.stack (came_of self.now.came)) ≡ Some (Settle verdict)) }
-        ensures none { (b : BoardView) (ms : List MessageView) (verdict : Option Errno) → result ≡ None
-            → first_act (tree_of b ms self.now.route self.now.stack (came_of self.now.came)) ≡ Some (Settle verdict) → ⊥ }
-    {
-        let Some(task) = self.stack.peek() else {
-            return None;
-        };
-        match task {
-            Task::Settle(verdict) => Some(*verdict),
-            _ => None,
-        }
-    }
-
-    /// The action of the step on the top. Done exactly where no task is left.
-    #[inline(always)]
-    pub fn first(&self) -> Action
-        requires planned { IsPlanned self.now.route self.now.stack }
-        requires step { IsStep self.now.stack }
-        ensures first { (b : BoardView) (ms : List MessageView) → length ms ≡ self.now.route.count
-            → result ≡ action_of (first_act (tree_of b ms self.now.route self.now.stack (came_of self.now.came))) }
-        ensures over { result ≡ Done → self.now.stack ≡ [] }
-    {
-        let Some(task) = self.stack.peek() else {
-            return Action::Done;
-        };
-        self.route.action(task)
     }
 }

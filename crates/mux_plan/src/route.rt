@@ -1,13 +1,12 @@
 //! The way of a transfer, and the first step on it.
 ghost use Rattle.std.specs.Prelude.{◌≡◌, ◌≢◌, ◌+◌, ◌<◌, ◌≤◌, ◌⊎◌, ℕ, true, false, List, [], ◌∷◌, length, drop, None, All};
-ghost use Rattle.i2c_base.specs.Board.{BoardView};
 ghost use Rattle.i2c_base.specs.Limits.{MOST_DEPTH};
-ghost use Rattle.i2c_spec.specs.Messages.{MessageView};
-ghost use Rattle.i2c_spec.specs.Tree.{buses, hops, root_of};
+ghost use Rattle.i2c_spec.specs.Messages.{messages_of};
+ghost use Rattle.i2c_spec.specs.Tree.{buses};
 ghost use Rattle.bus_spec.specs.Walk.{JobOutcome, is_line};
 ghost use Rattle.bus_spec.specs.Walk as walk;
 ghost use Rattle.bus_spec.specs.Grammar.{at_bus, first_act, kind_of as kind_at};
-ghost use Rattle.mux_plan.specs.Plans.{job_of, hop_at, tree_of, note_of, first_lock, locks_on, action_of};
+ghost use Rattle.mux_plan.specs.Plans.{route_of, job_of, hop_at, tree_of, note_of, first_lock, locks_on, action_of};
 ghost use Rattle.mux_plan.specs.Rooms.{IsNarrow, IsPlacedWork, IsPlanned, IsStep};
 ghost use Rattle.mux_plan.specs.declared.task.Task.{Task};
 ghost use Rattle.mux_plan.specs.declared.task.Task.TheVariants.{Enter};
@@ -16,30 +15,35 @@ ghost use Rattle.mux_plan.specs.declared.task.Work.TheVariants as work;
 
 use crate::{Action, NextMsg, Task, Work};
 use arrayvec::ArrayVec;
-use i2c_base::{LockId, MOST_MUXES, MuxId, MuxKind, SegId};
+use i2c_base::{LockId, MOST_MUXES, MuxId, MuxKind, SegId, Transfer};
 use i2c_board::{Board, CachedBoard, Hop, end_of};
 use std::marker::Model;
+use std::snapshot::Snapshot;
 
-/// What a walk knows of its transfer: the muxes over its bus, and how many messages it has. A contract sees the record
-/// of these parts.
+/// What a walk knows of its transfer: the muxes over its bus, and how many messages it has. A contract sees the board, the
+/// way and the messages.
 #[derive(Drop)]
 pub struct Route {
-    pub root: SegId,
+    board: Snapshot<Board>,
+    transfer: Snapshot<Transfer>,
+    root: SegId,
     /// The muxes over the bus, nearest first.
-    pub path: ArrayVec<Hop, MOST_MUXES>,
-    pub bus: SegId,
+    path: ArrayVec<Hop, MOST_MUXES>,
+    bus: SegId,
     /// How many messages the transfer has.
-    pub count: u8,
+    count: u8,
 }
 
 impl Model for Route {
+    ghost use Rattle.std.specs.Prelude.{◌≡◌, length};
+    ghost use Rattle.i2c_spec.specs.Messages.{messages_of};
     ghost use Rattle.mux_plan.specs.Plans.{RouteView};
 
     ghost Value = { RouteView };
 
-    ghost view = { λ c. record { root = c.root; path = c.path.items; bus = c.bus; count = c.count } };
+    ghost view = { λ c. record { board = c.board.value; root = c.root; path = c.path.items; bus = c.bus; messages = messages_of c.transfer.value } };
 
-    ghost inverse = { λ c. record { root = c.root; path = record { items = c.path }; bus = c.bus; count = c.count } };
+    ghost invariant = { λ c. c.count ≡ length (messages_of c.transfer.value) };
 }
 
 // The kind of a mux, where the board has it.
@@ -64,18 +68,67 @@ pub fn close(board: &Board, on: SegId, mux: MuxId) -> Work
 }
 
 impl Route {
-    /// Leads to a bus of the board, for a transfer of so many messages.
+    /// Leads nowhere, for a transfer that is not sent.
+    pub fn nowhere(board: &Board, transfer: &Transfer) -> Self
+        ensures { result ≡ record { board = board.now; root = 0; path = []; bus = 0; messages = messages_of transfer.now } }
+    {
+        Route {
+            board: Snapshot::of(board),
+            transfer: Snapshot::of(transfer),
+            root: SegId(0),
+            path: ArrayVec::new(),
+            bus: SegId(0),
+            count: transfer.msgs().len() as u8,
+        }
+    }
+
+    /// Leads to the bus of a transfer.
     #[inline(always)]
-    pub fn set_route(&mut self, board: &CachedBoard<'_>, bus: SegId, count: u8)
-        requires there { bus < buses board.now }
-        ensures route { self.new ≡ record { root = root_of board.now bus; path = hops board.now bus; bus = bus; count = count } }
+    pub fn set_route(&mut self, board: &CachedBoard<'_>, transfer: &Transfer)
+        requires there { transfer.now.bus < buses board.now }
+        ensures route { self.new ≡ route_of board.now transfer.now }
         ensures deep { length self.new.path ≤ MOST_DEPTH }
         ensures narrow { All IsNarrow self.new.path }
     {
+        let bus = SegId(transfer.bus());
         board.board().layout().find_hops(bus, &mut self.path);
         self.root = end_of(bus, self.path.as_slice());
         self.bus = bus;
-        self.count = count;
+        self.set_transfer(board.board(), transfer);
+    }
+
+    /// Keeps its way, for another transfer.
+    #[inline(always)]
+    pub fn set_transfer(&mut self, board: &Board, transfer: &Transfer)
+        ensures { self.new ≡ record self.old { board = board.now; messages = messages_of transfer.now } }
+    {
+        self.board = Snapshot::of(board);
+        self.transfer = Snapshot::of(transfer);
+        self.count = transfer.msgs().len() as u8;
+    }
+
+    /// The root at the end of its way.
+    #[inline(always)]
+    pub fn root(&self) -> SegId
+        ensures { result ≡ self.now.root }
+    {
+        self.root
+    }
+
+    /// The bus that it leads to.
+    #[inline(always)]
+    pub fn bus(&self) -> SegId
+        ensures { result ≡ self.now.bus }
+    {
+        self.bus
+    }
+
+    /// How many messages the transfer has.
+    #[inline(always)]
+    pub fn count(&self) -> u8
+        ensures { result ≡ length self.now.messages }
+    {
+        self.count
     }
 
     /// The mux of this number on the path.
@@ -104,8 +157,8 @@ impl Route {
         requires { IsPlacedWork (length self.now.path) work.now }
         ensures within { result ≡ true → place < length self.now.path }
         ensures at { result ≡ true → drop place self.now.path ≡ hop_at self.now place ∷ drop (place + 1) self.now.path }
-        ensures message { (ms : List MessageView) → result ≡ true → is_line (job_of self.now ms work.now) ≡ false }
-        ensures none { (ms : List MessageView) → result ≡ false → (is_line (job_of self.now ms work.now) ≡ true) ⊎ (drop place self.now.path ≡ []) }
+        ensures message { result ≡ true → is_line (job_of self.now work.now) ≡ false }
+        ensures none { result ≡ false → (is_line (job_of self.now work.now) ≡ true) ⊎ (drop place self.now.path ≡ []) }
     {
         !work.is_line(self) && usize::from(place) < self.path.len()
     }
@@ -114,8 +167,7 @@ impl Route {
     #[inline(always)]
     pub fn base(&self, work: Work) -> Task
         requires { IsPlacedWork (length self.now.path) work }
-        ensures tree { (b : BoardView) (ms : List MessageView) (ts : List Task) (out : JobOutcome) → length ms ≡ self.now.count
-            → tree_of b ms self.now (result ∷ ts) out ≡ at_bus (job_of self.now ms work) (note_of self.now ts) (tree_of b ms self.now ts) }
+        ensures tree { (ts : List Task) (out : JobOutcome) → tree_of self.now (result ∷ ts) out ≡ at_bus (job_of self.now work) (note_of self.now ts) (tree_of self.now ts) }
         ensures step { (ts : List Task) → IsStep (result ∷ ts) }
         ensures planned { (n : ℕ) (ts : List Task) → IsPlanned self.now (Enter n work ∷ ts) → IsPlanned self.now (result ∷ ts) }
     {
@@ -153,8 +205,7 @@ impl Route {
     pub fn action(&self, task: &Task) -> Action
         requires planned { IsPlanned self.now (task.now ∷ []) }
         requires step { IsStep (task.now ∷ []) }
-        ensures first { (b : BoardView) (ms : List MessageView) → length ms ≡ self.now.count
-            → result ≡ action_of (first_act (tree_of b ms self.now (task.now ∷ []) walk.Good)) }
+        ensures first { result ≡ action_of (first_act (tree_of self.now (task.now ∷ []) walk.Good)) }
         ensures more { result ≢ Done }
     {
         match task {

@@ -1,8 +1,7 @@
 //! The pieces of work of a walk: what each sends or sets, and how it goes on.
-ghost use Rattle.std.specs.Prelude.{◌≡◌, ◌<◌, ◌^◌, ◌==◌, List, length, All};
+ghost use Rattle.std.specs.Prelude.{◌≡◌, ◌<◌, ◌^◌, ◌==◌, length, All};
 ghost use Rattle.i2c_base.specs.Limits.{MOST_CHANNELS};
 ghost use Rattle.i2c_spec.specs.Chips.{select_value};
-ghost use Rattle.i2c_spec.specs.Messages.{MessageView};
 ghost use Rattle.bus_spec.specs.Walk as walk;
 ghost use Rattle.bus_spec.specs.Walk.{first_byte, goes, is_line, line_mux, line_level, job_outcome, verdict_of, decides, more_of, job_bus, job_purpose, part_of, parts_of};
 ghost use Rattle.mux_plan.specs.Plans.{RouteView, job_of, came_of, outcome_of, go_of, control_of};
@@ -54,7 +53,7 @@ impl Work {
     #[inline(always)]
     pub fn is_line(&self, route: &Route) -> bool
         requires { IsPlacedWork (length route.now.path) self.now }
-        ensures { (ms : List MessageView) → result ≡ is_line (job_of route.now ms self.now) }
+        ensures { result ≡ is_line (job_of route.now self.now) }
     {
         match self {
             Work::Call => false,
@@ -67,10 +66,10 @@ impl Work {
     #[inline(always)]
     pub fn more(&self, route: &Route) -> u8
         requires { IsPlacedWork (length route.now.path) self.now }
-        ensures { (ms : List MessageView) → length ms ≡ route.now.count → result ≡ more_of (job_of route.now ms self.now) }
+        ensures { result ≡ more_of (job_of route.now self.now) }
     {
         match self {
-            Work::Call => route.count.saturating_sub(1),
+            Work::Call => route.count().saturating_sub(1),
             Work::Select(hop) => {
                 if route.hop(*hop).kind.facts().asks {
                     POLLS
@@ -86,10 +85,10 @@ impl Work {
     #[inline(always)]
     pub fn bus(&self, route: &Route) -> SegId
         requires { IsPlacedWork (length route.now.path) self.now }
-        ensures { (ms : List MessageView) → result ≡ job_bus (job_of route.now ms self.now) }
+        ensures { result ≡ job_bus (job_of route.now self.now) }
     {
         match self {
-            Work::Call => route.bus,
+            Work::Call => route.bus(),
             Work::Select(hop) | Work::Deselect(hop) => route.hop(*hop).on,
             Work::Close { on, .. } => *on,
         }
@@ -99,7 +98,7 @@ impl Work {
     #[inline(always)]
     pub fn purpose(&self, route: &Route) -> Purpose
         requires { IsPlacedWork (length route.now.path) self.now }
-        ensures { (ms : List MessageView) → result ≡ job_purpose (job_of route.now ms self.now) }
+        ensures { result ≡ job_purpose (job_of route.now self.now) }
     {
         match self {
             Work::Call => Purpose::Call,
@@ -112,10 +111,10 @@ impl Work {
     /// Which message of its transfer the one is that so many more may follow.
     #[inline(always)]
     pub fn part(&self, route: &Route, left: u8) -> u8
-        ensures { (ms : List MessageView) → length ms ≡ route.now.count → result ≡ part_of (job_of route.now ms self.now) left }
+        ensures { result ≡ part_of (job_of route.now self.now) left }
     {
         match self {
-            Work::Call => route.count.saturating_sub(left),
+            Work::Call => route.count().saturating_sub(left),
             Work::Select(_) | Work::Deselect(_) | Work::Close { .. } => 1,
         }
     }
@@ -123,10 +122,10 @@ impl Work {
     /// How many messages its transfer has.
     #[inline(always)]
     pub fn parts(&self, route: &Route) -> u8
-        ensures { (ms : List MessageView) → length ms ≡ route.now.count → result ≡ parts_of (job_of route.now ms self.now) }
+        ensures { result ≡ parts_of (job_of route.now self.now) }
     {
         match self {
-            Work::Call => route.count,
+            Work::Call => route.count(),
             Work::Select(_) | Work::Deselect(_) | Work::Close { .. } => 1,
         }
     }
@@ -136,7 +135,7 @@ impl Work {
     pub fn control(&self, route: &Route, left: u8) -> Option<u8>
         requires work { IsPlacedWork (length route.now.path) self.now }
         requires narrow { All IsNarrow route.now.path }
-        ensures { (ms : List MessageView) → result ≡ control_of (job_of route.now ms self.now) left }
+        ensures { result ≡ control_of (job_of route.now self.now) left }
     {
         match self {
             Work::Call => None,
@@ -149,7 +148,7 @@ impl Work {
     #[inline(always)]
     pub fn line_mux(&self, route: &Route) -> MuxId
         requires { IsPlacedWork (length route.now.path) self.now }
-        ensures { (ms : List MessageView) → result ≡ line_mux (job_of route.now ms self.now) }
+        ensures { result ≡ line_mux (job_of route.now self.now) }
     {
         match self {
             Work::Call => MuxId(0),
@@ -162,7 +161,7 @@ impl Work {
     pub fn line_level(&self, route: &Route) -> u8
         requires work { IsPlacedWork (length route.now.path) self.now }
         requires narrow { All IsNarrow route.now.path }
-        ensures { (ms : List MessageView) → result ≡ line_level (job_of route.now ms self.now) }
+        ensures { result ≡ line_level (job_of route.now self.now) }
     {
         match self {
             Work::Call | Work::Deselect(_) | Work::Close { .. } => 0,
@@ -172,7 +171,7 @@ impl Work {
 
     /// How it goes on behind a message that `left` + 1 more might have followed.
     pub fn after_msg(&self, left: u8, outcome: &Outcome<'_>) -> Continuation
-        ensures { (c : RouteView) (ms : List MessageView) → go_of result ≡ goes (job_of c ms self.now) left (outcome_of outcome.now) }
+        ensures { (c : RouteView) → go_of result ≡ goes (job_of c self.now) left (outcome_of outcome.now) }
     {
         let Outcome::Sent { end, bytes } = outcome else {
             return Continuation::Over;
@@ -197,7 +196,7 @@ impl Work {
 
     // What came of it where its message went through. A poll that was the last one found the arbitrator taken.
     fn came_through(&self, left: u8) -> WorkResult
-        ensures { (c : RouteView) (ms : List MessageView) → came_of result ≡ walk.good_outcome (job_of c ms self.now) left }
+        ensures { (c : RouteView) → came_of result ≡ walk.good_outcome (job_of c self.now) left }
     {
         match self {
             Work::Call | Work::Deselect(_) | Work::Close { .. } => WorkResult::Good,
@@ -213,7 +212,7 @@ impl Work {
 
     /// What came of it, where its last message, which `left` more might have followed, or its line had this outcome.
     pub fn came(&self, left: u8, outcome: &Outcome<'_>) -> WorkResult
-        ensures { (c : RouteView) (ms : List MessageView) → came_of result ≡ job_outcome (job_of c ms self.now) left (outcome_of outcome.now) }
+        ensures { (c : RouteView) → came_of result ≡ job_outcome (job_of c self.now) left (outcome_of outcome.now) }
     {
         match outcome {
             Outcome::Passed => WorkResult::Good,
@@ -234,7 +233,7 @@ impl Work {
 
     // The error that its last message decides where it went through.
     fn verdict_through(&self, left: u8) -> Option<Errno>
-        ensures { (c : RouteView) (ms : List MessageView) → result ≡ walk.good_errno (job_of c ms self.now) left }
+        ensures { (c : RouteView) → result ≡ walk.good_errno (job_of c self.now) left }
     {
         match self {
             Work::Call | Work::Deselect(_) | Work::Close { .. } => None,
@@ -244,7 +243,7 @@ impl Work {
 
     /// The error that its last message or its line decides.
     pub fn verdict(&self, left: u8, outcome: &Outcome<'_>) -> Option<Errno>
-        ensures { (c : RouteView) (ms : List MessageView) → result ≡ verdict_of (job_of c ms self.now) left (outcome_of outcome.now) }
+        ensures { (c : RouteView) → result ≡ verdict_of (job_of c self.now) left (outcome_of outcome.now) }
     {
         match outcome {
             Outcome::Passed => None,
@@ -261,7 +260,7 @@ impl Work {
 
     /// Its end decides the reply, where it is on the way to the caller's messages.
     pub fn decides(&self, came: WorkResult) -> bool
-        ensures { (c : RouteView) (ms : List MessageView) → result ≡ decides (job_of c ms self.now) (came_of came) }
+        ensures { (c : RouteView) → result ≡ decides (job_of c self.now) (came_of came) }
     {
         match self {
             Work::Call => true,

@@ -34,11 +34,11 @@ returns-clause-seat g c =
         undecided = ap (λ (t : Seat g.row.C.Denot). t.decided) same;
         unread = c.load.ensures.cleared;
       };
-      looked = λ v. c.load.ensures.looked v (c.resting-seat.ensures.looked c.args.board.now v);
+      looked = λ v. c.load.ensures.looked v (c.resting-seat.ensures.looked v);
       cut = ap (λ (t : Seat g.row.C.Denot). t.cut) same ∙ c.resting-seat.ensures.unused.cut;
       seated = λ wired.
           record {
-            counted = c.load.ensures.counted;
+            on = c.load.ensures.on;
             wrote = ap (λ (t : Seat g.row.C.Denot). t.written) same ∙ ap (λ n. sum_by written_of (take n new.transfer.msgs)) (sym sent);
             within = omega (arith, sent);
             plugged = λ on bus. c.load.ensures.plugged

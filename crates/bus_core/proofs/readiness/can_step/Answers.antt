@@ -3,7 +3,6 @@ use Rattle.bus_spec.specs.Walk.{Act, Take}
 use Rattle.mux_plan.specs.Plans.{action_of}
 use Rattle.seg_locks.specs.Locks.{holder_in}
 use Rattle.bus_core.proofs.ActionLemmas.{some-act, none-of}
-use Rattle.bus_core.proofs.Kept.{seated-here}
 use Rattle.bus_core.proofs.Nexts.{tells-next, take-there, comes-take}
 use Rattle.bus_core.proofs.SeatLemmas.{none-told, some-told, there_read}
 use Rattle.bus_core.proofs.readiness.can_step.Goals as goal
@@ -15,10 +14,7 @@ pub next-requires : goal.next-requires
 next-requires g c =
     let x = c.args.parts.now in
     let here = there_read x.seats.items c.args.place c.index.result.now c.requires.there c.index.ensures in
-    record {
-      counted = (seated-here g.P.Port g.C.Caller x c.requires.rests.kept c.args.place c.index.result.now here).counted;
-      step = (c.requires.rests.looked c.args.place c.index.result.now here).step;
-    }
+    (c.requires.rests.looked c.args.place c.index.result.now here).step
 
 pub holder-requires : goal.holder-requires
 holder-requires g c =

@@ -1,6 +1,5 @@
 use Rattle.std.proofs.Common.{◌≡◌, ℕ, ◌<◌, length, Some, None, sym, ◌∙◌, ap, subst, arith}
 use Rattle.std.proofs.lemmas.Option.{slice_get-get_or}
-use Rattle.i2c_spec.specs.Messages.{messages_of}
 use Rattle.bus_core.specs.Ready.{IsHeldUpAt}
 use Rattle.bus_core.specs.Steps.{HasEndedAt}
 use Rattle.bus_core.proofs.Advances.{within as is_within, ended-held_up}
@@ -21,7 +20,7 @@ returns-in-Some-clause-through g c is place here =
       seat = c.index-in-Some.result.now;
       here = slice_get-get_or x.seats.items c.from-in-Some.result c.index-in-Some.result.now (omega (arith, inside, c.from-in-Some.ensures))
           ∙ ap Some (sym c.index-in-Some.ensures);
-      over = sym (c.is_over.ensures x.board (messages_of c.index-in-Some.result.now.transfer)) ∙ is;
+      over = sym c.is_over.ensures ∙ is;
     })))
 
 pub returns-in-Some-clause-there : goal.returns-in-Some-clause-there

@@ -1,12 +1,11 @@
-use Rattle.std.proofs.Common.{◌≡◌, ℕ, ◌<◌, List, [], ◌∷◌, ◌++◌, set, Some, None, refl, sym, ◌∙◌, ap, subst, arith}
+use Rattle.std.proofs.Common.{◌≡◌, ℕ, ◌<◌, List, [], ◌∷◌, ◌++◌, Some, None, refl, sym, ◌∙◌, ap, subst, arith}
 use Rattle.i2c_base.specs.Limits.{MOST_CALLERS}
 use Rattle.i2c_base.specs.declared.entry.Entry.TheVariants as entry
 use Rattle.seg_locks.specs.Locks.{holder_in}
 use Rattle.core_laws.proofs.Laws.{free-wants}
 use Rattle.bus_core.specs.Kept.{roots_of, run_of, whole_of}
-use Rattle.i2c_base.specs.Board.{BoardView}
 use Rattle.core_laws.specs.Spots.{seen_of}
-use Rattle.bus_core.specs.Looks.{AreLooked, IsLookedAt}
+use Rattle.bus_core.specs.Looks.{IsLookedAt}
 use Rattle.bus_core.specs.Places.{place_of}
 use Rattle.bus_core.specs.Seats.{MayEnd, HasFreed}
 use Rattle.bus_core.specs.declared.seat.Seat.{Seat}
@@ -46,7 +45,7 @@ free-requires g c =
     freed in
     let wants = free-wants (run_of g.P.Port g.C.Caller x)
     (whole_of g.P.Port g.C.Caller x c.requires.rests.kept.held c.requires.rests.kept.owes) c.requires.rests.kept.kept c.args.place
-    (place_of g.C.Caller x.board s)
+    (place_of g.C.Caller s)
     (place-here g.P.Port g.C.Caller x c.requires.rests.kept c.args.place s here) c.args.lock.now c.requires.next.next in
     record {
       there = wants.0;
@@ -76,9 +75,8 @@ returns g c =
     record {
       rests = record {
         kept = both.0;
-        looked = subst (λ (b : BoardView). AreLooked b c.free.new.self (set x.seats.items c.args.place t)) (sym c.free_done.ensures.board)
-            (looked-locks x.board x.locks c.free.new.self x.seats.items c.args.place t c.requires.rests.looked
-            (ap seen_of c.free.ensures ∙ same_words x.locks c.args.lock.now None) c.free_done.ensures.looked);
+        looked = looked-locks x.locks c.free.new.self x.seats.items c.args.place t c.requires.rests.looked
+            (ap seen_of c.free.ensures ∙ same_words x.locks c.args.lock.now None) c.free_done.ensures.looked;
       };
       stepped = both.1;
     }
@@ -87,6 +85,6 @@ pub free_done-requires-clause-looked : goal.free_done-requires-clause-looked
 free_done-requires-clause-looked g c κs within =
     let x = c.args.parts.now in
     let next = c.requires.next in
-    subst (IsLookedAt x.board x.locks)
+    subst (IsLookedAt x.locks)
     (sym (read_here x.seats.items c.args.place next.seat c.index_mut-seat.result.now next.here c.index_mut-seat.ensures.value))
     (c.requires.rests.looked c.args.place next.seat next.here)

@@ -1,11 +1,10 @@
-use Rattle.std.proofs.Common.{◌<◌, ℕ, List, Option, Some, None, set, refl, sym, ◌∙◌, ap, subst}
+use Rattle.std.proofs.Common.{◌<◌, ℕ, List, Option, Some, None, refl, sym, ◌∙◌, ap, subst}
 use Rattle.std.proofs.lemmas.Option.{slice_get_within}
 use Rattle.i2c_base.specs.declared.errno.Errno.{Errno}
 use Rattle.bus_spec.specs.Walk.{Settle}
 use Rattle.core_laws.proofs.Laws.{settle-errs}
 use Rattle.bus_core.specs.Kept.{roots_of, run_of, whole_of}
-use Rattle.i2c_base.specs.Board.{BoardView}
-use Rattle.bus_core.specs.Looks.{AreLooked, IsLookedAt}
+use Rattle.bus_core.specs.Looks.{IsLookedAt}
 use Rattle.bus_core.specs.Places.{place_of}
 use Rattle.bus_core.specs.Seats.{MayRefuse, IsRefusedIn}
 use Rattle.bus_core.specs.declared.seat.Seat.{Seat}
@@ -49,10 +48,8 @@ returns-in-Some g c =
     record {
       rests = record {
         kept = all.0;
-        looked = subst (λ (b : BoardView). AreLooked b x.locks (set x.seats.items c.args.place c.refuse.new.self))
-            (sym c.refuse.ensures.board)
-            (looked-locks x.board x.locks x.locks x.seats.items c.args.place c.refuse.new.self c.requires.rests.looked refl
-            c.refuse.ensures.looked);
+        looked = looked-locks x.locks x.locks x.seats.items c.args.place c.refuse.new.self c.requires.rests.looked refl
+            c.refuse.ensures.looked;
       };
       stepped = all.1;
     }
@@ -61,7 +58,7 @@ pub refuse-requires-clause-looked : goal.refuse-requires-clause-looked
 refuse-requires-clause-looked g c κs within =
     let x = c.args.parts.now in
     let next = c.requires.next in
-    subst (IsLookedAt x.board x.locks)
+    subst (IsLookedAt x.locks)
     (sym (read_here x.seats.items c.args.place next.seat c.index_mut.result.now next.here c.index_mut.ensures.value))
     (c.requires.rests.looked c.args.place next.seat next.here)
 
@@ -72,6 +69,6 @@ returns-in_default g c =
     let first = next.next ∙ ap (λ (o : Option Errno). Some (Settle o)) c.in_default.is in
     absurd (let f = settle-errs (run_of g.P.Port g.C.Caller x)
     (whole_of g.P.Port g.C.Caller x c.requires.rests.kept.held c.requires.rests.kept.owes) c.requires.rests.kept.kept c.args.place
-    (place_of g.C.Caller x.board next.seat)
+    (place_of g.C.Caller next.seat)
     (place-here g.P.Port g.C.Caller x c.requires.rests.kept c.args.place next.seat next.here) None first in
     cc)

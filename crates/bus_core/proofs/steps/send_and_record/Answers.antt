@@ -17,7 +17,7 @@ use Rattle.bus_core.specs.Marks.{words_after, AreHeld}
 use Rattle.bus_core.specs.Seats.{MaySettle, updates_of}
 use Rattle.bus_core.specs.declared.seat.Seat.{Seat}
 use Rattle.bus_core.proofs.Kept.{number-small, seated-here}
-use Rattle.bus_core.proofs.Looking.{heard-counted, heard-looked, looked-turned, turned}
+use Rattle.bus_core.proofs.Looking.{route-on, updates-looked, heard-looked, looked-turned, turned}
 use Rattle.bus_core.proofs.Converse.{comes-next, said-on, may-speak, may-hear, message-room, message-bytes, updates-own}
 use Rattle.bus_core.proofs.Conversed.{may-settle, conversed}
 use Rattle.bus_core.proofs.steps.send_and_record.Goals as goal
@@ -108,10 +108,10 @@ set_marks-requires g c =
     c.cursor-cursor.result c.cursor-cursor.ensures.value c.send_next-msg.new.port c.send_next-msg.new.bytes bytes
     c.as_slice-bytes.ensures.value out (c.send_next-msg.ensures c.index_mut.result.now.0) c.cursor-cursor.ensures.whole in
     let t = c.message_done.new.self in
-    let number : t.number ≡ old.number = ap (λ (y : Seat _). y.number) (c.message_done.ensures.heard x.board x.locks
+    let number : t.number ≡ old.number = ap (λ (y : Seat _). y.number) (c.message_done.ensures.heard x.locks
     (c.requires.rests.looked c.args.place old m.here)).same in
-    let updates : c.as_slice.result.now ≡ updates_of x.board x.locks (walk.Sent out.end bytes) old = c.as_slice.ensures.value
-    ∙ c.message_done.ensures.updates x.board x.locks (c.requires.rests.looked c.args.place old m.here) in
+    let updates : c.as_slice.result.now ≡ updates_of x.locks (walk.Sent out.end bytes) old = c.as_slice.ensures.value
+    ∙ c.message_done.ensures.updates ∙ updates-looked x.locks old (walk.Sent out.end bytes) (c.requires.rests.looked c.args.place old m.here) in
     record {
       caller = subst (λ (n : ℕ). n < MOST_CALLERS) (sym number)
           (number-small g.P.Port g.C.Caller x c.requires.rests.kept c.args.place old m.here);
@@ -132,12 +132,11 @@ look-requires g c =
     let said = said-on g.P.Port x c.args.next.now old speak.socket speak.here c.index_mut.result.now c.index_mut.ensures.value
     c.cursor-cursor.result c.cursor-cursor.ensures.value c.send_next-msg.new.port c.send_next-msg.new.bytes bytes
     c.as_slice-bytes.ensures.value out (c.send_next-msg.ensures c.index_mut.result.now.0) c.cursor-cursor.ensures.whole in
-    let heard = c.message_done.ensures.heard x.board x.locks (c.requires.rests.looked c.args.place old m.here) in
+    let heard = c.message_done.ensures.heard x.locks (c.requires.rests.looked c.args.place old m.here) in
     let seated = seated-here g.P.Port g.C.Caller x c.requires.rests.kept c.args.place old m.here in
     record {
       fresh = c.message_done.ensures.fresh;
-      counted = heard-counted x.board x.locks c.args.next.now out.reading bytes out.end old
-          c.message_done.new.self heard seated.counted;
+      on = route-on x.board old c.message_done.new.self heard.route seated.on;
     }
 
 pub settle-requires : goal.settle-requires
@@ -153,21 +152,22 @@ settle-requires g c =
     c.as_slice-bytes.ensures.value out (c.send_next-msg.ensures c.index_mut.result.now.0) c.cursor-cursor.ensures.whole in
     let looked = c.requires.rests.looked c.args.place old m.here in
     let t = c.look.new.self in
-    let heard = heard-looked x.board x.locks c.args.next.now out.reading bytes out.end old c.message_done.new.self t
-    (c.message_done.ensures.heard x.board x.locks looked) c.look.ensures.same (c.look.ensures.walk x.board) c.look.ensures.route in
+    let heard = heard-looked x.locks c.args.next.now out.reading bytes out.end old c.message_done.new.self t
+    (c.message_done.ensures.heard x.locks looked) c.look.ensures.same (c.look.ensures.walk) c.look.ensures.route in
     let locks : c.set_marks.new.locks ≡ turned g.P.Port g.C.Caller x c.requires.rests.kept c.args.place old m.here (Send m.job m.left)
     m.first (walk.Sent out.end bytes) =
     c.set_marks.ensures ∙ ap (λ (ds : List MuxUpdate). turned_to x.locks (words_after ds (seen_of x.locks)))
-    (c.as_slice.ensures.value ∙ c.message_done.ensures.updates x.board x.locks looked) in
+    (c.as_slice.ensures.value ∙ c.message_done.ensures.updates ∙ updates-looked x.locks old (walk.Sent out.end bytes) looked) in
     let entries = c.push.ensures.entries ∙ ap (λ (e : Entry). x.journal.entries ++ e ∷ []) c.message_entry.ensures.seen in
     let room_bytes : c.push.new.self.room_bytes + length bytes ≡ x.journal.room_bytes =
     ap (λ (ys : List ℕ). c.push.new.self.room_bytes + length ys) (sym c.message_entry.ensures.bytes) ∙ c.push.ensures.room_bytes in
     record {
-      may = subst (λ (v : LocksView). MaySettle x.board v c.push.new.self t) (sym locks)
+      may = subst (λ (v : LocksView). MaySettle v c.push.new.self t) (sym locks)
           (may-settle g.P.Port g.C.Caller x c.requires.rests.kept c.args.place old m.here m.job m.left c.args.next.now m.first m.of _
           bytes out
           said t heard
           c.push.new.self entries c.push.ensures.room room_bytes);
+      on = route-on x.board old t heard.route (seated-here g.P.Port g.C.Caller x c.requires.rests.kept c.args.place old m.here).on;
       looked = c.look.ensures.looked;
     }
 
@@ -184,12 +184,12 @@ returns g c =
     c.as_slice-bytes.ensures.value out (c.send_next-msg.ensures c.index_mut.result.now.0) c.cursor-cursor.ensures.whole in
     let looked = c.requires.rests.looked c.args.place old m.here in
     let t = c.look.new.self in
-    let heard = heard-looked x.board x.locks c.args.next.now out.reading bytes out.end old c.message_done.new.self t
-    (c.message_done.ensures.heard x.board x.locks looked) c.look.ensures.same (c.look.ensures.walk x.board) c.look.ensures.route in
+    let heard = heard-looked x.locks c.args.next.now out.reading bytes out.end old c.message_done.new.self t
+    (c.message_done.ensures.heard x.locks looked) c.look.ensures.same (c.look.ensures.walk) c.look.ensures.route in
     let locks : c.set_marks.new.locks ≡ turned g.P.Port g.C.Caller x c.requires.rests.kept c.args.place old m.here (Send m.job m.left)
     m.first (walk.Sent out.end bytes) =
     c.set_marks.ensures ∙ ap (λ (ds : List MuxUpdate). turned_to x.locks (words_after ds (seen_of x.locks)))
-    (c.as_slice.ensures.value ∙ c.message_done.ensures.updates x.board x.locks looked) in
+    (c.as_slice.ensures.value ∙ c.message_done.ensures.updates ∙ updates-looked x.locks old (walk.Sent out.end bytes) looked) in
     let entries = c.push.ensures.entries ∙ ap (λ (e : Entry). x.journal.entries ++ e ∷ []) c.message_entry.ensures.seen in
     let room_bytes : c.push.new.self.room_bytes + length bytes ≡ x.journal.room_bytes =
     ap (λ (ys : List ℕ). c.push.new.self.room_bytes + length ys) (sym c.message_entry.ensures.bytes) ∙ c.push.ensures.room_bytes in
@@ -209,11 +209,11 @@ returns g c =
     record {
       rests = record {
         kept = all.0;
-        looked = subst (λ (v : LocksView). AreLooked x.board v (set x.seats.items c.args.place c.settle.new.self)) (sym locks)
+        looked = subst (λ (v : LocksView). AreLooked v (set x.seats.items c.args.place c.settle.new.self)) (sym locks)
             (looked-turned g.P.Port g.C.Caller x c.requires.rests.kept c.args.place old m.here (Send m.job m.left) m.first
             (walk.Sent out.end bytes)
             c.settle.new.self c.requires.rests.looked
-            (subst (λ (v : LocksView). IsLookedAt x.board v c.settle.new.self) locks c.settle.ensures.looked));
+            (subst (λ (v : LocksView). IsLookedAt v c.settle.new.self) locks c.settle.ensures.looked));
       };
       stepped = all.1;
     }

@@ -5,7 +5,6 @@ use Rattle.seg_locks.specs.Locks.{holder_in}
 use Rattle.bus_core.specs.Kept.{HasStepped, IsResting}
 use Rattle.bus_core.specs.declared.parts.CoreParts.{CoreParts}
 use Rattle.bus_core.specs.declared.steps.StepAnswer.TheVariants as answer
-use Rattle.bus_core.proofs.Kept.{seated-here}
 use Rattle.bus_core.proofs.Nexts.{tells-next, take-there, comes-take, comes-free, comes-settle, comes-message, comes-shift}
 use Rattle.bus_core.proofs.SeatLemmas.{there_read}
 use Rattle.bus_core.proofs.steps.step.Goals.{in-Take+in_default, in-Free, in-Send, in-Line, in-Settle}
@@ -18,16 +17,13 @@ pub next-next-requires : goal.next-next-requires
 next-next-requires g c =
     let x = c.args.parts.now in
     let here = there_read x.seats.items c.args.place c.index.result.now c.requires.there c.index.ensures in
-    record {
-      counted = (seated-here g.P.Port g.C.Caller x c.requires.rests.kept c.args.place c.index.result.now here).counted;
-      step = (c.requires.rests.looked c.args.place c.index.result.now here).step;
-    }
+    (c.requires.rests.looked c.args.place c.index.result.now here).step
 
 pub returns-in-Done-clause-finished : goal.returns-in-Done-clause-finished
 returns-in-Done-clause-finished g c is =
     let x = c.args.parts.now in
     let here = there_read x.seats.items c.args.place c.index.result.now c.requires.there c.index.ensures in
-    (refl, record { seat = c.index.result.now; here = here; over = c.next-next.ensures.over c.in-Done.is x.board })
+    (refl, record { seat = c.index.result.now; here = here; over = c.next-next.ensures.over c.in-Done.is })
 
 pub holder-requires : goal.holder-requires
 holder-requires g c =

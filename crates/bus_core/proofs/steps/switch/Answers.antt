@@ -12,7 +12,7 @@ use Rattle.bus_core.specs.Looks.{AreLooked, IsLookedAt}
 use Rattle.bus_core.specs.Marks.{words_after, AreHeld}
 use Rattle.bus_core.specs.Seats.{MaySettle, cut_of_line, updates_of}
 use Rattle.bus_core.proofs.Kept.{number-small, seated-here}
-use Rattle.bus_core.proofs.Looking.{looked-turned, turned, went-counted, went-looked}
+use Rattle.bus_core.proofs.Looking.{looked-turned, turned, route-on, updates-looked, went-looked}
 use Rattle.bus_core.proofs.SeatLemmas.{read_comes}
 use Rattle.bus_core.proofs.Switch.{may-shift, line-room, line-updates-own, line-may-settle, line-done, plug}
 use Rattle.bus_core.proofs.steps.switch.Goals as goal
@@ -68,11 +68,11 @@ look-requires g c =
     let need = c.requires.next in
     let old = c.index_mut-seat.result.now in
     let comes = read_comes x c.args.place (Shift need.job) need.comes old c.index_mut-seat.ensures.value in
-    let went = c.line_done.ensures.went x.board x.locks (c.requires.rests.looked c.args.place old comes.0) in
+    let went = c.line_done.ensures.went x.locks (c.requires.rests.looked c.args.place old comes.0) in
     let seated = seated-here g.P.Port g.C.Caller x c.requires.rests.kept c.args.place old comes.0 in
     record {
       fresh = c.line_done.ensures.fresh;
-      counted = went-counted x.board x.locks (Lined c.shift_line-failed.result) _ old c.line_done.new.self went seated.counted;
+      on = route-on x.board old c.line_done.new.self went.route seated.on;
     }
 
 pub set_marks-requires : goal.set_marks-requires
@@ -83,8 +83,8 @@ set_marks-requires g c =
     let comes = read_comes x c.args.place (Shift need.job) need.comes old c.index_mut-seat.ensures.value in
     let failed = c.shift_line-failed.result in
     let t = c.line_done.new.self in
-    let updates : c.as_slice.result.now ≡ updates_of x.board x.locks (Lined failed) old = c.as_slice.ensures.value
-    ∙ c.line_done.ensures.updates x.board x.locks (c.requires.rests.looked c.args.place old comes.0) in
+    let updates : c.as_slice.result.now ≡ updates_of x.locks (Lined failed) old = c.as_slice.ensures.value
+    ∙ c.line_done.ensures.updates ∙ updates-looked x.locks old (Lined failed) (c.requires.rests.looked c.args.place old comes.0) in
     record {
       caller = number-small g.P.Port g.C.Caller x c.requires.rests.kept c.args.place old comes.0;
       held = subst (λ (ds : List MuxUpdate). AreHeld x.locks old.number ds) (sym updates)
@@ -100,21 +100,22 @@ settle-requires g c =
     let failed = c.shift_line-failed.result in
     let looked = c.requires.rests.looked c.args.place old comes.0 in
     let t = c.look.new.self in
-    let went = went-looked x.board x.locks (Lined failed) (cut_of_line failed) old c.line_done.new.self t
-    (c.line_done.ensures.went x.board x.locks looked) c.look.ensures.same (c.look.ensures.walk x.board) c.look.ensures.route in
+    let went = went-looked x.locks (Lined failed) (cut_of_line failed) old c.line_done.new.self t
+    (c.line_done.ensures.went x.locks looked) c.look.ensures.same (c.look.ensures.walk) c.look.ensures.route in
     let locks : c.set_marks.new.locks ≡ turned g.P.Port g.C.Caller x c.requires.rests.kept c.args.place old comes.0 (Shift need.job)
     comes.1 (Lined failed) =
     c.set_marks.ensures ∙ ap (λ (ds : List MuxUpdate). turned_to x.locks (words_after ds (seen_of x.locks)))
-    (c.as_slice.ensures.value ∙ c.line_done.ensures.updates x.board x.locks looked) in
+    (c.as_slice.ensures.value ∙ c.line_done.ensures.updates ∙ updates-looked x.locks old (Lined failed) looked) in
     let entries : c.push.new.self.entries ≡ x.journal.entries ++ entry.Line old.number (line_mux need.job)
     (line_level need.job) failed ∷ [] = c.push.ensures.entries
     ∙ ap (λ (m : ℕ). x.journal.entries ++ entry.Line old.number m c.args.level failed ∷ []) (sym need.of_mux)
     ∙ ap (λ (l : ℕ). x.journal.entries ++ entry.Line old.number (line_mux need.job) l failed ∷ []) (sym need.to_level) in
     let room_bytes : c.push.new.self.room_bytes ≡ x.journal.room_bytes = (let b = c.push.ensures.room_bytes in omega (arith, b)) in
     record {
-      may = subst (λ (v : LocksView). MaySettle x.board v c.push.new.self t) (sym locks)
+      may = subst (λ (v : LocksView). MaySettle v c.push.new.self t) (sym locks)
           (line-may-settle g.P.Port g.C.Caller x c.requires.rests.kept c.args.place old comes.0 need.job comes.1 failed t went
           c.push.new.self entries c.push.ensures.room room_bytes);
+      on = route-on x.board old t went.route (seated-here g.P.Port g.C.Caller x c.requires.rests.kept c.args.place old comes.0).on;
       looked = c.look.ensures.looked;
     }
 
@@ -127,12 +128,12 @@ returns g c =
     let failed = c.shift_line-failed.result in
     let looked = c.requires.rests.looked c.args.place old comes.0 in
     let t = c.look.new.self in
-    let went = went-looked x.board x.locks (Lined failed) (cut_of_line failed) old c.line_done.new.self t
-    (c.line_done.ensures.went x.board x.locks looked) c.look.ensures.same (c.look.ensures.walk x.board) c.look.ensures.route in
+    let went = went-looked x.locks (Lined failed) (cut_of_line failed) old c.line_done.new.self t
+    (c.line_done.ensures.went x.locks looked) c.look.ensures.same (c.look.ensures.walk) c.look.ensures.route in
     let locks : c.set_marks.new.locks ≡ turned g.P.Port g.C.Caller x c.requires.rests.kept c.args.place old comes.0 (Shift need.job)
     comes.1 (Lined failed) =
     c.set_marks.ensures ∙ ap (λ (ds : List MuxUpdate). turned_to x.locks (words_after ds (seen_of x.locks)))
-    (c.as_slice.ensures.value ∙ c.line_done.ensures.updates x.board x.locks looked) in
+    (c.as_slice.ensures.value ∙ c.line_done.ensures.updates ∙ updates-looked x.locks old (Lined failed) looked) in
     let entries : c.push.new.self.entries ≡ x.journal.entries ++ entry.Line old.number (line_mux need.job)
     (line_level need.job) failed ∷ [] = c.push.ensures.entries
     ∙ ap (λ (m : ℕ). x.journal.entries ++ entry.Line old.number m c.args.level failed ∷ []) (sym need.of_mux)
@@ -157,10 +158,10 @@ returns g c =
     record {
       rests = record {
         kept = all.0;
-        looked = subst (λ (v : LocksView). AreLooked x.board v (set x.seats.items c.args.place c.settle.new.self)) (sym locks)
+        looked = subst (λ (v : LocksView). AreLooked v (set x.seats.items c.args.place c.settle.new.self)) (sym locks)
             (looked-turned g.P.Port g.C.Caller x c.requires.rests.kept c.args.place old comes.0 (Shift need.job) comes.1 (Lined failed)
             c.settle.new.self c.requires.rests.looked
-            (subst (λ (v : LocksView). IsLookedAt x.board v c.settle.new.self) locks c.settle.ensures.looked));
+            (subst (λ (v : LocksView). IsLookedAt v c.settle.new.self) locks c.settle.ensures.looked));
       };
       stepped = all.1;
     }

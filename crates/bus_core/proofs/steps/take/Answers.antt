@@ -10,7 +10,7 @@ use Rattle.bus_core.specs.Kept.{run_of, whole_of}
 use Rattle.core_laws.specs.Spots.{seen_of}
 use Rattle.bus_core.specs.Looks.{IsLookedAt}
 use Rattle.bus_core.specs.Places.{place_of}
-use Rattle.bus_core.specs.Seats.{IsCounted, WentOn}
+use Rattle.bus_core.specs.Seats.{IsOn, WentOn}
 use Rattle.bus_core.specs.declared.seat.Seat.{Seat}
 use Rattle.bus_core.proofs.Kept.{place-here, number-small, seated-here}
 use Rattle.bus_core.proofs.Looking.{looked-locks, same_words}
@@ -25,8 +25,8 @@ lock_done-requires g c =
     let is = sym (read_here x.seats.items c.args.place s c.index_mut-seat.result.now c.requires.next.here
     c.index_mut-seat.ensures.value) in
     record {
-      looked = subst (IsLookedAt x.board x.locks) is (c.requires.rests.looked c.args.place s c.requires.next.here);
-      counted = subst IsCounted is (seated-here g.P.Port g.C.Caller x c.requires.rests.kept c.args.place s c.requires.next.here).counted;
+      looked = subst (IsLookedAt x.locks) is (c.requires.rests.looked c.args.place s c.requires.next.here);
+      on = subst (IsOn x.board) is (seated-here g.P.Port g.C.Caller x c.requires.rests.kept c.args.place s c.requires.next.here).on;
     }
 
 pub push-requires-clause-room : goal.push-requires-clause-room
@@ -46,7 +46,7 @@ take-requires g c =
     (read_here x.seats.items c.args.place s c.index_mut-seat.result.now here c.index_mut-seat.ensures.value) in
     let wants = take-wants (run_of g.P.Port g.C.Caller x)
     (whole_of g.P.Port g.C.Caller x c.requires.rests.kept.held c.requires.rests.kept.owes) c.requires.rests.kept.kept c.args.place
-    (place_of g.C.Caller x.board s)
+    (place_of g.C.Caller s)
     (place-here g.P.Port g.C.Caller x c.requires.rests.kept c.args.place s here) c.args.lock.now c.requires.next.next in
     record {
       there = wants.0;
@@ -62,8 +62,8 @@ returns g c =
     let here = c.requires.next.here in
     let t = c.lock_done.new.self in
     let is = read_here x.seats.items c.args.place s c.index_mut-seat.result.now here c.index_mut-seat.ensures.value in
-    let went : WentOn x.board x.locks Passed cut_at.No s t =
-    subst (λ (y : Seat _). WentOn x.board x.locks Passed cut_at.No y t) is
+    let went : WentOn x.locks Passed cut_at.No s t =
+    subst (λ (y : Seat _). WentOn x.locks Passed cut_at.No y t) is
     c.lock_done.ensures.went in
     let number : t.number ≡ s.number = ap (λ (y : Seat _). y.number) went.same in
     let given : c.take.new.self ≡ with_holder x.locks c.args.lock.now (Some t.number) =
@@ -77,7 +77,7 @@ returns g c =
       rests = record {
         kept = take-kept g.P.Port g.C.Caller x c.requires.rests.kept c.args.place s here c.args.lock.now c.requires.next.next
             c.requires.free _ t refl refl went locks refl entries c.push.ensures.room bytes;
-        looked = looked-locks x.board x.locks c.take.new.self x.seats.items c.args.place t c.requires.rests.looked
+        looked = looked-locks x.locks c.take.new.self x.seats.items c.args.place t c.requires.rests.looked
             (ap seen_of given ∙ same_words x.locks c.args.lock.now (Some t.number)) c.lock_done.ensures.looked;
       };
       stepped = take-stepped g.P.Port g.C.Caller x c.requires.rests.kept c.args.place s here c.args.lock.now c.requires.next.next

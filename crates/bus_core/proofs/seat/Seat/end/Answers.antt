@@ -53,7 +53,7 @@ returns-in-Some-clause-seated g c =
     let new = c.load.new.self in
     let sent : new.sent ≡ 0 = ap (λ (t : Seat g.row.C.Denot). t.sent) same in
     record {
-      counted = c.load.ensures.counted;
+      on = c.load.ensures.on;
       wrote = ap (λ (t : Seat g.row.C.Denot). t.written) same ∙ ap (λ n. sum_by written_of (take n new.transfer.msgs)) (sym sent);
       within = omega (arith, sent);
       plugged = λ on bus. c.load.ensures.plugged

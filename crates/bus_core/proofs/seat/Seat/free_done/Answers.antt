@@ -3,7 +3,7 @@ use Rattle.bus_core.proofs.Reseating.{may_end, freed}
 use Rattle.bus_core.proofs.seat.Seat.free_done.Goals as goal
 
 pub lock_done-requires : goal.lock_done-requires
-lock_done-requires g c = record { looked = c.requires.looked; counted = c.requires.may.seated.counted }
+lock_done-requires g c = record { looked = c.requires.looked; on = c.requires.may.seated.on }
 
 pub end-requires-clause-may : goal.end-requires-clause-may
 end-requires-clause-may g c κs within =

@@ -1,6 +1,8 @@
 use Rattle.std.proofs.Common.{◌≡◌, ◌∙◌, ap}
 use Rattle.i2c_base.specs.declared.reply.Cut.{Cut}
+use Rattle.bus_spec.specs.Walk.{Lined}
 use Rattle.bus_core.specs.Seats.{cut_of_line}
+use Rattle.bus_core.proofs.Looking.{rest-looked}
 use Rattle.bus_core.proofs.seat.Seat.line_done.Goals.{then-failed, else-failed}
 use Rattle.bus_core.proofs.seat.Seat.line_done.Goals as goal
 
@@ -14,11 +16,11 @@ returns g c =
       | else-failed x ↦ rw x.if-failed.false x.self-is
     ] in
     record {
-      went = λ b v looked. record {
+      went = λ v looked. record {
         same = on.same ∙ ap (λ (k : Cut). record old { walk = c.advance_walk.new.self.walk; cut = k }) cut;
-        walk = on.walk b v looked;
+        walk = on.walk ∙ rest-looked v old (Lined c.args.failed) looked;
         route = on.route;
       };
-      updates = λ b v looked. c.updates.ensures b v looked;
+      updates = c.updates.ensures;
       fresh = on.fresh;
     }

@@ -1,12 +1,11 @@
-use Rattle.i2c_spec.specs.Messages.{messages_of}
 use Rattle.mux_plan.specs.Plans.{slots_of}
 use Rattle.core_laws.specs.Spots.{seen_of}
 use Rattle.bus_core.proofs.seat.Seat.load.Goals as goal
 
 pub returns-in-Some-clause-looked : goal.returns-in-Some-clause-looked
 returns-in-Some-clause-looked g c v looked =
-    c.restart.ensures.looked c.args.board.now (messages_of c.refill.new.transfer) (slots_of (seen_of v))
+    c.restart.ensures.looked (slots_of (seen_of v))
 
 pub returns-in_default-clause-looked : goal.returns-in_default-clause-looked
 returns-in_default-clause-looked g c v looked =
-    c.restart.ensures.looked c.args.board.now (messages_of c.refill.new.transfer) (slots_of (seen_of v))
+    c.restart.ensures.looked (slots_of (seen_of v))

@@ -1,8 +1,9 @@
-use Rattle.std.proofs.Common.{sym, length, ◌∙◌, ap}
+use Rattle.std.proofs.Common.{◌∙◌, ap}
 use Rattle.i2c_base.specs.declared.reply.Cut.TheVariants as cut_at
-use Rattle.i2c_spec.specs.Messages.{messages_of}
 use Rattle.mux_plan.specs.Plans.{RouteView}
 use Rattle.bus_core.specs.declared.seat.Seat.{Seat}
+use Rattle.bus_spec.specs.Walk.{Passed}
+use Rattle.bus_core.proofs.Looking.{rest-looked}
 use Rattle.bus_core.proofs.seat.Seat.lock_done.Goals as goal
 
 pub look-requires : goal.look-requires
@@ -10,8 +11,7 @@ look-requires g c =
     let on = c.advance_walk.ensures in
     record {
       fresh = on.fresh;
-      counted = ap (λ (s : Seat _). length (messages_of s.transfer)) on.same ∙ c.requires.counted
-          ∙ ap (λ (r : RouteView). r.count) (sym on.route);
+      on = ap (λ (r : RouteView). r.board) on.route ∙ c.requires.on;
     }
 
 pub returns : goal.returns
@@ -22,7 +22,7 @@ returns g c =
       went = record {
         same = ap (λ (s : Seat _). record s { cut = cut_at.No }) (look.same
             ∙ ap (λ (s : Seat _). record s { walk = c.look.new.self.walk }) on.same);
-        walk = look.walk c.args.board.now ∙ on.walk c.args.board.now c.args.locks.now c.requires.looked;
+        walk = look.walk ∙ on.walk ∙ rest-looked c.args.locks.now c.args.self.now Passed c.requires.looked;
         route = look.route ∙ on.route;
       };
       looked = look.looked;

@@ -5,7 +5,7 @@ use Rattle.i2c_base.specs.declared.reply.Reply.TheVariants as reply
 use Rattle.bus_core.specs.Kept.{roots_of}
 use Rattle.bus_core.specs.Looks.{IsLookedAt}
 use Rattle.bus_core.specs.Replies.{reply_decided}
-use Rattle.bus_core.specs.Seats.{IsCounted}
+use Rattle.bus_core.specs.Seats.{IsOn}
 use Rattle.bus_core.proofs.Reseating.{settled, settle_entry, may_end_refused, refused}
 use Rattle.bus_core.proofs.seat.Seat.refuse.Goals as goal
 
@@ -18,8 +18,8 @@ push-requires-clause-room_bytes g c = rw (c.settle_entry.ensures.bytes, c.decide
 pub lock_done-requires : goal.lock_done-requires
 lock_done-requires g c =
     record {
-      looked = subst (IsLookedAt c.args.board.now c.args.locks.now) (sym c.decide-decided.ensures.same) c.requires.looked;
-      counted = subst IsCounted (sym c.decide-decided.ensures.same) c.requires.may.seated.counted;
+      looked = subst (IsLookedAt c.args.locks.now) (sym c.decide-decided.ensures.same) c.requires.looked;
+      on = subst (IsOn c.args.board.now) (sym c.decide-decided.ensures.same) c.requires.may.seated.on;
     }
 
 pub end-requires-clause-may : goal.end-requires-clause-may
@@ -29,7 +29,7 @@ end-requires-clause-may g c κs within =
     let p = c.lock_done.ensures.went in
     may_end_refused g.C.Caller c.args.board.now c.args.locks.now
     (roots_of c.args.ports.now) old c.lock_done.new.self c.lock_done.new.self c.args.errno c.args.journal.now c.requires.may
-    (settled c.args.board.now c.args.locks.now old c.decide-decided.new.self c.lock_done.new.self
+    (settled c.args.locks.now old c.decide-decided.new.self c.lock_done.new.self
     (Some c.args.errno) c.decide-decided.result d.same p.same d.reply p.walk p.route)
 
 pub returns-clause-refused : goal.returns-clause-refused
@@ -42,7 +42,7 @@ returns-clause-refused g c =
     record {
       ended = refused g.C.Caller c.args.board.now c.args.locks.now
           (roots_of c.args.ports.now) old c.lock_done.new.self c.end.new.self c.args.errno c.args.journal.now c.requires.may
-          (settled c.args.board.now c.args.locks.now old c.decide-decided.new.self c.lock_done.new.self
+          (settled c.args.locks.now old c.decide-decided.new.self c.lock_done.new.self
           (Some c.args.errno) c.decide-decided.result d.same p.same d.reply p.walk p.route)
           c.end.ensures.ended;
       seated = c.end.ensures.seated;

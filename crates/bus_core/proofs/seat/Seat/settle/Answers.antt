@@ -4,7 +4,8 @@ use Rattle.i2c_base.specs.declared.entry.Entry.{Entry}
 use Rattle.bus_spec.specs.Stepwise.{reply_by}
 use Rattle.bus_core.specs.Looks.{IsLookedAt}
 use Rattle.bus_core.specs.Replies.{reply_decided}
-use Rattle.bus_core.specs.Seats.{IsCounted}
+use Rattle.bus_core.specs.Seats.{IsOn}
+use Rattle.bus_core.proofs.Looking.{next-looked}
 use Rattle.bus_core.proofs.Reseating.{settled, settle_entry}
 use Rattle.bus_core.proofs.seat.Seat.settle.Goals as goal
 
@@ -12,25 +13,27 @@ pub returns-in_default : goal.returns-in_default
 returns-in_default g c =
     record {
       settled = λ h. absurd (let f : false ≡ true = h in cc);
-      none = λ h verdict is. c.settles.ensures.none c.args.board.now c.args.locks.now verdict c.requires.looked c.in_default.is is;
+      none = λ h verdict is. c.settles.ensures.none verdict c.in_default.is
+          (next-looked c.args.locks.now c.args.self.now c.requires.looked ∙ is);
       stays = λ h. (refl, refl);
       looked = c.requires.looked;
     }
 
 pub push-requires-clause-room : goal.push-requires-clause-room
-push-requires-clause-room g c = (c.requires.may.room c.in-Some.verdict (c.in-Some.ensures.some c.args.board.now c.args.locks.now
-    c.requires.looked)).0
+push-requires-clause-room g c = (c.requires.may.room c.in-Some.verdict (sym (next-looked c.args.locks.now c.args.self.now c.requires.looked)
+    ∙ c.in-Some.ensures.some)).0
 
 pub push-requires-clause-room_bytes : goal.push-requires-clause-room_bytes
 push-requires-clause-room_bytes g c =
-    let room = (c.requires.may.room c.in-Some.verdict (c.in-Some.ensures.some c.args.board.now c.args.locks.now c.requires.looked)).1 in
+    let room = (c.requires.may.room c.in-Some.verdict (sym (next-looked c.args.locks.now c.args.self.now c.requires.looked)
+    ∙ c.in-Some.ensures.some)).1 in
     rw (c.settle_entry.ensures.bytes, c.decide-decided.ensures.reply) room
 
 pub lock_done-requires : goal.lock_done-requires
 lock_done-requires g c =
     record {
-      looked = subst (IsLookedAt c.args.board.now c.args.locks.now) (sym c.decide-decided.ensures.same) c.requires.looked;
-      counted = subst IsCounted (sym c.decide-decided.ensures.same) c.requires.may.counted;
+      looked = subst (IsLookedAt c.args.locks.now) (sym c.decide-decided.ensures.same) c.requires.looked;
+      on = subst (IsOn c.args.board.now) (sym c.decide-decided.ensures.same) c.requires.on;
     }
 
 pub returns-clause-settled : goal.returns-clause-settled
@@ -45,8 +48,8 @@ returns-clause-settled g c =
     let got : made ≡ reply_by verdict (Some old.transfer) old.replies.got = d.reply in (
       verdict,
       record {
-        next = c.in-Some.ensures.some c.args.board.now c.args.locks.now c.requires.looked;
-        settled = settled c.args.board.now c.args.locks.now old m c.lock_done.new.self verdict c.decide-decided.result d.same p.same d.reply
+        next = sym (next-looked c.args.locks.now old c.requires.looked) ∙ c.in-Some.ensures.some;
+        settled = settled c.args.locks.now old m c.lock_done.new.self verdict c.decide-decided.result d.same p.same d.reply
             p.walk p.route;
         entries = c.push.ensures.entries
             ∙ ap (λ (e : Entry). c.args.journal.now.entries ++ e ∷ [])

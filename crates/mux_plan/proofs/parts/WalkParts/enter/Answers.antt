@@ -6,14 +6,14 @@ use Rattle.mux_plan.proofs.Rooms.{planned-lock, planned-next}
 use Rattle.mux_plan.proofs.parts.WalkParts.enter.Goals as goal
 
 pub returns-then-not-is_parent-clause-tree : goal.returns-then-not-is_parent-clause-tree
-returns-then-not-is_parent-clause-tree c = λ ms out long.
+returns-then-not-is_parent-clause-tree c = λ out.
     let m = c.muxes.self in
-    enters-lock c.args.board.now ms c.args.seen.now m.route c.muxes.place c.muxes.work m.stack out
-    (c.muxes-test.ensures.at refl) (c.muxes-test.ensures.message ms refl)
+    enters-lock c.args.seen.now m.route c.muxes.place c.muxes.work m.stack out
+    (c.muxes-test.ensures.at refl) (c.muxes-test.ensures.message refl)
     (ap (λ (x : RouteView). (hop_at x c.muxes.place).parent) (sym c.cross-work.ensures.route) ∙ sym c.if-not-is_parent.ensures)
     c.cross-work.new.self.route c.cross-work.result c.cross-work.new.self.stack c.cross-work.ensures.route c.cross-work.ensures.next
     c.cross-work.ensures.stack
-    ∙ c.muxes.invariant.same ms out
+    ∙ c.muxes.invariant.same out
 
 pub muxes-preserved : goal.muxes-preserved
 muxes-preserved c = record {
@@ -28,22 +28,22 @@ muxes-preserved c = record {
       (ap (λ (x : RouteView). (hop_at x c.muxes.place).parent) (sym c.cross-work.ensures.route) ∙ sym c.if-not-is_parent.ensures);
   route = c.cross-work.ensures.route ∙ c.muxes.invariant.route;
   came = c.cross-work.ensures.came ∙ c.muxes.invariant.came;
-  same = λ ms out.
+  same = λ out.
       let m = c.muxes.self in
-      enters-next c.args.board.now ms c.args.seen.now m.route c.muxes.place c.muxes.work m.stack out
-      (c.muxes-test.ensures.at refl) (c.muxes-test.ensures.message ms refl)
+      enters-next c.args.seen.now m.route c.muxes.place c.muxes.work m.stack out
+      (c.muxes-test.ensures.at refl) (c.muxes-test.ensures.message refl)
       (ap (λ (x : RouteView). (hop_at x c.muxes.place).parent) (sym c.cross-work.ensures.route) ∙ sym c.if-not-is_parent.ensures)
       c.cross-work.new.self.route c.cross-work.result c.cross-work.new.self.stack c.cross-work.ensures.route c.cross-work.ensures.next
       c.cross-work.ensures.stack
-      ∙ c.muxes.invariant.same ms out;
+      ∙ c.muxes.invariant.same out;
 }
 
 pub returns-clause-tree : goal.returns-clause-tree
-returns-clause-tree c = λ ms out long.
-    c.reach.ensures.tree c.args.board.now ms out (long ∙ sym (ap (λ x. x.count) c.muxes.invariant.route))
-    ∙ sym (tree_of-bus c.args.board.now ms c.muxes.self.route c.args.seen.now c.muxes.place c.muxes.work c.muxes.self.stack out
-    (c.muxes-test.ensures.none ms refl))
-    ∙ c.muxes.invariant.same ms out
+returns-clause-tree c = λ out.
+    c.reach.ensures.tree out
+    ∙ sym (tree_of-bus c.muxes.self.route c.args.seen.now c.muxes.place c.muxes.work c.muxes.self.stack out
+    (c.muxes-test.ensures.none refl))
+    ∙ c.muxes.invariant.same out
 
 pub returns-then-not-is_parent-clause-planned : goal.returns-then-not-is_parent-clause-planned
 returns-then-not-is_parent-clause-planned c =

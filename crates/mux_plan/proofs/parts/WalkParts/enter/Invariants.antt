@@ -1,5 +1,4 @@
-use Rattle.std.proofs.Common.{◌≡◌, ◌-◌, List, ◌∷◌, length}
-use Rattle.i2c_spec.specs.Messages.{MessageView}
+use Rattle.std.proofs.Common.{◌≡◌, ◌-◌, ◌∷◌, length}
 use Rattle.bus_spec.specs.Walk.{JobOutcome}
 use Rattle.bus_spec.specs.Grammar.{seen}
 use Rattle.mux_plan.specs.declared.task.Task.TheVariants.{Enter}
@@ -13,9 +12,9 @@ invariant-muxes l = record {
   planned : IsPlanned l.self.route (Enter l.place l.work ∷ l.self.stack);
   route : l.self.route ≡ l.fn.self.route;
   came : l.self.came ≡ l.fn.self.came;
-  same : (ms : List MessageView) (out : JobOutcome)
-      → seen (slots_of l.seen) (tree_of l.board ms l.self.route (Enter l.place l.work ∷ l.self.stack) out)
-      ≡ seen (slots_of l.seen) (tree_of l.board ms l.fn.self.route (Enter l.fn.place l.fn.work ∷ l.fn.self.stack) out);
+  same : (out : JobOutcome)
+      → seen (slots_of l.seen) (tree_of l.self.route (Enter l.place l.work ∷ l.self.stack) out)
+      ≡ seen (slots_of l.seen) (tree_of l.fn.self.route (Enter l.fn.place l.fn.work ∷ l.fn.self.stack) out);
 }
 
 abbrev pub decreases-muxes : goal.decreases-muxes

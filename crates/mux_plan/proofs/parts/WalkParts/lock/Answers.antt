@@ -7,17 +7,17 @@ use Rattle.mux_plan.proofs.Openings.{tree_of-locked}
 use Rattle.mux_plan.proofs.parts.WalkParts.lock.Goals as goal
 
 pub returns-then-locks_on-clause-tree : goal.returns-then-locks_on-clause-tree
-returns-then-locks_on-clause-tree c = λ b ms out out2 o.
-    let h = tree_of-locked b ms c.args.self.now.route c.args.from c.args.place c.args.work c.args.self.now.stack out out2 o true
+returns-then-locks_on-clause-tree c = λ out out2 o.
+    let h = tree_of-locked c.args.self.now.route c.args.from c.args.place c.args.work c.args.self.now.stack out out2 o true
     (sym c.locks_on.ensures.value ∙ c.if-locks_on.true) in
-    ap (λ (ts : List Task). tree_of b ms c.args.self.now.route ts out)
+    ap (λ (ts : List Task). tree_of c.args.self.now.route ts out)
     (c.push-then-locks_on.ensures ∙ ap (λ (ts : List Task). Lock (c.args.from + 1) c.args.place c.args.work ∷ ts) (c.push.ensures
     ∙ ap (λ (l : LockId). Free l ∷ c.args.self.now.stack) c.lock_at.ensures)) ∙ h
 
 pub returns-else-locks_on-clause-tree : goal.returns-else-locks_on-clause-tree
-returns-else-locks_on-clause-tree c = λ b ms out out2 o.
-    let h = tree_of-locked b ms c.args.self.now.route c.args.from c.args.place c.args.work c.args.self.now.stack out out2 o false
+returns-else-locks_on-clause-tree c = λ out out2 o.
+    let h = tree_of-locked c.args.self.now.route c.args.from c.args.place c.args.work c.args.self.now.stack out out2 o false
     (sym c.locks_on.ensures.value ∙ c.if-locks_on.false) in
-    ap (λ (ts : List Task). tree_of b ms c.args.self.now.route ts out)
+    ap (λ (ts : List Task). tree_of c.args.self.now.route ts out)
     (c.push-else-locks_on.ensures ∙ ap (λ (ts : List Task). Enter c.args.place c.args.work ∷ ts) (c.push.ensures
     ∙ ap (λ (l : LockId). Free l ∷ c.args.self.now.stack) c.lock_at.ensures)) ∙ h

@@ -4,9 +4,9 @@ use Rattle.mux_plan.proofs.Openings.{messages-over}
 use Rattle.mux_plan.proofs.parts.WalkParts.message.Goals as goal
 
 pub returns-in-Over-clause-tree : goal.returns-in-Over-clause-tree
-returns-in-Over-clause-tree c = λ b ms out.
-    c.end-in-Over.ensures.tree b ms
-    ∙ messages-over c.args.left (c.args.left - 1) (job_of c.args.self.now.route ms c.args.work)
+returns-in-Over-clause-tree c = λ out.
+    c.end-in-Over.ensures.tree
+    ∙ messages-over c.args.left (c.args.left - 1) (job_of c.args.self.now.route c.args.work)
     (note_of c.args.self.now.route c.args.self.now.stack)
-    (tree_of b ms c.args.self.now.route c.args.self.now.stack) (outcome_of c.args.outcome.now) (omega arith)
-    (c.in-Over.ensures c.args.self.now.route ms)
+    (tree_of c.args.self.now.route c.args.self.now.stack) (outcome_of c.args.outcome.now) (omega arith)
+    (c.in-Over.ensures c.args.self.now.route)

@@ -11,6 +11,7 @@ enter-requires c =
     let s = c.args.self.now in
     let k = c.args.hop in
     record {
+      on = c.requires.on ∙ ap (λ (x : RouteView). x.board) (sym c.wait_select-next.ensures.route);
       planned =
           planned-pass s.route c.wait_select-next.new.self.route k c.args.work.now c.wait_select-next.result
           (keeps (hop_at s.route k) (kept_of c.args.seen.now (hop_at s.route k).mux)) s.stack c.wait_select-next.new.self.stack
@@ -19,28 +20,27 @@ enter-requires c =
     }
 
 pub returns-then-is_parent-clause-tree : goal.returns-then-is_parent-clause-tree
-returns-then-is_parent-clause-tree c = λ ms out long.
+returns-then-is_parent-clause-tree c = λ out.
     let s = c.args.self.now in
     let k = c.args.hop in
-    c.enter.ensures.tree ms out (long ∙ sym (ap (λ (x : RouteView). x.count) c.wait_select-next.ensures.route))
+    c.enter.ensures.tree out
     ∙ ap (λ (x : RouteView). seen (slots_of c.args.seen.now)
-    (tree_of c.args.board.now ms x (part_task true (k + 1) c.wait_select-next.result ∷ c.wait_select-next.new.self.stack) out))
+    (tree_of x (part_task true (k + 1) c.wait_select-next.result ∷ c.wait_select-next.new.self.stack) out))
     c.wait_select-next.ensures.route
-    ∙ passes-by c.args.board.now ms s.route c.args.seen.now k c.args.work.now s.stack out true
+    ∙ passes-by s.route c.args.seen.now k c.args.work.now s.stack out true
     (ap (λ (x : RouteView). (hop_at x k).parent) (sym c.wait_select-next.ensures.route) ∙ sym c.is_parent.ensures ∙ c.if-is_parent.true)
     c.wait_select-next.result c.wait_select-next.new.self.stack c.wait_select-next.ensures.next c.wait_select-next.ensures.stack
 
 pub returns-else-is_parent-clause-tree : goal.returns-else-is_parent-clause-tree
-returns-else-is_parent-clause-tree c = λ ms out long.
+returns-else-is_parent-clause-tree c = λ out.
     let s = c.args.self.now in
     let k = c.args.hop in
-    let b = c.args.board.now in
-    ap (λ (ts : List Task). tree_of b ms c.wait_select-next.new.self.route ts out) (c.push.ensures
+    ap (λ (ts : List Task). tree_of c.wait_select-next.new.self.route ts out) (c.push.ensures
     ∙ ap (λ (t : Task). t ∷ c.wait_select-next.new.self.stack) c.part.ensures)
-    ∙ ap (λ (x : RouteView). tree_of b ms x
+    ∙ ap (λ (x : RouteView). tree_of x
     (part_task false (k + 1) c.wait_select-next.result ∷ c.wait_select-next.new.self.stack) out) c.wait_select-next.ensures.route
-    ∙ sym (seen-step b ms s.route (slots_of c.args.seen.now)
+    ∙ sym (seen-step s.route (slots_of c.args.seen.now)
     (part_task false (k + 1) c.wait_select-next.result ∷ c.wait_select-next.new.self.stack) out tt)
-    ∙ passes-by b ms s.route c.args.seen.now k c.args.work.now s.stack out false
+    ∙ passes-by s.route c.args.seen.now k c.args.work.now s.stack out false
     (ap (λ (x : RouteView). (hop_at x k).parent) (sym c.wait_select-next.ensures.route) ∙ sym c.is_parent.ensures ∙ c.if-is_parent.false)
     c.wait_select-next.result c.wait_select-next.new.self.stack c.wait_select-next.ensures.next c.wait_select-next.ensures.stack

@@ -6,18 +6,18 @@ use Rattle.mux_plan.proofs.Rooms.{planned-work}
 use Rattle.mux_plan.proofs.parts.WalkParts.serve.Goals as goal
 
 pub returns-clause-tree : goal.returns-clause-tree
-returns-clause-tree c = λ b ms out.
+returns-clause-tree c = λ out.
     let s = c.args.self.now in
     let k = c.args.hop in
     let h = hop_at s.route k in
-    ap (λ (ts : List Task). tree_of b ms c.wait_work.new.self.route ts out)
+    ap (λ (ts : List Task). tree_of c.wait_work.new.self.route ts out)
     (c.push.ensures ∙ ap (λ (t : Task). t ∷ c.wait_work.new.self.stack) (c.part.ensures
     ∙ ap (λ (t : Bool). part_task t (k + 1) c.args.work) (c.is_parent.ensures ∙ ap (λ (x : RouteView). (hop_at x k).parent)
     c.wait_work.ensures.route))
     ∙ ap (λ (ts : List Task). part_task h.parent (k + 1) c.args.work ∷ ts) c.wait_work.ensures.stack)
-    ∙ ap (λ (x : RouteView). tree_of b ms x (part_task h.parent (k + 1) c.args.work ∷ work_tasks h.stays k s.stack) out)
+    ∙ ap (λ (x : RouteView). tree_of x (part_task h.parent (k + 1) c.args.work ∷ work_tasks h.stays k s.stack) out)
     c.wait_work.ensures.route
-    ∙ opened_tree b ms s.route k c.args.work s.stack out
+    ∙ opened_tree s.route k c.args.work s.stack out
 
 pub returns-clause-planned : goal.returns-clause-planned
 returns-clause-planned c =

@@ -17,9 +17,9 @@ pub returns-in-AwaitClose-clause-tree : goal.returns-in-AwaitClose-clause-tree
 returns-in-AwaitClose-clause-tree c =
     let s = c.args.self.now in
     let w = c.in-AwaitClose in
-    λ b ms. c.wake_close.ensures.tree b ms
+    c.wake_close.ensures.tree
     ∙ top-tree s.route s.stack c.drop_top.new.self c.in-Some.task.now
-    (AwaitClose w.hop w.mux w.work) c.in-Some.ensures.some w.is c.drop_top.ensures b ms (came_of s.came)
+    (AwaitClose w.hop w.mux w.work) c.in-Some.ensures.some w.is c.drop_top.ensures (came_of s.came)
 
 pub wake_select-requires : goal.wake_select-requires
 wake_select-requires c =
@@ -34,9 +34,9 @@ pub returns-in-AwaitSelect-clause-tree : goal.returns-in-AwaitSelect-clause-tree
 returns-in-AwaitSelect-clause-tree c =
     let s = c.args.self.now in
     let w = c.in-AwaitSelect in
-    λ b ms. c.wake_select.ensures.tree b ms
+    c.wake_select.ensures.tree
     ∙ top-tree s.route s.stack c.drop_top-in-AwaitSelect.new.self c.in-Some.task.now
-    (AwaitSelect w.hop w.work) c.in-Some.ensures.some w.is c.drop_top-in-AwaitSelect.ensures b ms (came_of s.came)
+    (AwaitSelect w.hop w.work) c.in-Some.ensures.some w.is c.drop_top-in-AwaitSelect.ensures (came_of s.came)
 
 pub deselect-requires : goal.deselect-requires
 deselect-requires c =
@@ -51,13 +51,13 @@ pub returns-in-AwaitWork-clause-tree : goal.returns-in-AwaitWork-clause-tree
 returns-in-AwaitWork-clause-tree c =
     let s = c.args.self.now in
     let w = c.in-AwaitWork in
-    λ b ms. c.deselect.ensures.tree b ms (came_of c.deselect.new.self.came)
+    c.deselect.ensures.tree (came_of c.deselect.new.self.came)
     ∙ top-tree s.route s.stack c.drop_top-in-AwaitWork.new.self c.in-Some.task.now
-    (AwaitWork w.hop) c.in-Some.ensures.some w.is c.drop_top-in-AwaitWork.ensures b ms (came_of s.came)
+    (AwaitWork w.hop) c.in-Some.ensures.some w.is c.drop_top-in-AwaitWork.ensures (came_of s.came)
 
 pub returns-in-AwaitDeselect-clause-tree : goal.returns-in-AwaitDeselect-clause-tree
 returns-in-AwaitDeselect-clause-tree c =
     let s = c.args.self.now in
     let w = c.in-AwaitDeselect in
-    λ b ms. top-tree s.route s.stack c.drop_top-in-AwaitDeselect.new.self c.in-Some.task.now
-    (AwaitDeselect w.hop w.came) c.in-Some.ensures.some w.is c.drop_top-in-AwaitDeselect.ensures b ms (came_of s.came)
+    top-tree s.route s.stack c.drop_top-in-AwaitDeselect.new.self c.in-Some.task.now
+    (AwaitDeselect w.hop w.came) c.in-Some.ensures.some w.is c.drop_top-in-AwaitDeselect.ensures (came_of s.came)
