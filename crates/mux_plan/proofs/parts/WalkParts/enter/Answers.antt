@@ -45,18 +45,5 @@ returns-clause-tree c = λ out.
     (c.muxes-test.ensures.none refl))
     ∙ c.muxes.invariant.same out
 
-pub returns-then-not-is_parent-clause-planned : goal.returns-then-not-is_parent-clause-planned
-returns-then-not-is_parent-clause-planned c =
-    let m = c.muxes.self in
-    planned-lock m.route c.cross-work.new.self.route c.muxes.place c.muxes.work c.cross-work.result
-    (hop_at m.route c.muxes.place).parent
-    (mark_on c.args.seen.now (hop_at m.route c.muxes.place).on)
-    (keeps (hop_at m.route c.muxes.place) (kept_of c.args.seen.now (hop_at m.route c.muxes.place).mux))
-    m.stack c.cross-work.new.self.stack c.muxes.invariant.planned
-    (c.muxes-test.ensures.within refl)
-    (c.cross-work.ensures.placed c.muxes.invariant.planned.placed.0.0)
-    c.cross-work.ensures.route c.cross-work.ensures.stack
-    (ap (λ (x : RouteView). (hop_at x c.muxes.place).parent) (sym c.cross-work.ensures.route) ∙ sym c.if-not-is_parent.ensures)
-
 pub returns-clause-planned : goal.returns-clause-planned
 returns-clause-planned c = c.reach.ensures.planned c.muxes.place c.muxes.invariant.planned

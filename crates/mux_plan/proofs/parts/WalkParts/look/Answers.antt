@@ -28,16 +28,6 @@ returns-in_default-task c =
       came = search rules;
     }
 
-pub pass-requires : goal.pass-requires
-pass-requires c =
-    let s = c.args.self.now in
-    let w = c.in-Pass in
-    record {
-      on = c.requires.on;
-      planned = top-planned s.route s.stack c.drop_top-in-Pass.new.self c.in-Some.task.now
-          (Pass w.hop w.work) c.in-Some.ensures.some w.is c.drop_top-in-Pass.ensures c.requires.planned;
-    }
-
 pub returns-in-Pass-clause-tree : goal.returns-in-Pass-clause-tree
 returns-in-Pass-clause-tree c = λ out.
     let s = c.args.self.now in

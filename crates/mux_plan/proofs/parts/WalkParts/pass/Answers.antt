@@ -6,31 +6,6 @@ use Rattle.mux_plan.proofs.Openings.{passes-by, seen-step}
 use Rattle.mux_plan.proofs.Rooms.{planned-pass}
 use Rattle.mux_plan.proofs.parts.WalkParts.pass.Goals as goal
 
-pub enter-requires : goal.enter-requires
-enter-requires c =
-    let s = c.args.self.now in
-    let k = c.args.hop in
-    record {
-      on = c.requires.on ∙ ap (λ (x : RouteView). x.board) (sym c.wait_select-next.ensures.route);
-      planned =
-          planned-pass s.route c.wait_select-next.new.self.route k c.args.work.now c.wait_select-next.result
-          (keeps (hop_at s.route k) (kept_of c.args.seen.now (hop_at s.route k).mux)) s.stack c.wait_select-next.new.self.stack
-          c.requires.planned (c.wait_select-next.ensures.placed c.requires.planned.placed.0.0)
-          c.wait_select-next.ensures.route c.wait_select-next.ensures.stack true;
-    }
-
-pub returns-then-is_parent-clause-tree : goal.returns-then-is_parent-clause-tree
-returns-then-is_parent-clause-tree c = λ out.
-    let s = c.args.self.now in
-    let k = c.args.hop in
-    c.enter.ensures.tree out
-    ∙ ap (λ (x : RouteView). seen (slots_of c.args.seen.now)
-    (tree_of x (part_task true (k + 1) c.wait_select-next.result ∷ c.wait_select-next.new.self.stack) out))
-    c.wait_select-next.ensures.route
-    ∙ passes-by s.route c.args.seen.now k c.args.work.now s.stack out true
-    (ap (λ (x : RouteView). (hop_at x k).parent) (sym c.wait_select-next.ensures.route) ∙ sym c.is_parent.ensures ∙ c.if-is_parent.true)
-    c.wait_select-next.result c.wait_select-next.new.self.stack c.wait_select-next.ensures.next c.wait_select-next.ensures.stack
-
 pub returns-else-is_parent-clause-tree : goal.returns-else-is_parent-clause-tree
 returns-else-is_parent-clause-tree c = λ out.
     let s = c.args.self.now in

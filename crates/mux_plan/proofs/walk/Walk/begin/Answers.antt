@@ -8,12 +8,6 @@ use Rattle.mux_plan.specs.Rooms.{IsStep}
 use Rattle.mux_plan.proofs.Openings.{seen-step}
 use Rattle.mux_plan.proofs.walk.Walk.begin.Goals as goal
 
-pub returns-clause-tree : goal.returns-clause-tree
-returns-clause-tree c =
-    let came = came_of c.start.new.self.came in
-    ap (λ (ts : List Task). tree_of c.start.new.self.route ts came) (c.of.ensures ∙ c.start.ensures.stack)
-    ∙ ap (λ (x : RouteView). tree_of x (Lock 0 0 work.Call ∷ []) came) (c.start.ensures.route ∙ c.set_route.ensures.route)
-
 pub returns-clause-looked : goal.returns-clause-looked
 returns-clause-looked c = λ v.
     let route = c.start.new.self.route in
