@@ -235,8 +235,7 @@ module _ {P C S : Type 0} (g : PortGhosts P) (c : CallerGhosts C S) (x : CorePar
             y x.locks.kept kept.kept.table.kept told;
       }
 
-      pub is-sent : IsSent run whole p job more next s.port spoken.before spoken.after sent.addr sent.reading bytes sent.heard sent.end
-          words2
+      pub is-sent : IsSent run whole p job more next s.port spoken.before spoken.after bytes sent words2
       is-sent = record {
         first = first;
         of = of;
@@ -273,7 +272,7 @@ module _ {P C S : Type 0} (g : PortGhosts P) (c : CallerGhosts C S) (x : CorePar
           (ap (λ (o : Option Decided). got_by o s.replies) (undecided s.decided s.replies unsettled))
           (goes-on.partway (none_owed p.owed unsettled))
 
-      pub may-hear : MayHear next sent.reading bytes sent.end s
+      pub may-hear : MayHear next bytes sent s
       may-hear = record {
         wrote = its.wrote;
         part = subst (λ (n : ℕ). 0 < n) (sym of.as_part) (part_low s.sent more job (λ bus ms is. (calls bus ms is).2));

@@ -51,7 +51,7 @@ module _ {P C S : Type 0} (g : PortGhosts P) (c : CallerGhosts C S) (x : CorePar
     (of : IsMessageOf job more next)
     (sockets2 : List RootPort) (bytes : List ℕ) (sent : MsgResult)
     (said : HasSpoken x.board g.tells next (root_ports g x.ports.items) sockets2 bytes sent s)
-    (t : Seat C) (heard : HasHeard x.locks next sent.reading bytes sent.end s t) where
+    (t : Seat C) (heard : HasHeard x.locks next bytes sent s t) where
   open standing g c x kept place s here use {run, whole, p, at, ls, n}
 
   abbrev words : SeenView
@@ -75,15 +75,14 @@ module _ {P C S : Type 0} (g : PortGhosts P) (c : CallerGhosts C S) (x : CorePar
   leaves : (IsLeft run.board p.transfer (has_reply p.owed) gone behind × (p.owed ≡ [] → FitsReads (take gone p.transfer.msgs) got))
       ⊎ ((has_reply p.owed ≡ false) × (verdict : Option Errno) × IsDecided run.board p.transfer verdict behind
       × ((reply : Reply) → reply ≡ reply_by verdict (Some p.transfer) got → Fits p.transfer reply))
-  leaves = sent-leaves run whole kept.kept place p at job more next s.port said.before said.after sent.addr sent.reading bytes sent.heard
-      sent.end words
+  leaves = sent-leaves run whole kept.kept place p at job more next s.port said.before said.after bytes sent words
       (is-sent g c x kept place s here job more next first of sockets2 bytes sent said)
 
-  place-is : place_of c t ≡ spoken whole p job next sent.reading bytes sent.end gone
-  place-is = heard-place c x.board x.locks (roots_of x.ports.items) job more next of sent.reading bytes sent.end s t heard none
+  place-is : place_of c t ≡ spoken whole p job next bytes sent gone
+  place-is = heard-place c x.board x.locks (roots_of x.ports.items) job more next of bytes sent s t heard none
 
   seated : IsSeated c x.board (roots_of x.ports.items) t
-  seated = heard-seated c x.board x.locks (roots_of x.ports.items) job more next of sent.reading bytes sent.end s t heard none
+  seated = heard-seated c x.board x.locks (roots_of x.ports.items) job more next of bytes sent s t heard none
       (seated-here g c x kept place s here)
       (goes g c x kept place s here job more next first of) (on-bus g c x kept place s here job more next first of)
       (λ e. (call-left g c x kept place s here job more next first of e).1)
@@ -93,7 +92,7 @@ module _ {P C S : Type 0} (g : PortGhosts P) (c : CallerGhosts C S) (x : CorePar
   reply-is unsettled verdict =
       ap (λ (y : TransferView). reply_by verdict (Some y) t.replies.got) (ap (λ (y : Seat C). y.transfer) heard.same)
       ∙ ap (reply_by verdict (Some s.transfer))
-      (heard-got c x.board x.locks (roots_of x.ports.items) job more next of sent.reading bytes sent.end s t heard none unsettled)
+      (heard-got c x.board x.locks (roots_of x.ports.items) job more next of bytes sent s t heard none unsettled)
 
   -- the settle is none where the message decides nothing
   quiet : IsLeft run.board p.transfer (has_reply p.owed) gone behind → (verdict : Option Errno)
@@ -101,8 +100,7 @@ module _ {P C S : Type 0} (g : PortGhosts P) (c : CallerGhosts C S) (x : CorePar
   quiet is verdict comes = quiet-next (slots_of words) behind is.quiet verdict
       (subst (λ (w : WalkTree). next_of locks2 w ≡ Some (Settle verdict)) heard.walk comes)
 
-  module _ (j : JournalView) (entries : j.entries ≡ x.journal.entries ++ message_entry p next sent.addr sent.reading bytes sent.heard
-      sent.end ∷ []) (room : j.room + 1 ≡ x.journal.room)
+  module _ (j : JournalView) (entries : j.entries ≡ x.journal.entries ++ message_entry s.number next bytes sent ∷ []) (room : j.room + 1 ≡ x.journal.room)
       (room_bytes : j.room_bytes + length bytes ≡ x.journal.room_bytes) where
     -- THE SETTLE may be made
     pub may-settle : MaySettle locks2 j t
@@ -143,8 +141,7 @@ module _ {P C S : Type 0} (g : PortGhosts P) (c : CallerGhosts C S) (x : CorePar
               → IsKept g c new × HasStepped g c place x new
           by left partway =
               let core = core-message run (fair g c x kept) whole kept.kept place p ls n
-              (standing g c x kept place s here).stands j.room job more next s.port said.before said.after sent.addr sent.reading
-              bytes sent.heard sent.end words
+              (standing g c x kept place s here).stands j.room job more next s.port said.before said.after bytes sent words
               (is-sent g c x kept place s here job more next first of sockets2 bytes sent said) gone left partway (sym room) j.room_bytes
               (sym room_bytes) in
               let number : t.number ≡ s.number = ap (λ (y : Seat C). y.number) heard.same in
@@ -152,11 +149,11 @@ module _ {P C S : Type 0} (g : PortGhosts P) (c : CallerGhosts C S) (x : CorePar
               let all = ap (λ (y : JournalView). y.entries) journal ∙ entries in (
                 kept-whole g c x kept place s here new t same_board seats number script roots seated _ core
                     (ap reverse all ∙ reverse-append x.journal.entries
-                    (message_entry p next sent.addr sent.reading bytes sent.heard sent.end ∷ []))
+                    (message_entry s.number next bytes sent ∷ []))
                     (ap (λ (y : JournalView). y.room) journal) (ap (λ (y : JournalView). y.room_bytes) journal)
                     (ap (set whole.places place) place-is) locks sockets,
                 stepped-one g c x kept place s here new t same_board seats number script roots start places
-                    (message_entry p next sent.addr sent.reading bytes sent.heard sent.end) all
+                    (message_entry s.number next bytes sent) all
                     (ap (λ (y : JournalView). y.room + 1) journal ∙ room) refl refl (λ tell. (core.told tell).stepwise),
               )
 
@@ -182,12 +179,11 @@ module _ {P C S : Type 0} (g : PortGhosts P) (c : CallerGhosts C S) (x : CorePar
               let first2 : first_act (walk_left t) ≡ Some (Settle verdict) = subst
               (λ (w : WalkTree). first_act w ≡ Some (Settle verdict)) (sym heard.walk) (decides.first
               ∙ ap (λ (o : Option Errno). Some (Settle o)) (sym is)) in
-              let message = message_entry p next sent.addr sent.reading bytes sent.heard sent.end in
+              let message = message_entry s.number next bytes sent in
               let settle = entry.Settle s.number reply (message_cut next.purpose next.part sent.end) in
               let rooms : x.journal.room ≡ new.journal.room + 2 = (let a = made.room in omega (arith, a, room)) in
               let core = core-settled run (fair g c x kept) whole kept.kept place p ls n
-              (standing g c x kept place s here).stands new.journal.room job more next s.port said.before said.after sent.addr
-              sent.reading bytes sent.heard sent.end words
+              (standing g c x kept place s here).stands new.journal.room job more next s.port said.before said.after bytes sent words
               (is-sent g c x kept place s here job more next first of sockets2 bytes sent said) gone due decides unsettled reply decided
               (fits reply decided) rooms new.journal.room_bytes
               (let a = made.room_bytes in omega (arith, a, room_bytes)) in

@@ -2,7 +2,6 @@
 use Rattle.std.proofs.Common.{◌≡◌, ℕ, ◌+◌, ◌<◌, ◌≤◌, Bool, true, false, List, [], ◌∷◌, length, Option, Some, None, refl, sym, ◌∙◌, ap, subst, arith, inl}
 use Rattle.std.specs.Prelude.{slice_get, if◌then◌else◌}
 use Rattle.i2c_base.specs.declared.caller.Caller.{Ghosts as CallerGhosts}
-use Rattle.i2c_base.specs.declared.entry.End.{End}
 use Rattle.i2c_base.specs.declared.entry.Purpose.{Purpose}
 use Rattle.i2c_base.specs.declared.entry.Purpose.TheVariants as purpose
 use Rattle.i2c_base.specs.declared.errno.Errno.{Errno}
@@ -28,6 +27,7 @@ use Rattle.mux_plan.specs.declared.task.NextMsg.{NextMsg}
 use Rattle.core_laws.specs.Sends.{IsMessageOf, gone_after}
 use Rattle.mux_plan.specs.Plans.{is_call_through}
 use Rattle.core_laws.specs.Steps.{next_of, behind_of}
+use Rattle.bus_message.specs.declared.message.MsgResult.{MsgResult}
 use Rattle.bus_core.specs.Kept.{IsSeated}
 use Rattle.bus_core.specs.Places.{walk_left, owed_by, got_by, place_of}
 use Rattle.bus_core.specs.Replies.{RepliesView}
@@ -78,20 +78,20 @@ place_with c s t q is owed w sent got o tr se go =
 
 module _ {C S : Type 0} (c : CallerGhosts C S) (b : BoardView) (v : LocksView) (roots : List ℕ) where
   -- A MESSAGE
-  module _ (job : Job) (more : ℕ) (next : NextMsg) (of : IsMessageOf job more next) (reading : Bool) (bytes : List ℕ) (e : End)
-      (s t : Seat C) (heard : HasHeard v next reading bytes e s t)
+  module _ (job : Job) (more : ℕ) (next : NextMsg) (of : IsMessageOf job more next) (bytes : List ℕ) (r : MsgResult)
+      (s t : Seat C) (heard : HasHeard v next bytes r s t)
       (none : (bus : ℕ) (ms : List MessageView) → job ≡ Call bus ms → has_reply (owed_by s.decided s.replies) ≡ false) where
-    replies : t.replies ≡ record s.replies { got = got_heard (job_purpose job) reading bytes s.replies.got }
-    replies = heard.got ∙ ap (λ (y : Purpose). record s.replies { got = got_heard y reading bytes s.replies.got }) of.for_purpose
+    replies : t.replies ≡ record s.replies { got = got_heard (job_purpose job) r.reading bytes s.replies.got }
+    replies = heard.got ∙ ap (λ (y : Purpose). record s.replies { got = got_heard y r.reading bytes s.replies.got }) of.for_purpose
 
-    pub heard-gone : t.sent ≡ gone_after s.sent job e
-    heard-gone = heard.gone ∙ ap (λ (y : Purpose). if is_call_through y e then s.sent + 1 else s.sent) of.for_purpose
+    pub heard-gone : t.sent ≡ gone_after s.sent job r.end
+    heard-gone = heard.gone ∙ ap (λ (y : Purpose). if is_call_through y r.end then s.sent + 1 else s.sent) of.for_purpose
 
     pub heard-place : place_of c t ≡ record (place_of c s) {
-      tree = behind_of v (walk_left s) (walk.Sent e bytes);
-      sent = gone_after s.sent job e;
-      got = got_after job reading bytes (got_by s.decided s.replies);
-      cut = message_cut next.purpose next.part e;
+      tree = behind_of v (walk_left s) (walk.Sent r.end bytes);
+      sent = gone_after s.sent job r.end;
+      got = got_after job r.reading bytes (got_by s.decided s.replies);
+      cut = message_cut next.purpose next.part r.end;
     }
     heard-place =
         place_with c s t (place_of c
@@ -100,25 +100,25 @@ module _ {C S : Type 0} (c : CallerGhosts C S) (b : BoardView) (v : LocksView) (
           sent = t.sent;
           written = t.written;
           replies = t.replies;
-          cut = message_cut next.purpose next.part e;
+          cut = message_cut next.purpose next.part r.end;
         })) (ap (place_of c) heard.same)
-        (owed_by s.decided s.replies) (behind_of v (walk_left s) (walk.Sent e bytes)) (gone_after s.sent job e)
-        (got_after job reading bytes (got_by s.decided s.replies))
-        (ap (owed_by s.decided) replies ∙ owed_same s.decided s.replies job reading bytes none)
+        (owed_by s.decided s.replies) (behind_of v (walk_left s) (walk.Sent r.end bytes)) (gone_after s.sent job r.end)
+        (got_after job r.reading bytes (got_by s.decided s.replies))
+        (ap (owed_by s.decided) replies ∙ owed_same s.decided s.replies job r.reading bytes none)
         (sym (ap walk_left heard.same) ∙ heard.walk) heard-gone
-        (ap (got_by s.decided) replies ∙ got_more s.decided s.replies job reading bytes none)
+        (ap (got_by s.decided) replies ∙ got_more s.decided s.replies job r.reading bytes none)
 
     -- what it has read
     pub heard-got : has_reply (owed_by s.decided s.replies) ≡ false
-        → t.replies.got ≡ got_after job reading bytes (got_by s.decided s.replies)
+        → t.replies.got ≡ got_after job r.reading bytes (got_by s.decided s.replies)
     heard-got unsettled =
         let is : s.decided ≡ None = undecided s.decided s.replies unsettled in
         let to : t.decided ≡ None = ap (λ (y : Seat C). y.decided) heard.same ∙ is in
         sym (ap (λ (o : Option Decided). got_by o t.replies) to) ∙ ap (λ (y : Place). y.got) heard-place
 
     heard_within : IsSeated c b roots s → (next.purpose ≡ purpose.Call → s.sent < length s.transfer.msgs) → (through : Bool)
-        → is_call_through next.purpose e ≡ through → t.sent ≡ (if through then s.sent + 1 else s.sent) → t.sent ≤ length s.transfer.msgs
-    heard_within seated left true is gone = (let low : s.sent < length s.transfer.msgs = left (call-through next.purpose e is).0 in
+        → is_call_through next.purpose r.end ≡ through → t.sent ≡ (if through then s.sent + 1 else s.sent) → t.sent ≤ length s.transfer.msgs
+    heard_within seated left true is gone = (let low : s.sent < length s.transfer.msgs = left (call-through next.purpose r.end is).0 in
         let g : t.sent ≡ s.sent + 1 = gone in omega (arith, low, g))
     heard_within seated left false is gone = (let g : t.sent ≡ s.sent = gone in omega (arith, g, seated.within))
 
@@ -130,7 +130,7 @@ module _ {C S : Type 0} (c : CallerGhosts C S) (b : BoardView) (v : LocksView) (
           on = ap (λ (y : RouteView). y.board) heard.route ∙ seated.on;
           wrote = heard.wrote;
           within = subst (λ (y : TransferView). t.sent ≤ length y.msgs) (sym transfer)
-              (heard_within seated left (is_call_through next.purpose e) refl heard.gone);
+              (heard_within seated left (is_call_through next.purpose r.end) refl heard.gone);
           plugged = λ goes there. subst (λ (y : Seat C). slice_get roots y.port ≡ Some (root_of b y.transfer.bus)) (sym heard.same)
               (seated.plugged going low);
           there = λ goes. inl (subst (λ (y : TransferView). y.bus < buses b) (sym transfer) low);

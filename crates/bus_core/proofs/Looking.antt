@@ -2,7 +2,6 @@
 use Rattle.std.proofs.Common.{◌≡◌, ℕ, List, Some, set, refl, sym, ◌∙◌, ap, subst, inl, inr}
 use Rattle.std.specs.Prelude.{slice_get}
 use Rattle.i2c_base.specs.declared.caller.Caller.{Ghosts as CallerGhosts}
-use Rattle.i2c_base.specs.declared.entry.End.{End}
 use Rattle.i2c_base.specs.declared.ids.LockId.{LockId}
 use Rattle.i2c_base.specs.declared.ids.LockId.TheVariants as lock
 use Rattle.i2c_base.specs.Board.{BoardView}
@@ -18,6 +17,7 @@ use Rattle.core_laws.specs.Spots.{seen_of, turned_to}
 use Rattle.core_laws.specs.Steps.{next_of, behind_of}
 use Rattle.core_laws.proofs.Core.{at_set}
 use Rattle.core_laws.proofs.Laws.{looks-stay}
+use Rattle.bus_message.specs.declared.message.MsgResult.{MsgResult}
 use Rattle.bus_core.specs.Kept.{run_of, whole_of, IsKept}
 use Rattle.bus_core.specs.Looks.{IsLookedAt, AreLooked}
 use Rattle.bus_core.specs.Marks.{words_after}
@@ -66,11 +66,11 @@ looked-locks v w seats place t all same own =
     looked-set v w seats place t all (looked-by v w t same own) (λ i s at other looked. looked-by v w s same looked)
 
 -- where the looks of a seat are answered, so they are of one that has only answered them
-pub heard-looked : {C : Type 0} (v : LocksView) (next : NextMsg) (reading : _) (bytes : List ℕ) (e : End) (s m t : Seat C)
-    → HasHeard v next reading bytes e s m → t ≡ record m { walk = t.walk } → walk_left t ≡ walk_left m
-    → t.walk.route ≡ m.walk.route → HasHeard v next reading bytes e s t
-heard-looked v next reading bytes e s m t heard same walk route =
-    subst (λ (y : Seat _). HasHeard v next reading bytes e s y) (sym same)
+pub heard-looked : {C : Type 0} (v : LocksView) (next : NextMsg) (bytes : List ℕ) (r : MsgResult) (s m t : Seat C)
+    → HasHeard v next bytes r s m → t ≡ record m { walk = t.walk } → walk_left t ≡ walk_left m
+    → t.walk.route ≡ m.walk.route → HasHeard v next bytes r s t
+heard-looked v next bytes r s m t heard same walk route =
+    subst (λ (y : Seat _). HasHeard v next bytes r s y) (sym same)
     (record {
       same = ap (λ (y : Seat _). record y { walk = t.walk }) heard.same;
       gone = heard.gone;

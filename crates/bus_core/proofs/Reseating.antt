@@ -1,8 +1,7 @@
 -- A seat behind two steps on it, by what each of them leaves.
-use Rattle.std.proofs.Common.{◌≡◌, ◌⊎◌, ◌<◌, ℕ, ◌+◌, ◌≤◌, Bool, true, false, List, [], ◌∷◌, ◌++◌, length, Option, Some, refl, sym, ◌∙◌, ap, subst}
+use Rattle.std.proofs.Common.{◌≡◌, ◌⊎◌, ◌<◌, ℕ, ◌+◌, ◌≤◌, true, false, List, [], ◌∷◌, ◌++◌, length, Option, Some, refl, sym, ◌∙◌, ap, subst}
 use Rattle.std.specs.Prelude.{take, sum_by, if◌then◌else◌}
 use Rattle.i2c_base.specs.declared.caller.Caller.{Ghosts as CallerGhosts}
-use Rattle.i2c_base.specs.declared.entry.End.{End}
 use Rattle.i2c_base.specs.declared.entry.Entry.TheVariants as entry
 use Rattle.i2c_base.specs.declared.errno.Errno.{Errno}
 use Rattle.i2c_base.specs.declared.reply.Cut.{Cut}
@@ -25,6 +24,7 @@ use Rattle.mux_plan.specs.Plans.{is_call_through}
 use Rattle.core_laws.specs.Steps.{behind_of}
 use Rattle.mux_plan.specs.Plans.{RouteView, slots_of}
 use Rattle.seg_locks.specs.Locks.{LocksView}
+use Rattle.bus_message.specs.declared.message.MsgResult.{MsgResult}
 use Rattle.bus_core.specs.Kept.{IsSeated}
 use Rattle.bus_core.specs.Places.{walk_left, owed_by}
 use Rattle.bus_core.specs.Replies.{reply_decided}
@@ -42,20 +42,20 @@ still_going v (Then act note next) out h = refl
 
 module _ {C : Type 0} (v : LocksView) (s m t : Seat C) where
   -- it counts a message, and goes on
-  pub heard : (next : NextMsg) (reading : Bool) (bytes : List ℕ) (e : End)
-      → m ≡ record s { sent = m.sent; written = m.written; replies = m.replies; cut = message_cut next.purpose next.part e }
+  pub heard : (next : NextMsg) (bytes : List ℕ) (r : MsgResult)
+      → m ≡ record s { sent = m.sent; written = m.written; replies = m.replies; cut = message_cut next.purpose next.part r.end }
       → t ≡ record m { walk = t.walk }
-      → m.sent ≡ (if is_call_through next.purpose e then s.sent + 1 else s.sent)
-      → m.replies ≡ record s.replies { got = got_heard next.purpose reading bytes s.replies.got }
+      → m.sent ≡ (if is_call_through next.purpose r.end then s.sent + 1 else s.sent)
+      → m.replies ≡ record s.replies { got = got_heard next.purpose r.reading bytes s.replies.got }
       → m.written ≡ sum_by written_of (take m.sent m.transfer.msgs)
-      → walk_left t ≡ behind_of v (walk_left m) (Sent e bytes) → t.walk.route ≡ m.walk.route → HasHeard v next reading bytes e s t
-  heard next reading bytes e counted went gone got wrote walk route =
-      subst (λ (x : Seat C). HasHeard v next reading bytes e s x) (sym went)
+      → walk_left t ≡ behind_of v (walk_left m) (Sent r.end bytes) → t.walk.route ≡ m.walk.route → HasHeard v next bytes r s t
+  heard next bytes r counted went gone got wrote walk route =
+      subst (λ (x : Seat C). HasHeard v next bytes r s x) (sym went)
       (record {
         gone = gone;
         got = got;
         same = ap (λ (x : Seat C). record x { walk = t.walk }) counted;
-        walk = ap walk_left (sym went) ∙ walk ∙ ap (λ (x : Seat C). behind_of v (walk_left x) (Sent e bytes)) counted;
+        walk = ap walk_left (sym went) ∙ walk ∙ ap (λ (x : Seat C). behind_of v (walk_left x) (Sent r.end bytes)) counted;
         wrote = wrote;
         route = route ∙ ap (λ (x : Seat C). x.walk.route) counted;
       })

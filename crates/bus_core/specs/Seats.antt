@@ -2,7 +2,6 @@
 use Rattle.std.specs.Prelude.{◌≡◌, ℕ, ◌+◌, ◌<◌, ◌≤◌, Bool, true, false, List, [], ◌∷◌, ◌++◌, length, set, take, sum_by, Option, Some, None, IfSome, slice_get, if◌then◌else◌}
 use Rattle.i2c_base.specs.Limits.{MOST_BYTES}
 use Rattle.i2c_base.specs.declared.caller.Caller.{Ghosts as CallerGhosts}
-use Rattle.i2c_base.specs.declared.entry.End.{End}
 use Rattle.i2c_base.specs.declared.entry.Entry.TheVariants as entry
 use Rattle.i2c_base.specs.declared.entry.Purpose.{Purpose}
 use Rattle.i2c_base.specs.declared.entry.Purpose.TheVariants as purpose
@@ -133,11 +132,11 @@ pub record HasFreed {C S : Type 0} (c : CallerGhosts C S) (b : BoardView) (v : L
   pub seated : IsSeated c b roots t
 
 -- it may hear a message of its walk: one of the caller's is left where it went through, and what it read has room
-pub record MayHear {C : Type 0} (next : NextMsg) (reading : Bool) (bytes : List ℕ) (e : End) (s : Seat C) : Type 0 where
+pub record MayHear {C : Type 0} (next : NextMsg) (bytes : List ℕ) (r : MsgResult) (s : Seat C) : Type 0 where
   pub wrote : s.written ≡ sum_by written_of (take s.sent s.transfer.msgs)
   pub part : 0 < next.part
-  pub more : is_call_through next.purpose e ≡ true → s.sent < length s.transfer.msgs
-  pub room : next.purpose ≡ purpose.Call → reading ≡ true → length s.replies.got + length bytes ≤ MOST_BYTES
+  pub more : is_call_through next.purpose r.end ≡ true → s.sent < length s.transfer.msgs
+  pub room : next.purpose ≡ purpose.Call → r.reading ≡ true → length s.replies.got + length bytes ≤ MOST_BYTES
 
 -- the reads of the caller's own messages are kept
 abbrev pub got_heard : Purpose → Bool → List ℕ → List ℕ → List ℕ
@@ -145,18 +144,17 @@ got_heard purpose.Call reading bytes got = if reading then got ++ bytes else got
 got_heard (purpose.Control m) reading bytes got = got
 
 -- it heard a message, and went on behind it: one of the caller's that went through is counted
-pub record HasHeard {C : Type 0} (v : LocksView) (next : NextMsg) (reading : Bool) (bytes : List ℕ) (e : End)
-    (s t : Seat C) : Type 0 where
+pub record HasHeard {C : Type 0} (v : LocksView) (next : NextMsg) (bytes : List ℕ) (r : MsgResult) (s t : Seat C) : Type 0 where
   pub same : t ≡ record s {
     walk = t.walk;
     sent = t.sent;
     written = t.written;
     replies = t.replies;
-    cut = message_cut next.purpose next.part e;
+    cut = message_cut next.purpose next.part r.end;
   }
-  pub gone : t.sent ≡ (if is_call_through next.purpose e then s.sent + 1 else s.sent)
-  pub got : t.replies ≡ record s.replies { got = got_heard next.purpose reading bytes s.replies.got }
-  pub walk : walk_left t ≡ behind_of v (walk_left s) (walk.Sent e bytes)
+  pub gone : t.sent ≡ (if is_call_through next.purpose r.end then s.sent + 1 else s.sent)
+  pub got : t.replies ≡ record s.replies { got = got_heard next.purpose r.reading bytes s.replies.got }
+  pub walk : walk_left t ≡ behind_of v (walk_left s) (walk.Sent r.end bytes)
   pub wrote : t.written ≡ sum_by written_of (take t.sent t.transfer.msgs)
   pub route : t.walk.route ≡ s.walk.route
 
@@ -165,10 +163,9 @@ abbrev pub cut_of_line : Bool → Cut
 cut_of_line failed = if failed then cut_at.Way else cut_at.No
 
 -- .. by whatever lock words answer its looks, and these marks it changes; and so behind a line step
-pub record HearsOut {C : Type 0} (next : NextMsg) (reading : Bool) (bytes : List ℕ) (e : End) (ds : List MuxUpdate)
-    (s t : Seat C) : Type 0 where
-  pub heard : (v : LocksView) → IsLookedAt v s → HasHeard v next reading bytes e s t
-  pub updates : ds ≡ updates_ahead (walk.Sent e bytes) s
+pub record HearsOut {C : Type 0} (next : NextMsg) (bytes : List ℕ) (r : MsgResult) (ds : List MuxUpdate) (s t : Seat C) : Type 0 where
+  pub heard : (v : LocksView) → IsLookedAt v s → HasHeard v next bytes r s t
+  pub updates : ds ≡ updates_ahead (walk.Sent r.end bytes) s
   pub fresh : IsFresh t.walk
 
 pub record LinesOut {C : Type 0} (failed : Bool) (ds : List MuxUpdate) (s t : Seat C) : Type 0 where

@@ -46,9 +46,9 @@ impl<C: Caller> Seat<C> {
         bytes: &[u8],
         updates: &mut MuxUpdates,
     )
-        requires hears { MayHear next.now msg.now.reading bytes.now msg.now.end self.old }
+        requires hears { MayHear next.now bytes.now msg.now self.old }
         requires step { IsStep self.old.walk.looked }
-        ensures { HearsOut next.now msg.now.reading bytes.now msg.now.end updates.new.items self.old self.new }
+        ensures { HearsOut next.now bytes.now msg.now updates.new.items self.old self.new }
     {
         self.record_msg(next, msg, bytes);
         let outcome = Outcome::Sent {

@@ -241,7 +241,7 @@ impl<C: Caller> Seat<C> {
 
     /// Counts a message of its walk, of which this came: one of the caller's that went through.
     pub fn record_msg(&mut self, next: &NextMsg, msg: &MsgResult, bytes: &[u8])
-        requires { MayHear next.now msg.now.reading bytes.now msg.now.end self.old }
+        requires { MayHear next.now bytes.now msg.now self.old }
         ensures gone { self.new.sent ≡ (if is_call_through next.now.purpose msg.now.end then self.old.sent + 1 else self.old.sent) }
         ensures got { self.new.replies ≡ record self.old.replies { got = got_heard next.now.purpose msg.now.reading bytes.now self.old.replies.got } }
         ensures wrote { self.new.written ≡ sum_by written_of (take self.new.sent self.new.transfer.msgs) }

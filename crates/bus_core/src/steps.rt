@@ -1,10 +1,10 @@
 //! One step of a caller: a lock, a message, a line or a settle.
 ghost use Rattle.std.specs.Prelude.{◌≡◌, ◌<◌, ◌≤◌, ℕ, length, None};
 ghost use Rattle.i2c_base.specs.Limits.{MOST_LENGTH};
-ghost use Rattle.i2c_base.specs.declared.entry.Entry.TheVariants as entry;
 ghost use Rattle.i2c_base.specs.declared.ids.LockId.{LockId};
 ghost use Rattle.bus_journal.specs.Borrowed.{entry_seen, most_bytes};
 ghost use Rattle.bus_spec.specs.Walk as act;
+ghost use Rattle.core_laws.specs.Behind.{message_entry as entry_of};
 ghost use Rattle.seg_locks.specs.Locks.{holder_in};
 ghost use Rattle.bus_core.specs.Kept.{IsResting, ComesAt, HasMadeStep, HasMessage, HasShift, HasStepped};
 ghost use Rattle.bus_core.specs.Steps.{IsBlockedAt, HasEndedAt};
@@ -21,7 +21,7 @@ use ports::Port;
 // The entry of a message, of which this came.
 fn message_entry<'a>(caller: u8, next: &NextMsg, msg: &MsgResult, bytes: &'a [u8]) -> EntryRef<'a>
     requires { length bytes.now ≤ MOST_LENGTH }
-    ensures seen { entry_seen result ≡ entry.Message caller next.now.bus next.now.purpose next.now.part next.now.parts msg.now.addr msg.now.reading bytes.now msg.now.heard msg.now.end }
+    ensures seen { entry_seen result ≡ entry_of caller next.now bytes.now msg.now }
     ensures bytes { result.bytes.now ≡ bytes.now }
     ensures few { length result.bytes.now ≤ most_bytes result.head }
 {

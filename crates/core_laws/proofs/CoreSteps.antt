@@ -1,12 +1,10 @@
 -- The steps of the whole, each by the frame and its own lemmas. No induction.
-use Rattle.std.proofs.Common.{◌≡◌, ℕ, suc, ◌+◌, ◌-◌, ◌*◌, ◌≤◌, Bool, true, false, IsTrue, List, [], ◌∷◌, ◌++◌, length, set, Option, Some, None, refl, sym, ◌∙◌, ap, subst, ◌⊎◌, inl, inr, arith}
+use Rattle.std.proofs.Common.{◌≡◌, ℕ, suc, ◌+◌, ◌-◌, ◌*◌, ◌≤◌, true, false, IsTrue, List, [], ◌∷◌, ◌++◌, length, set, Option, Some, None, refl, sym, ◌∙◌, ap, subst, ◌⊎◌, inl, inr, arith}
 use Rattle.std.specs.Prelude.{slice_get, take, not}
 use Rattle.std.proofs.lemmas.List.{append-nil}
 use Rattle.i2c_base.specs.declared.ids.LockId.{LockId}
 use Rattle.i2c_base.specs.declared.ids.LockId.TheVariants as lock
-use Rattle.i2c_base.specs.declared.ids.Node.{Node}
 use Rattle.i2c_base.specs.declared.errno.Errno.{Errno}
-use Rattle.i2c_base.specs.declared.entry.End.{End}
 use Rattle.i2c_base.specs.declared.entry.End.TheVariants as end
 use Rattle.i2c_base.specs.declared.entry.Entry.{Entry}
 use Rattle.i2c_base.specs.declared.entry.Entry.TheVariants as entry
@@ -29,6 +27,7 @@ use Rattle.bus_laws.specs.Holds.{HoldsLocks, SendsIn, IsLockOf}
 use Rattle.seg_locks.specs.Locks.{holder_in, with_holder}
 use Rattle.core_laws.specs.Spots.{turned_to, seen_of}
 use Rattle.bus_message.specs.Ports.{RootPort}
+use Rattle.bus_message.specs.declared.message.MsgResult.{MsgResult}
 use Rattle.core_laws.proofs.Steps.{told-take, told-free}
 use Rattle.core_laws.specs.Behind.{with_place, passed, message_entry, spoken, settled_with}
 use Rattle.core_laws.specs.Core.{Place, spot_of, numbers_of, trees_of, spots_of, has_reply, IsGoing, SeatKept, CoreKept, Run, IsFairRun, Whole, StandsAt, IsSent}
@@ -74,17 +73,16 @@ module _ (run : Run) (fair : IsFairRun run) (whole : Whole) (core : CoreKept run
   seat = core.seats place p ls n stands
 
   -- A MESSAGE
-  module _ (job : Job) (more : ℕ) (next : NextMsg) (at : ℕ) (old new : RootPort) (addr : ℕ) (reading : Bool) (bytes : List ℕ)
-      (heard : Option Node) (e : End) (words : SeenView)
-      (sent : IsSent run whole p job more next at old new addr reading bytes heard e words) (gone : ℕ) where
+  module _ (job : Job) (more : ℕ) (next : NextMsg) (at : ℕ) (old new : RootPort) (bytes : List ℕ)
+      (msg : MsgResult) (words : SeenView) (sent : IsSent run whole p job more next at old new bytes msg words) (gone : ℕ) where
     abbrev pub behind : WalkTree
-    behind = behind_of whole.locks p.tree (Sent e bytes)
+    behind = behind_of whole.locks p.tree (Sent msg.end bytes)
 
     abbrev pub got : List ℕ
-    got = got_after job reading bytes p.got
+    got = got_after job msg.reading bytes p.got
 
     abbrev pub message : Entry
-    message = message_entry p next addr reading bytes heard e
+    message = message_entry p.number next bytes msg
 
     no_settle : (verdict : Option Errno) → Send job more ≡ Settle verdict → ⊥
     no_settle verdict is = (let f : Send job more ≡ Settle verdict = is in cc)
@@ -100,7 +98,7 @@ module _ (run : Run) (fair : IsFairRun run) (whole : Whole) (core : CoreKept run
     holds = holds-sent run.board (seen_of whole.locks) core.table.home ls p.tree seat.holds job more sent.first
 
     goes : is_over behind ≡ false
-    goes = holder-goes run.board ls behind (holds.1 (Sent e bytes)) (lock.Bus (root_of run.board (job_bus job))) holds.0.rooted
+    goes = holder-goes run.board ls behind (holds.1 (Sent msg.end bytes)) (lock.Bus (root_of run.board (job_bus job))) holds.0.rooted
 
     whose : (bus : ℕ) (ms : List MessageView) → job ≡ Call bus ms
         → (run.asks p.number (p.taken ++ p.owed) ≡ Some p.transfer) × (bus ≡ p.transfer.bus) × (ms ≡ messages_of p.transfer)
@@ -117,7 +115,7 @@ module _ (run : Run) (fair : IsFairRun run) (whole : Whole) (core : CoreKept run
         )
 
     said : IsTrue run.tells → IsSaid run.board run.asks
-        (spot_of p) whole.locks p.transfer p.sent job more next old new addr reading bytes heard e
+        (spot_of p) whole.locks p.transfer p.sent job more next old new bytes msg
     said tell =
         let s = sent.shows tell in
         record {
@@ -135,18 +133,18 @@ module _ (run : Run) (fair : IsFairRun run) (whole : Whole) (core : CoreKept run
     table_now = subst (λ (h : List (List LockId)). TableKept run.board (turned_to whole.locks words) (numbers_of whole.places) h)
         (sym (set_same whole.held place ls stands.holding))
         (said-table run.board whole.locks (numbers_of whole.places) whole.held core.table ls p.tree seat.holds job more sent.first
-        (Sent e bytes) words sent.marked)
+        (Sent msg.end bytes) words sent.marked)
 
-    inside : is_last job more ≡ false → e ≡ end.Ok → IsInside run.board behind new.root
+    inside : is_last job more ≡ false → msg.end ≡ end.Ok → IsInside run.board behind new.root
     inside last fine = inside-behind run.board (has_reply p.owed)
-        (slots_of (seen_of whole.locks)) p.tree its_left.settles job more sent.first e bytes new.root (sym sent.keeps.rooted
+        (slots_of (seen_of whole.locks)) p.tree its_left.settles job more sent.first msg.end bytes new.root (sym sent.keeps.rooted
         ∙ sym sent.keeps.root) last fine
 
     pays : (weight_at run.board (Send job more) ≤ n)
         × OwesUpTo run.board behind (not (has_reply p.owed)) (run.left p.number p.taken - cost_of run.board p.transfer)
         (n - weight_at run.board (Send job more))
     pays = owes-step run.board p.tree (not (has_reply p.owed)) (run.left p.number p.taken - cost_of run.board p.transfer) n its.owes
-        (slots_of (seen_of whole.locks)) (Send job more) sent.first (Sent e bytes)
+        (slots_of (seen_of whole.locks)) (Send job more) sent.first (Sent msg.end bytes)
 
     ports : (less : ℕ) → less + weight_at run.board (Send job more) ≤ n → (w : WalkTree)
         → (new.phase ≡ Idle) ⊎ IsInside run.board w new.root
@@ -166,7 +164,7 @@ module _ (run : Run) (fair : IsFairRun run) (whole : Whole) (core : CoreKept run
         → FitsReads (take gone p.transfer.msgs) got) (rooms : whole.room ≡ room2 + 1)
         (room_bytes2 : ℕ) (rooms_bytes : whole.room_bytes ≡ room_bytes2 + length bytes) where
       abbrev pub quiet_place : Place
-      quiet_place = spoken whole p job next reading bytes e gone
+      quiet_place = spoken whole p job next bytes msg gone
 
       abbrev pub quiet_less : ℕ
       quiet_less = n - weight_at run.board (Send job more)
@@ -174,24 +172,24 @@ module _ (run : Run) (fair : IsFairRun run) (whole : Whole) (core : CoreKept run
       got_still : has_reply p.owed ≡ true → got ≡ []
       got_still has = by job refl
         where
-          by : (j : Job) → job ≡ j → got_after job reading bytes p.got ≡ []
+          by : (j : Job) → job ≡ j → got_after job msg.reading bytes p.got ≡ []
           by (Call bus ms) j =
               (let c = call-is run.board p.transfer (slots_of (seen_of whole.locks)) p.tree (has_reply p.owed) p.sent its_left bus ms more
               (subst (λ (x : Job). next_of whole.locks p.tree ≡ Some (Send x more)) j sent.first) in
               absurd (let f : true ≡ false = sym has ∙ c.0 in cc))
-          by (Select h) j = ap (λ (x : Job). got_after x reading bytes p.got) j ∙ its.emptied has
-          by (SwitchOff off) j = ap (λ (x : Job). got_after x reading bytes p.got) j ∙ its.emptied has
+          by (Select h) j = ap (λ (x : Job). got_after x msg.reading bytes p.got) j ∙ its.emptied has
+          by (SwitchOff off) j = ap (λ (x : Job). got_after x msg.reading bytes p.got) j ∙ its.emptied has
 
       quiet_seat : SeatKept run quiet_place ls quiet_less
-      quiet_seat = seat-behind run p n its ls behind (holds.1 (Sent e bytes)) gone goes leaves got partway got_still
-          (message_cut next.purpose next.part e) quiet_less pays.1
+      quiet_seat = seat-behind run p n its ls behind (holds.1 (Sent msg.end bytes)) gone goes leaves got partway got_still
+          (message_cut next.purpose next.part msg.end) quiet_less pays.1
 
-      free_now : (new.phase ≡ Idle) ⊎ ((is_last job more ≡ false) × (e ≡ end.Ok)) → (new.phase ≡ Idle) ⊎ IsInside run.board behind new.root
+      free_now : (new.phase ≡ Idle) ⊎ ((is_last job more ≡ false) × (msg.end ≡ end.Ok)) → (new.phase ≡ Idle) ⊎ IsInside run.board behind new.root
       free_now (inl idle) = inl idle
       free_now (inr x) = inr (inside x.0 x.1)
 
       pub core-message : CoreKept run
-          (record (with_place whole place (spoken whole p job next reading bytes e gone) ls (n - weight_at run.board (Send job more))) {
+          (record (with_place whole place (spoken whole p job next bytes msg gone) ls (n - weight_at run.board (Send job more))) {
             past = message ∷ whole.past;
             locks = turned_to whole.locks words;
             sockets = set whole.sockets at new;
@@ -207,9 +205,9 @@ module _ (run : Run) (fair : IsFairRun run) (whole : Whole) (core : CoreKept run
           (λ tell. message-keeps run.board fair.tree fair.plain fair.lines run.asks fair.sends run.callers whole.past
           (spots_of whole.places) whole.locks whole.sockets (core.told tell)
           (are-numbered run whole core) core.once place (spot_of p) (spot-here run whole core place p stands.here)
-          (looks-same run whole core tell place p ls n stands) at old new sent.port p.transfer p.sent job more next addr reading bytes
-          heard e (said tell) goes words sent.marked leaves.quiet)
-          room2 rooms (length bytes) (omega (arith, weight, sent.keeps.few, got-grows job reading bytes p.got)) room_bytes2 rooms_bytes
+          (looks-same run whole core tell place p ls n stands) at old new sent.port p.transfer p.sent job more next bytes msg
+          (said tell) goes words sent.marked leaves.quiet)
+          room2 rooms (length bytes) (omega (arith, weight, sent.keeps.few, got-grows job msg.reading bytes p.got)) room_bytes2 rooms_bytes
 
     -- that decides, with its settle behind it: the caller isn't told yet
     module _ (verdict : Option Errno) (decides : IsDecided run.board p.transfer verdict behind) (unsettled : has_reply p.owed ≡ false)
@@ -220,36 +218,36 @@ module _ (run : Run) (fair : IsFairRun run) (whole : Whole) (core : CoreKept run
       after = rest_of behind Passed
 
       abbrev pub settle : Entry
-      settle = entry.Settle p.number reply (message_cut next.purpose next.part e)
+      settle = entry.Settle p.number reply (message_cut next.purpose next.part msg.end)
 
       abbrev pub settled_place : Place
-      settled_place = settled_with (spoken whole p job next reading bytes e gone) reply
+      settled_place = settled_with (spoken whole p job next bytes msg gone) reply
 
       abbrev pub settled_less : ℕ
       settled_less = n - weight_at run.board (Send job more) - 1
 
       one_left : 1 ≤ n - weight_at run.board (Send job more)
-      one_left = settled-pays run p n its ls behind (holds.1 (Sent e bytes)) gone words table_now.home verdict decides
+      one_left = settled-pays run p n its ls behind (holds.1 (Sent msg.end bytes)) gone words table_now.home verdict decides
           (lock.Bus (root_of run.board (job_bus job))) holds.0.rooted unsettled (n - weight_at run.board (Send job more)) pays.1
 
       after_goes : is_over after ≡ false
-      after_goes = settled-goes run p n its ls behind (holds.1 (Sent e bytes)) gone words table_now.home verdict decides
+      after_goes = settled-goes run p n its ls behind (holds.1 (Sent msg.end bytes)) gone words table_now.home verdict decides
           (lock.Bus (root_of run.board (job_bus job))) holds.0.rooted unsettled (n - weight_at run.board (Send job more)) pays.1
 
       settled_seat : SeatKept run settled_place ls settled_less
       settled_seat =
-          seat-settled run p n its ls behind (holds.1 (Sent e bytes)) gone words table_now.home verdict decides
+          seat-settled run p n its ls behind (holds.1 (Sent msg.end bytes)) gone words table_now.home verdict decides
           (lock.Bus (root_of run.board (job_bus job))) holds.0.rooted unsettled (n - weight_at run.board (Send job more)) pays.1
           reply fits
 
-      free_after : (new.phase ≡ Idle) ⊎ ((is_last job more ≡ false) × (e ≡ end.Ok)) → (new.phase ≡ Idle) ⊎ IsInside run.board after new.root
+      free_after : (new.phase ≡ Idle) ⊎ ((is_last job more ≡ false) × (msg.end ≡ end.Ok)) → (new.phase ≡ Idle) ⊎ IsInside run.board after new.root
       free_after (inl idle) = inl idle
       free_after (inr x) =
           (let i = inside x.0 x.1 in
           absurd (let f : Some (Send (Call i.bus i.messages) i.left) ≡ Some (Settle verdict) = sym i.first ∙ decides.first in cc))
 
       pub core-settled : CoreKept run
-          (record (with_place whole place (settled_with (spoken whole p job next reading bytes e gone) reply) ls
+          (record (with_place whole place (settled_with (spoken whole p job next bytes msg gone) reply) ls
           (n - weight_at run.board (Send job more) - 1)) {
             past = settle ∷ message ∷ whole.past;
             locks = turned_to whole.locks words;
@@ -270,11 +268,11 @@ module _ (run : Run) (fair : IsFairRun run) (whole : Whole) (core : CoreKept run
           (λ tell. message-settles run.board fair.tree fair.plain fair.lines run.asks fair.sends run.callers whole.past
           (spots_of whole.places) whole.locks whole.sockets (core.told tell)
           (are-numbered run whole core) core.once place (spot_of p) (spot-here run whole core place p stands.here)
-          (looks-same run whole core tell place p ls n stands) at old new sent.port p.transfer p.sent job more next addr reading bytes
-          heard e (said tell) goes words sent.marked
+          (looks-same run whole core tell place p ls n stands) at old new sent.port p.transfer p.sent job more next bytes msg
+          (said tell) goes words sent.marked
           verdict decides.first (none_owed p.owed unsettled) its.asked reply decided after_goes)
           room2 rooms (length bytes + length (bytes_given reply))
-          (omega (arith, weight, one, sent.keeps.few, got-grows job reading bytes p.got, gives)) room_bytes2 rooms_bytes
+          (omega (arith, weight, one, sent.keeps.few, got-grows job msg.reading bytes p.got, gives)) room_bytes2 rooms_bytes
 
   -- A LOCK IS TAKEN that the table says nobody has
   module _ (l : LockId) (first : next_of whole.locks p.tree ≡ Some (Take l)) (nobody : holder_in whole.locks l ≡ None)

@@ -3,9 +3,7 @@ use Rattle.std.proofs.Common.{◌≡◌, ℕ, zero, suc, ◌+◌, ◌<◌, ◌�
 use Rattle.std.specs.Prelude.{slice_get, slice_index_or, is_some}
 use Rattle.std.proofs.lemmas.Bool.Decides.{eqb_tells, leb_tells}
 use Rattle.std.proofs.lemmas.List.{reverse-append, append-nil, get_or_past}
-use Rattle.i2c_base.specs.declared.ids.Node.{Node}
 use Rattle.i2c_base.specs.declared.errno.Errno.{Errno}
-use Rattle.i2c_base.specs.declared.entry.End.{End}
 use Rattle.i2c_base.specs.declared.entry.Entry.{Entry}
 use Rattle.i2c_base.specs.declared.entry.Entry.TheVariants as entry
 use Rattle.i2c_base.specs.declared.entry.Purpose.{Purpose}
@@ -39,8 +37,10 @@ use Rattle.bus_laws.proofs.past.Marks.{mark-there}
 use Rattle.bus_laws.proofs.past.Next.{call-reaches, control-switches}
 use Rattle.bus_laws.proofs.past.StandsStep.{at_same, at_other}
 use Rattle.seg_locks.specs.Locks.{LocksView}
+use Rattle.core_laws.specs.Behind.{message_entry}
 use Rattle.core_laws.specs.Spots.{seen_of, turned_to, TellsKept, Spot, SpotTold, PortTold, IsTold, AreNumbered, AreRooted}
 use Rattle.bus_message.specs.Ports.{RootPort}
+use Rattle.bus_message.specs.declared.message.MsgResult.{MsgResult}
 use Rattle.core_laws.proofs.Steps.{spot-told, set_here, own-ahead, spots-kept}
 use Rattle.mux_plan.specs.declared.task.NextMsg.{NextMsg}
 use Rattle.core_laws.specs.Sends.{IsMessageOf}
@@ -141,14 +141,14 @@ module _ (b : BoardView) (tree : IsTree b) (plain : IsPlainBoard b) (lines : Lin
         (t : TransferView) (gone : ℕ)
         (whose : (bus : ℕ) (ms : List MessageView) → job ≡ Call bus ms
         → (asks c (x.taken ++ x.owed) ≡ Some t) × (bus ≡ t.bus) × (ms ≡ messages_of t) × (gone + suc left ≡ length ms))
-        (addr : ℕ) (reading : Bool) (bytes : List ℕ) (heard : Option Node) (e : End)
-        (to_addr : addr ≡ (message_for t gone next.purpose next.control addr).addr)
-        (in_direction : reading ≡ (message_for t gone next.purpose next.control addr).reading)
-        (chip : IsChipAddress b next.purpose addr)
-        (has : HasSent b t next.purpose (message_for t gone next.purpose next.control addr)
-        (ends_with next.purpose next.part next.parts) old new bytes heard e) where
+        (bytes : List ℕ) (msg : MsgResult)
+        (to_addr : msg.addr ≡ (message_for t gone next.purpose next.control msg.addr).addr)
+        (in_direction : msg.reading ≡ (message_for t gone next.purpose next.control msg.addr).reading)
+        (chip : IsChipAddress b next.purpose msg.addr)
+        (has : HasSent b t next.purpose (message_for t gone next.purpose next.control msg.addr)
+        (ends_with next.purpose next.part next.parts) old new bytes msg.heard msg.end) where
       abbrev m : MessageView
-      m = message_for t gone next.purpose next.control addr
+      m = message_for t gone next.purpose next.control msg.addr
 
       abbrev r : ℕ
       r = root_of b (job_bus job)
@@ -159,28 +159,28 @@ module _ (b : BoardView) (tree : IsTree b) (plain : IsPlainBoard b) (lines : Lin
       world-is : old.world ≡ n.worlds r
       world-is = (told.ports_told at old port_here).world ∙ ap n.worlds rooted
 
-      hears_here : IsHeard b t next.purpose m (n.worlds r) heard e
-      hears_here = subst (λ (w : World). IsHeard b t next.purpose m w heard e) world-is has.hears
+      hears_here : IsHeard b t next.purpose m (n.worlds r) msg.heard msg.end
+      hears_here = subst (λ (w : World). IsHeard b t next.purpose m w msg.heard msg.end) world-is has.hears
 
       -- what is sent, and who hears it
       record IsSaid : Type 0 where
         message_is : m ≡ message_of b job left
-        hears : HearsIn (n.worlds r) m.addr m.reading heard e
+        hears : HearsIn (n.worlds r) m.addr m.reading msg.heard msg.end
 
       said_call : (bus : ℕ) (ms : List MessageView) → job ≡ Call bus ms → IsSaid
       said_call bus ms is =
           let owns = whose bus ms is in
           let will : WillReach b asks n c bus ms left = call-reaches b tree plain lines asks some callers past told.stepwise c bus ms left
           (subst (λ (j : Job). IsNext b asks n c (Send j left)) is is_next) in
-          let same : m ≡ message_of b (Call bus ms) left = call-message b t gone bus ms left addr next
+          let same : m ≡ message_of b (Call bus ms) left = call-message b t gone bus ms left msg.addr next
           (subst (λ (j : Job). IsMessageOf j left next) is of) owns.2 owns.3 in
           let transfer_is : will.transfer ≡ t = (let f : Some will.transfer ≡ Some t = sym will.asked
           ∙ ap (λ (rs : List Reply). asks c rs) own.settled ∙ owns.0 in cc) in
           let root_is : root_of b bus ≡ r = ap (λ (j : Job). root_of b (job_bus j)) (sym is) in
           record {
             message_is = same ∙ ap (λ (j : Job). message_of b j left) (sym is);
-            hears = call-hears b t m (n.worlds r) heard e
-                (subst (λ (p : Purpose). IsHeard b t p m (n.worlds r) heard e) (of.for_purpose ∙ ap job_purpose is) hears_here)
+            hears = call-hears b t m (n.worlds r) msg.heard msg.end
+                (subst (λ (p : Purpose). IsHeard b t p m (n.worlds r) msg.heard msg.end) (of.for_purpose ∙ ap job_purpose is) hears_here)
                 (hearers_at root_is (sym same) owns.1 transfer_is will.heard)
                 (answered_at root_is (sym same) owns.1 transfer_is will.answered);
           }
@@ -199,14 +199,14 @@ module _ (b : BoardView) (tree : IsTree b) (plain : IsPlainBoard b) (lines : Lin
       said_control mux is =
           let will : WillSwitch b n job left mux =
           control-switches b tree plain lines asks some callers past told.stepwise c job left mux is is_next in
-          let to : addr ≡ (message_of b job left).addr = subst (λ (p : Purpose). IsChipAddress b p addr) (of.for_purpose ∙ is) chip
+          let to : msg.addr ≡ (message_of b job left).addr = subst (λ (p : Purpose). IsChipAddress b p msg.addr) (of.for_purpose ∙ is) chip
           (message_of b job left).addr will.addressed in
-          let same : m ≡ message_of b job left = control-message b t gone job left mux addr
+          let same : m ≡ message_of b job left = control-message b t gone job left mux msg.addr
           (message_of b job left).addr next of is will.addressed to in
           record {
             message_is = same;
-            hears = control-hears b t mux m (n.worlds r) heard e
-                (subst (λ (p : Purpose). IsHeard b t p m (n.worlds r) heard e) (of.for_purpose ∙ is) hears_here)
+            hears = control-hears b t mux m (n.worlds r) msg.heard msg.end
+                (subst (λ (p : Purpose). IsHeard b t p m (n.worlds r) msg.heard msg.end) (of.for_purpose ∙ is) hears_here)
                 (hearers_at (sym same) will.heard)
                 (answered_at (sym same) will.answered);
           }
@@ -231,14 +231,14 @@ module _ (b : BoardView) (tree : IsTree b) (plain : IsPlainBoard b) (lines : Lin
       last_is = last-is job left next of (λ bus ms is. (gone, (whose bus ms is).3))
 
       abbrev talked : TalkTold World
-      talked = talk_of b n job left e
+      talked = talk_of b n job left msg.end
 
-      talk_is : talk world_listener (block_limit b) old.world m (ends_with next.purpose next.part next.parts) (cut_of e) ≡ talked
+      talk_is : talk world_listener (block_limit b) old.world m (ends_with next.purpose next.part next.parts) (cut_of msg.end) ≡ talked
       talk_is =
-          ap (λ (w : World). talk world_listener (block_limit b) w m (ends_with next.purpose next.part next.parts) (cut_of e)) world-is
+          ap (λ (w : World). talk world_listener (block_limit b) w m (ends_with next.purpose next.part next.parts) (cut_of msg.end)) world-is
           ∙ ap (λ (y : MessageView). talk world_listener (block_limit b) (n.worlds r) y (ends_with next.purpose next.part next.parts)
-          (cut_of e)) is_said.message_is
-          ∙ ap (λ (l : Bool). talk world_listener (block_limit b) (n.worlds r) (message_of b job left) l (cut_of e)) last_is
+          (cut_of msg.end)) is_said.message_is
+          ∙ ap (λ (l : Bool). talk world_listener (block_limit b) (n.worlds r) (message_of b job left) l (cut_of msg.end)) last_is
 
       tells : TellsMessage b n job left
           (record {
@@ -247,11 +247,11 @@ module _ (b : BoardView) (tree : IsTree b) (plain : IsPlainBoard b) (lines : Lin
             purpose = next.purpose;
             part = next.part;
             parts = next.parts;
-            addr = addr;
-            reading = reading;
+            addr = msg.addr;
+            reading = msg.reading;
             bytes = bytes;
-            heard = heard;
-            end = e;
+            heard = msg.heard;
+            end = msg.end;
           })
       tells =
           record {
@@ -263,56 +263,56 @@ module _ (b : BoardView) (tree : IsTree b) (plain : IsPlainBoard b) (lines : Lin
             in_direction = in_direction ∙ ap (λ (y : MessageView). y.reading) is_said.message_is;
             bytes_told = has.said.bytes ∙ ap (λ (k : TalkTold World). k.bytes) talk_is;
             end_told = has.said.end ∙ ap (λ (k : TalkTold World). k.end) talk_is;
-            heard_told = subst (λ (a : ℕ). HearsIn (n.worlds r) a reading heard e) (sym to_addr)
-                (subst (λ (d : Bool). HearsIn (n.worlds r) m.addr d heard e) (sym in_direction) is_said.hears);
+            heard_told = subst (λ (a : ℕ). HearsIn (n.worlds r) a msg.reading msg.heard msg.end) (sym to_addr)
+                (subst (λ (d : Bool). HearsIn (n.worlds r) m.addr d msg.heard msg.end) (sym in_direction) is_said.hears);
           }
 
       abbrev pub said : Entry
-      said = entry.Message c next.bus next.purpose next.part next.parts addr reading bytes heard e
+      said = message_entry c next bytes msg
 
       steps : IsStepwise b callers asks (said ∷ past)
       steps = ((known, told.rests ∙ none, (job, left, is_next, tells)), told.stepwise)
 
       abbrev behind : Now
-      behind = with_due c (moved b asks n (sent b n c job left (first_note (current b asks n c)) reading bytes e talked) c said
-          (Sent e bytes))
+      behind = with_due c (moved b asks n (sent b n c job left (first_note (current b asks n c)) msg.reading bytes msg.end talked) c said
+          (Sent msg.end bytes))
 
       step_is : step b asks n said ≡ behind
       step_is = ap (λ (a : Option Act). with_due c
-          (moved b asks n (sent_by b n c a (first_note (current b asks n c)) reading bytes e) c said (Sent e bytes))) is_next
+          (moved b asks n (sent_by b n c a (first_note (current b asks n c)) msg.reading bytes msg.end) c said (Sent msg.end bytes))) is_next
 
-      module _ (w : WalkTree) (is : w ≡ rest_of (seen (slots_of (seen_of v)) x.tree) (Sent e bytes)) (goes : is_over w ≡ false)
+      module _ (w : WalkTree) (is : w ≡ rest_of (seen (slots_of (seen_of v)) x.tree) (Sent msg.end bytes)) (goes : is_over w ≡ false)
           (words : SeenView) (all : length words.marks ≡ buses b)
           (marked : (y : Slots) → TellsMarks y v.marks
-          → TellsMarks (slots_after (Some (Send job left)) (first_note (seen (slots_of (seen_of v)) x.tree)) (Sent e bytes) y)
+          → TellsMarks (slots_after (Some (Send job left)) (first_note (seen (slots_of (seen_of v)) x.tree)) (Sent msg.end bytes) y)
           words.marks)
           (kept : (y : Slots) → TellsKept b y v.kept
-          → TellsKept b (slots_after (Some (Send job left)) (first_note (seen (slots_of (seen_of v)) x.tree)) (Sent e bytes) y)
+          → TellsKept b (slots_after (Some (Send job left)) (first_note (seen (slots_of (seen_of v)) x.tree)) (Sent msg.end bytes) y)
           words.kept) where
         abbrev pub spot_behind : Spot
-        spot_behind = record x { tree = w; got = got_after job reading bytes x.got; cut = message_cut next.purpose next.part e }
+        spot_behind = record x { tree = w; got = got_after job msg.reading bytes x.got; cut = message_cut next.purpose next.part msg.end }
 
         walk_here : behind.walk c ≡ w
-        walk_here = at_same n.walk c (rest_of (current b asks n c) (Sent e bytes)) ∙ rest-is (Sent e bytes) w is
+        walk_here = at_same n.walk c (rest_of (current b asks n c) (Sent msg.end bytes)) ∙ rest-is (Sent msg.end bytes) w is
 
         spot_told : SpotTold b asks behind spot_behind
         spot_told =
             record {
               walk = own-ahead b asks behind c w walk_here goes;
               settled = own.settled;
-              got_is = at_same n.got c (got_after job reading bytes (n.got c))
-                  ∙ ap (λ (g : List ℕ). got_after job reading bytes g) own.got_is;
+              got_is = at_same n.got c (got_after job msg.reading bytes (n.got c))
+                  ∙ ap (λ (g : List ℕ). got_after job msg.reading bytes g) own.got_is;
               cut_is = at_same n.cut c (cut_told said);
             }
 
         marked_later : TellsMarks behind.slot words.marks
         marked_later =
-            subst (λ (y : WalkTree). TellsMarks (after_job job left (first_note y).marks (Sent e bytes) n.slot) words.marks)
+            subst (λ (y : WalkTree). TellsMarks (after_job job left (first_note y).marks (Sent msg.end bytes) n.slot) words.marks)
             (sym current-is) (marked n.slot tells_here)
 
         kept_later : TellsKept b behind.slot words.kept
         kept_later =
-            subst (λ (y : WalkTree). TellsKept b (after_job job left (first_note y).marks (Sent e bytes) n.slot) words.kept)
+            subst (λ (y : WalkTree). TellsKept b (after_job job left (first_note y).marks (Sent msg.end bytes) n.slot) words.kept)
             (sym current-is) (kept n.slot told.locks_told.kept)
 
         pub told-said : (later : Option ℕ) → due_at c (first_act w) ≡ later

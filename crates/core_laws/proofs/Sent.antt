@@ -3,7 +3,6 @@ use Rattle.std.proofs.Common.{◌≡◌, ℕ, suc, ◌+◌, ◌<◌, Bool, false
 use Rattle.std.specs.Prelude.{slice_get, take}
 use Rattle.std.proofs.lemmas.List.{take_all}
 use Rattle.i2c_base.specs.declared.errno.Errno.{Errno}
-use Rattle.i2c_base.specs.declared.entry.End.{End}
 use Rattle.i2c_base.specs.declared.entry.End.TheVariants as end
 use Rattle.i2c_base.specs.declared.entry.Purpose.{Purpose}
 use Rattle.i2c_base.specs.declared.reply.Reply.{Reply}
@@ -32,22 +31,21 @@ use Rattle.core_laws.proofs.Leaves.{is_ok, message-leaves}
 use Rattle.core_laws.proofs.WalkSteps.{SettlesNext, call-is, ended-leaves, line-leaves}
 use Rattle.core_laws.specs.Spots.{seen_of}
 use Rattle.bus_message.specs.Ports.{RootPort}
-use Rattle.i2c_base.specs.declared.ids.Node.{Node}
+use Rattle.bus_message.specs.declared.message.MsgResult.{MsgResult}
 use Rattle.bus_laws.proofs.past.Bytes.{reply-fits}
 
 module _ (run : Run) (whole : Whole) (core : CoreKept run whole)
     (place : ℕ) (p : Place) (here : slice_get whole.places place ≡ Some p)
-    (job : Job) (more : ℕ) (next : NextMsg) (at : ℕ) (old new : RootPort) (addr : ℕ) (reading : Bool) (bytes : List ℕ) (heard : Option Node)
-    (e : End) (words : SeenView)
-    (is_sent : IsSent run whole p job more next at old new addr reading bytes heard e words) where
+    (job : Job) (more : ℕ) (next : NextMsg) (at : ℕ) (old new : RootPort) (bytes : List ℕ) (msg : MsgResult)
+    (words : SeenView) (is_sent : IsSent run whole p job more next at old new bytes msg words) where
   abbrev behind : WalkTree
-  behind = behind_of whole.locks p.tree (Sent e bytes)
+  behind = behind_of whole.locks p.tree (Sent msg.end bytes)
 
   abbrev got : List ℕ
-  got = got_after job reading bytes p.got
+  got = got_after job msg.reading bytes p.got
 
   abbrev gone : ℕ
-  gone = gone_after p.sent job e
+  gone = gone_after p.sent job msg.end
 
   its : IsGoing run p (owes-here run whole core place p here).0
   its = going-on run whole core place p _ _ (stands-here run whole core place p here) (Send job more) is_sent.first
@@ -65,49 +63,49 @@ module _ (run : Run) (whole : Whole) (core : CoreKept run whole)
     many : length ms ≡ length p.transfer.msgs
     many = ap (λ (xs : List MessageView). length xs) call.1.same_messages ∙ length-messages p.transfer.msgs p.transfer.out
 
-    its_message : message_for p.transfer p.sent next.purpose next.control addr ≡ call_message p.transfer p.sent
-    its_message = ap (λ (q : Purpose). message_for p.transfer p.sent q next.control addr) (is_sent.of.for_purpose ∙ ap job_purpose is)
+    its_message : message_for p.transfer p.sent next.purpose next.control msg.addr ≡ call_message p.transfer p.sent
+    its_message = ap (λ (q : Purpose). message_for p.transfer p.sent q next.control msg.addr) (is_sent.of.for_purpose ∙ ap job_purpose is)
 
-    direction : reading ≡ (call_message p.transfer p.sent).reading
+    direction : msg.reading ≡ (call_message p.transfer p.sent).reading
     direction = is_sent.gives.direction ∙ ap (λ (m : MessageView). m.reading) its_message
 
-    went-fits : e ≡ end.Ok → FitsReads (take (p.sent + 1) p.transfer.msgs) got
+    went-fits : msg.end ≡ end.Ok → FitsReads (take (p.sent + 1) p.transfer.msgs) got
     went-fits fine =
         let before : FitsReads (take p.sent p.transfer.msgs) p.got = its.partway (none_owed p.owed call.0) in
         let low : p.sent < length p.transfer.msgs = omega (arith, call.2, many) in
-        subst (λ (j : Job). FitsReads (take (p.sent + 1) p.transfer.msgs) (got_after j reading bytes p.got)) (sym is)
+        subst (λ (j : Job). FitsReads (take (p.sent + 1) p.transfer.msgs) (got_after j msg.reading bytes p.got)) (sym is)
         (subst (λ (r : Bool). FitsReads (take (p.sent + 1) p.transfer.msgs) (got_after (Call bus ms) r bytes p.got)) (sym direction)
         (message-reads (block_limit run.board) (is_block_limit run.board).few p.transfer p.sent low p.got bytes before
         (λ h. subst (λ (m : MessageView). Gives (block_limit run.board) m bytes) its_message (is_sent.gives.gives fine (direction ∙ h)))))
 
     -- .. is the last one
-    all-fits : e ≡ end.Ok → more ≡ 0 → FitsReads p.transfer.msgs got
+    all-fits : msg.end ≡ end.Ok → more ≡ 0 → FitsReads p.transfer.msgs got
     all-fits fine last =
         subst (λ (xs : List _). FitsReads xs got) (take_all (p.sent + 1) p.transfer.msgs (omega (arith, call.2, many, last)))
         (went-fits fine)
 
   abbrev Fit : Job → Type 0
-  Fit j = FitsReads (take (gone_after p.sent j e) p.transfer.msgs) (got_after j reading bytes p.got)
+  Fit j = FitsReads (take (gone_after p.sent j msg.end) p.transfer.msgs) (got_after j msg.reading bytes p.got)
 
   -- what was read so far fits, where the walk goes on
   partway-behind : IsLeft run.board p.transfer (has_reply p.owed) gone behind → p.owed ≡ [] → FitsReads (take gone p.transfer.msgs) got
   partway-behind leaves none = by job refl
     where
-      through : (bus : ℕ) (ms : List MessageView) → job ≡ Call bus ms → e ≡ end.Ok → Fit job
+      through : (bus : ℕ) (ms : List MessageView) → job ≡ Call bus ms → msg.end ≡ end.Ok → Fit job
       through bus ms is fine =
           subst (λ (k : ℕ). FitsReads (take k p.transfer.msgs) got)
-          (sym (ap (λ (j : Job). gone_after p.sent j e) is ∙ ap (gone_after p.sent (Call bus ms)) fine)) (went-fits bus ms is fine)
+          (sym (ap (λ (j : Job). gone_after p.sent j msg.end) is ∙ ap (gone_after p.sent (Call bus ms)) fine)) (went-fits bus ms is fine)
 
       -- one that didn't go through decides
-      ended : (bus : ℕ) (ms : List MessageView) → job ≡ Call bus ms → (e ≡ end.Ok → ⊥) → ⊥
+      ended : (bus : ℕ) (ms : List MessageView) → job ≡ Call bus ms → (msg.end ≡ end.Ok → ⊥) → ⊥
       ended bus ms is bad =
-          let s : SettlesNext run.board p.transfer (has_reply p.owed) (Call bus ms) more e behind =
+          let s : SettlesNext run.board p.transfer (has_reply p.owed) (Call bus ms) more msg.end behind =
           ended-leaves run.board p.transfer (slots_of (seen_of whole.locks)) p.tree (has_reply p.owed) p.sent its_left bus ms more
-          (subst (λ (j : Job). next_of whole.locks p.tree ≡ Some (Send j more)) is is_sent.first) e bytes bad in
+          (subst (λ (j : Job). next_of whole.locks p.tree ≡ Some (Send j more)) is is_sent.first) msg.end bytes bad in
           no_settle behind s.1 leaves.quiet s.2.first
 
       by : (j : Job) → job ≡ j → Fit job
-      by (Call bus ms) is = elim (is_ok e) [ inl fine ↦ through bus ms is fine | inr bad ↦ absurd (ended bus ms is bad) ]
+      by (Call bus ms) is = elim (is_ok msg.end) [ inl fine ↦ through bus ms is fine | inr bad ↦ absurd (ended bus ms is bad) ]
       by (Select h) is = subst (λ (j : Job). Fit j) (sym is) (its.partway none)
       by (SwitchOff off) is = subst (λ (j : Job). Fit j) (sym is) (its.partway none)
 
@@ -117,7 +115,7 @@ module _ (run : Run) (whole : Whole) (core : CoreKept run whole)
       × ((reply : Reply) → reply ≡ reply_by verdict (Some p.transfer) got → Fits p.transfer reply))
   sent-leaves =
       elim (message-leaves run.board p.transfer (slots_of (seen_of whole.locks)) p.tree
-      (has_reply p.owed) p.sent its_left job more is_sent.first e bytes) [
+      (has_reply p.owed) p.sent its_left job more is_sent.first msg.end bytes) [
         | inl leaves ↦ inl (leaves, partway-behind leaves)
         | inr s ↦ inr (
           s.0,

@@ -1,9 +1,7 @@
 -- The steps, with what they show in one record each. No induction.
 use Rattle.std.proofs.Common.{◌≡◌, ℕ, Bool, false, List, [], ◌∷◌, set, Option, Some, None, refl, sym, ◌∙◌, ap, subst}
 use Rattle.std.specs.Prelude.{slice_get}
-use Rattle.i2c_base.specs.declared.ids.Node.{Node}
 use Rattle.i2c_base.specs.declared.errno.Errno.{Errno}
-use Rattle.i2c_base.specs.declared.entry.End.{End}
 use Rattle.i2c_base.specs.declared.entry.Entry.{Entry}
 use Rattle.i2c_base.specs.declared.entry.Entry.TheVariants as entry
 use Rattle.i2c_base.specs.declared.reply.Reply.{Reply}
@@ -25,8 +23,10 @@ use Rattle.bus_laws.specs.Reach.{AsksForMessages}
 use Rattle.bus_laws.proofs.walk.Next.{seen-first}
 use Rattle.mux_plan.specs.Plans.{SeenView, slots_of, slots_after, TellsMarks}
 use Rattle.seg_locks.specs.Locks.{LocksView}
+use Rattle.core_laws.specs.Behind.{message_entry}
 use Rattle.core_laws.specs.Spots.{seen_of, turned_to, TellsKept, Spot, IsTold, AreNumbered, AreRooted}
 use Rattle.bus_message.specs.Ports.{RootPort}
+use Rattle.bus_message.specs.declared.message.MsgResult.{MsgResult}
 use Rattle.mux_plan.specs.declared.task.NextMsg.{NextMsg}
 use Rattle.core_laws.specs.Steps.{next_of, behind_of, IsSaid, IsLined, AreMarked}
 use Rattle.core_laws.proofs.Said.{told-message, told-decided, told-line, told-line-decided, told-settle}
@@ -54,63 +54,62 @@ module _ (b : BoardView) (tree : IsTree b) (plain : IsPlainBoard b) (lines : Lin
       (λ (a : Option Act). TellsKept b (slots_after a (first_note (seen (slots_of (seen_of v)) x.tree)) out y) words.kept) first
       (are.kept y tells)
 
-  module _ (t : TransferView) (gone : ℕ) (job : Job) (left : ℕ) (next : NextMsg) (addr : ℕ) (reading : Bool) (bytes : List ℕ)
-      (heard : Option Node) (e : End)
-      (said : IsSaid b asks x v t gone job left next old new addr reading bytes heard e)
-      (goes : is_over (behind_of v x.tree (Sent e bytes)) ≡ false)
-      (words : SeenView) (are : AreMarked b x.tree v (Sent e bytes) words) where
+  module _ (t : TransferView) (gone : ℕ) (job : Job) (left : ℕ) (next : NextMsg) (bytes : List ℕ) (msg : MsgResult)
+      (said : IsSaid b asks x v t gone job left next old new bytes msg)
+      (goes : is_over (behind_of v x.tree (Sent msg.end bytes)) ≡ false)
+      (words : SeenView) (are : AreMarked b x.tree v (Sent msg.end bytes) words) where
     abbrev pub message : Entry
-    message = entry.Message x.number next.bus next.purpose next.part next.parts addr reading bytes heard e
+    message = message_entry x.number next bytes msg
 
     abbrev pub spot : Spot
     spot = record x {
-      tree = behind_of v x.tree (Sent e bytes);
-      got = got_after job reading bytes x.got;
-      cut = message_cut next.purpose next.part e;
+      tree = behind_of v x.tree (Sent msg.end bytes);
+      got = got_after job msg.reading bytes x.got;
+      cut = message_cut next.purpose next.part msg.end;
     }
 
     abbrev pub marked : LocksView
     marked = turned_to v words
 
-    pub message-keeps : NoSettle (behind_of v x.tree (Sent e bytes))
+    pub message-keeps : NoSettle (behind_of v x.tree (Sent msg.end bytes))
         → IsTold b callers asks (message ∷ past) (set spots place spot) marked (set sockets at new) None
     message-keeps quiet =
         told-message b tree plain lines asks some callers past spots v sockets None told numbered place x here sees refl once at old new
         port job left said.first next said.of said.rooted t gone said.whose
-        addr reading bytes heard e said.to_addr said.in_direction said.chip said.has
-        (behind_of v x.tree (Sent e bytes)) refl goes words are.all (marks_by (Send job left) (Sent e bytes) words said.first are)
-        (kept_by (Send job left) (Sent e bytes) words said.first are) quiet
+        bytes msg said.to_addr said.in_direction said.chip said.has
+        (behind_of v x.tree (Sent msg.end bytes)) refl goes words are.all (marks_by (Send job left) (Sent msg.end bytes) words said.first are)
+        (kept_by (Send job left) (Sent msg.end bytes) words said.first are) quiet
 
     -- a message that decides, and its settle behind it; the caller is told at its walk's end
-    module _ (verdict : Option Errno) (settles : first_act (behind_of v x.tree (Sent e bytes)) ≡ Some (Settle verdict))
+    module _ (verdict : Option Errno) (settles : first_act (behind_of v x.tree (Sent msg.end bytes)) ≡ Some (Settle verdict))
         (unpaid : x.owed ≡ []) (asked : asks x.number x.taken ≡ Some t)
-        (reply : Reply) (decided : reply ≡ reply_by verdict (Some t) (got_after job reading bytes x.got))
-        (more : is_over (rest_of (behind_of v x.tree (Sent e bytes)) Passed) ≡ false) where
+        (reply : Reply) (decided : reply ≡ reply_by verdict (Some t) (got_after job msg.reading bytes x.got))
+        (more : is_over (rest_of (behind_of v x.tree (Sent msg.end bytes)) Passed) ≡ false) where
       abbrev pub settle : Entry
-      settle = entry.Settle x.number reply (message_cut next.purpose next.part e)
+      settle = entry.Settle x.number reply (message_cut next.purpose next.part msg.end)
 
       abbrev pub settled : Spot
-      settled = record x { tree = rest_of (behind_of v x.tree (Sent e bytes)) Passed; owed = reply ∷ []; got = []; cut = cut_at.No }
+      settled = record x { tree = rest_of (behind_of v x.tree (Sent msg.end bytes)) Passed; owed = reply ∷ []; got = []; cut = cut_at.No }
 
       pub message-settles : IsTold b callers asks (settle ∷ message ∷ past) (set spots place settled) marked (set sockets at new) None
       message-settles =
           let due : IsTold b callers asks (message ∷ past) (set spots place spot) marked (set sockets at new) (Some x.number) =
           told-decided b tree plain lines asks some callers past spots v sockets None told numbered place x here sees refl once at old new
           port job left said.first next said.of said.rooted t gone said.whose
-          addr reading bytes heard e said.to_addr said.in_direction said.chip said.has
-          (behind_of v x.tree (Sent e bytes)) refl goes words are.all (marks_by (Send job left) (Sent e bytes) words said.first are)
-          (kept_by (Send job left) (Sent e bytes) words said.first are) verdict settles in
-          let look : seen (slots_of words) (behind_of v x.tree (Sent e bytes)) ≡ behind_of v x.tree (Sent e bytes) = seen-first
-          (slots_of words) (behind_of v x.tree (Sent e bytes)) (Settle verdict) settles in
+          bytes msg said.to_addr said.in_direction said.chip said.has
+          (behind_of v x.tree (Sent msg.end bytes)) refl goes words are.all (marks_by (Send job left) (Sent msg.end bytes) words said.first are)
+          (kept_by (Send job left) (Sent msg.end bytes) words said.first are) verdict settles in
+          let look : seen (slots_of words) (behind_of v x.tree (Sent msg.end bytes)) ≡ behind_of v x.tree (Sent msg.end bytes) = seen-first
+          (slots_of words) (behind_of v x.tree (Sent msg.end bytes)) (Settle verdict) settles in
           subst (λ (ss : List Spot). IsTold b callers asks (settle ∷ message ∷ past) ss marked (set sockets at new) None)
           (set-set spots place spot settled)
           (told-settle b tree plain lines asks some callers (message ∷ past) (set spots place spot) marked (set sockets at new)
           (Some x.number) due
           (numbered-kept callers spots numbered place x spot here refl) place spot (set_at spots place spot x here)
-          (seen-first (now b asks (message ∷ past)).slot (behind_of v x.tree (Sent e bytes)) (Settle verdict) settles
+          (seen-first (now b asks (message ∷ past)).slot (behind_of v x.tree (Sent msg.end bytes)) (Settle verdict) settles
           ∙ sym look) refl verdict
           (ap (λ (w : WalkTree). first_act w) look ∙ settles) unpaid t asked reply decided
-          (rest_of (behind_of v x.tree (Sent e bytes)) Passed) (ap (λ (w : WalkTree). rest_of w Passed) (sym look)) more)
+          (rest_of (behind_of v x.tree (Sent msg.end bytes)) Passed) (ap (λ (w : WalkTree). rest_of w Passed) (sym look)) more)
 
   module _ (job : Job) (failed : Bool) (lined : IsLined b x v job old new failed)
       (goes : is_over (behind_of v x.tree (Lined failed)) ≡ false)

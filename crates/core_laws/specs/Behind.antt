@@ -1,8 +1,6 @@
 -- Where all stand behind a step of the caller at a place.
-use Rattle.std.specs.Prelude.{ℕ, Bool, List, [], ◌∷◌, Option, set}
+use Rattle.std.specs.Prelude.{ℕ, Bool, List, [], ◌∷◌, set}
 use Rattle.i2c_base.specs.declared.ids.LockId.{LockId}
-use Rattle.i2c_base.specs.declared.ids.Node.{Node}
-use Rattle.i2c_base.specs.declared.entry.End.{End}
 use Rattle.i2c_base.specs.declared.entry.Entry.{Entry}
 use Rattle.i2c_base.specs.declared.entry.Entry.TheVariants as entry
 use Rattle.i2c_base.specs.declared.reply.Reply.{Reply}
@@ -12,6 +10,7 @@ use Rattle.bus_spec.specs.Walk.{Job, Passed, Sent, Lined, WalkTree, line_mux, li
 use Rattle.bus_spec.specs.Grammar.{rest_of}
 use Rattle.bus_spec.specs.Past.{got_after}
 use Rattle.bus_spec.specs.Readings.{cut_told, message_cut}
+use Rattle.bus_message.specs.declared.message.MsgResult.{MsgResult}
 use Rattle.core_laws.specs.Core.{Place, Whole}
 use Rattle.mux_plan.specs.declared.task.NextMsg.{NextMsg}
 use Rattle.core_laws.specs.Steps.{behind_of}
@@ -32,22 +31,22 @@ passed whole p = record p { tree = behind_of whole.locks p.tree Passed; cut = cu
 abbrev pub begun_with : Place → List Reply → TransferView → WalkTree → Place
 begun_with p replies t w = record p { taken = replies; owed = []; transfer = t; tree = w; sent = 0; got = []; cut = cut_at.No }
 
--- the entry of a message of the caller there, and that of a line step
-abbrev pub message_entry : Place → NextMsg → ℕ → Bool → List ℕ → Option Node → End → Entry
-message_entry p next addr reading bytes heard e =
-    entry.Message p.number next.bus next.purpose next.part next.parts addr reading bytes heard e
+-- the entry of a message of the caller of this number, and that of a line step there
+abbrev pub message_entry : ℕ → NextMsg → List ℕ → MsgResult → Entry
+message_entry number next bytes msg =
+    entry.Message number next.bus next.purpose next.part next.parts msg.addr msg.reading bytes msg.heard msg.end
 
 abbrev pub line_entry : Place → Job → Bool → Entry
 line_entry p job failed = entry.Line p.number (line_mux job) (line_level job) failed
 
 -- a message was sent, with which so many of the caller's went through
-abbrev pub spoken : Whole → Place → Job → NextMsg → Bool → List ℕ → End → ℕ → Place
-spoken whole p job next reading bytes e gone =
+abbrev pub spoken : Whole → Place → Job → NextMsg → List ℕ → MsgResult → ℕ → Place
+spoken whole p job next bytes msg gone =
     record p {
-      tree = behind_of whole.locks p.tree (Sent e bytes);
+      tree = behind_of whole.locks p.tree (Sent msg.end bytes);
       sent = gone;
-      got = got_after job reading bytes p.got;
-      cut = message_cut next.purpose next.part e;
+      got = got_after job msg.reading bytes p.got;
+      cut = message_cut next.purpose next.part msg.end;
     }
 
 -- a line step was done

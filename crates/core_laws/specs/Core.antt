@@ -1,10 +1,8 @@
 -- The whole of what is kept between two steps, over plain lists.
-use Rattle.std.specs.Prelude.{◌≡◌, ◌⊎◌, ℕ, ◌-◌, ◌*◌, ◌<◌, ◌≤◌, Bool, true, false, not, IsTrue, List, Option, [], ◌∷◌, ◌++◌, ◌+◌, length, map, take, Some, None, slice_get}
+use Rattle.std.specs.Prelude.{◌≡◌, ◌⊎◌, ℕ, ◌-◌, ◌*◌, ◌<◌, ◌≤◌, Bool, true, false, not, IsTrue, List, [], ◌∷◌, ◌++◌, ◌+◌, length, map, take, Some, None, slice_get}
 use Rattle.std.specs.List.{sum_by}
 use Rattle.i2c_base.specs.declared.entry.Entry.{Entry}
-use Rattle.i2c_base.specs.declared.entry.End.{End}
 use Rattle.i2c_base.specs.declared.errno.Errno.{Errno}
-use Rattle.i2c_base.specs.declared.ids.Node.{Node}
 use Rattle.i2c_base.specs.declared.port.Phase.TheVariants.{Idle}
 use Rattle.i2c_base.specs.declared.ids.LockId.{LockId}
 use Rattle.i2c_base.specs.declared.reply.Reply.{Reply}
@@ -28,6 +26,7 @@ use Rattle.bus_laws.specs.Reach.{AsksForMessages}
 use Rattle.seg_locks.specs.Locks.{LocksView}
 use Rattle.core_laws.specs.Spots.{Spot, IsTold, AreRooted}
 use Rattle.bus_message.specs.Ports.{RootPort}
+use Rattle.bus_message.specs.declared.message.MsgResult.{MsgResult}
 use Rattle.core_laws.specs.Owed.{OwesUpTo, total}
 use Rattle.core_laws.specs.Seats.{IsLeft}
 use Rattle.mux_plan.specs.declared.task.NextMsg.{NextMsg}
@@ -148,14 +147,14 @@ pub record CoreKept (run : Run) (whole : Whole) : Type 0 where
 
 -- a message comes next of a caller's walk, and was sent over the port at a place
 pub record IsSent (run : Run) (whole : Whole) (p : Place) (job : Job) (more : ℕ) (next : NextMsg) (at : ℕ) (old new : RootPort)
-    (addr : ℕ) (reading : Bool) (bytes : List ℕ) (heard : Option Node) (e : End) (words : SeenView) : Type 0 where
+    (bytes : List ℕ) (msg : MsgResult) (words : SeenView) : Type 0 where
   pub first : next_of whole.locks p.tree ≡ Some (Send job more)
   pub of : IsMessageOf job more next
   pub port : slice_get whole.sockets at ≡ Some old
-  pub keeps : KeepsPort run.board run.tells job more bytes e old new
-  pub gives : GivesBytes run.board p.transfer p.sent next addr reading bytes e
-  pub shows : IsTrue run.tells → HasSaid run.board p.transfer p.sent next old new addr bytes heard e
-  pub marked : AreMarked run.board p.tree whole.locks (Sent e bytes) words
+  pub keeps : KeepsPort run.board run.tells job more bytes msg.end old new
+  pub gives : GivesBytes run.board p.transfer p.sent next bytes msg
+  pub shows : IsTrue run.tells → HasSaid run.board p.transfer p.sent next old new bytes msg
+  pub marked : AreMarked run.board p.tree whole.locks (Sent msg.end bytes) words
 
 -- a line step comes next of it, and was done there
 pub record IsShifted (run : Run) (whole : Whole) (p : Place) (job : Job) (at : ℕ) (old new : RootPort) (failed : Bool)

@@ -1,6 +1,5 @@
 -- What a step of one caller on one port shows, over plain data.
 use Rattle.std.specs.Prelude.{◌≡◌, ◌⊎◌, ℕ, suc, ◌+◌, ◌≤◌, Bool, true, false, IsTrue, List, [], ◌∷◌, ◌++◌, length, Option, Some}
-use Rattle.i2c_base.specs.declared.ids.Node.{Node}
 use Rattle.i2c_base.specs.declared.entry.End.{End}
 use Rattle.i2c_base.specs.declared.entry.End.TheVariants as end
 use Rattle.i2c_base.specs.declared.port.Phase.TheVariants.{Idle}
@@ -21,6 +20,7 @@ use Rattle.seg_locks.specs.Locks.{LocksView}
 use Rattle.core_laws.specs.Spots.{seen_of, TellsKept, Spot}
 use Rattle.bus_message.specs.Ports.{RootPort}
 use Rattle.bus_message.specs.Talks.{Gives}
+use Rattle.bus_message.specs.declared.message.MsgResult.{MsgResult}
 use Rattle.core_laws.specs.Owed.{message_most}
 use Rattle.mux_plan.specs.declared.task.NextMsg.{NextMsg}
 use Rattle.core_laws.specs.Sends.{IsMessageOf}
@@ -38,17 +38,17 @@ behind_of v w out = rest_of (seen (slots_of (seen_of v)) w) out
 -- the message of a job was sent on the root of this socket; the caller's own is one of this transfer, of which so many went through
 pub record IsSaid (b : BoardView) (asks : Asks) (x : Spot) (v : LocksView) (t : TransferView) (gone : ℕ) (job : Job) (left : ℕ)
     (next : NextMsg) (old new : RootPort)
-    (addr : ℕ) (reading : Bool) (bytes : List ℕ) (heard : Option Node) (e : End) : Type 0 where
+    (bytes : List ℕ) (msg : MsgResult) : Type 0 where
   pub first : next_of v x.tree ≡ Some (Send job left)
   pub of : IsMessageOf job left next
   pub rooted : old.root ≡ root_of b (job_bus job)
   pub whose : (bus : ℕ) (ms : List MessageView) → job ≡ Call bus ms
       → (asks x.number (x.taken ++ x.owed) ≡ Some t) × (bus ≡ t.bus) × (ms ≡ messages_of t) × (gone + suc left ≡ length ms)
-  pub to_addr : addr ≡ (message_for t gone next.purpose next.control addr).addr
-  pub in_direction : reading ≡ (message_for t gone next.purpose next.control addr).reading
-  pub chip : IsChipAddress b next.purpose addr
-  pub has : HasSent b t next.purpose (message_for t gone next.purpose next.control addr)
-      (ends_with next.purpose next.part next.parts) old new bytes heard e
+  pub to_addr : msg.addr ≡ (message_for t gone next.purpose next.control msg.addr).addr
+  pub in_direction : msg.reading ≡ (message_for t gone next.purpose next.control msg.addr).reading
+  pub chip : IsChipAddress b next.purpose msg.addr
+  pub has : HasSent b t next.purpose (message_for t gone next.purpose next.control msg.addr)
+      (ends_with next.purpose next.part next.parts) old new bytes msg.heard msg.end
 
 -- a line step was done there
 pub record IsLined (b : BoardView) (x : Spot) (v : LocksView) (job : Job) (old new : RootPort) (failed : Bool) : Type 0 where
@@ -68,18 +68,19 @@ pub record AreMarked (b : BoardView) (w : WalkTree) (v : LocksView) (out : ActOu
       → TellsKept b (slots_after (next_of v w) (first_note (seen (slots_of (seen_of v)) w)) out y) words.kept
 
 -- what ports that tell show of a message
-pub record HasSaid (b : BoardView) (t : TransferView) (gone : ℕ) (next : NextMsg) (old new : RootPort) (addr : ℕ) (bytes : List ℕ)
-    (heard : Option Node) (e : End) : Type 0 where
-  pub to_addr : addr ≡ (message_for t gone next.purpose next.control addr).addr
-  pub chip : IsChipAddress b next.purpose addr
-  pub has : HasSent b t next.purpose (message_for t gone next.purpose next.control addr)
-      (ends_with next.purpose next.part next.parts) old new bytes heard e
+pub record HasSaid (b : BoardView) (t : TransferView) (gone : ℕ) (next : NextMsg) (old new : RootPort) (bytes : List ℕ)
+    (msg : MsgResult) : Type 0 where
+  pub to_addr : msg.addr ≡ (message_for t gone next.purpose next.control msg.addr).addr
+  pub chip : IsChipAddress b next.purpose msg.addr
+  pub has : HasSent b t next.purpose (message_for t gone next.purpose next.control msg.addr)
+      (ends_with next.purpose next.part next.parts) old new bytes msg.heard msg.end
 
 -- what every port gives by a message: it goes in its direction, and where it reads and went through it gives what it asks for
-pub record GivesBytes (b : BoardView) (t : TransferView) (gone : ℕ) (next : NextMsg) (addr : ℕ) (reading : Bool) (bytes : List ℕ)
-    (e : End) : Type 0 where
-  pub direction : reading ≡ (message_for t gone next.purpose next.control addr).reading
-  pub gives : e ≡ end.Ok → reading ≡ true → Gives (block_limit b) (message_for t gone next.purpose next.control addr) bytes
+pub record GivesBytes (b : BoardView) (t : TransferView) (gone : ℕ) (next : NextMsg) (bytes : List ℕ)
+    (msg : MsgResult) : Type 0 where
+  pub direction : msg.reading ≡ (message_for t gone next.purpose next.control msg.addr).reading
+  pub gives : msg.end ≡ end.Ok → msg.reading ≡ true
+      → Gives (block_limit b) (message_for t gone next.purpose next.control msg.addr) bytes
 
 -- what every port keeps over a message: it is idle where that was the last of its transfer or didn't go through. The
 -- message moves no more bytes than it may

@@ -152,7 +152,7 @@ settle-requires g c =
     c.as_slice-bytes.ensures.value out (c.send_next-msg.ensures c.index_mut.result.now.0) c.cursor-cursor.ensures.whole in
     let looked = c.requires.rests.looked c.args.place old m.here in
     let t = c.look.new.self in
-    let heard = heard-looked x.locks c.args.next.now out.reading bytes out.end old c.message_done.new.self t
+    let heard = heard-looked x.locks c.args.next.now bytes out old c.message_done.new.self t
     (c.message_done.ensures.heard x.locks looked) c.look.ensures.same (c.look.ensures.walk) c.look.ensures.route in
     let locks : c.set_marks.new.locks ≡ turned g.P.Port g.C.Caller x c.requires.rests.kept c.args.place old m.here (Send m.job m.left)
     m.first (walk.Sent out.end bytes) =
@@ -184,7 +184,7 @@ returns g c =
     c.as_slice-bytes.ensures.value out (c.send_next-msg.ensures c.index_mut.result.now.0) c.cursor-cursor.ensures.whole in
     let looked = c.requires.rests.looked c.args.place old m.here in
     let t = c.look.new.self in
-    let heard = heard-looked x.locks c.args.next.now out.reading bytes out.end old c.message_done.new.self t
+    let heard = heard-looked x.locks c.args.next.now bytes out old c.message_done.new.self t
     (c.message_done.ensures.heard x.locks looked) c.look.ensures.same (c.look.ensures.walk) c.look.ensures.route in
     let locks : c.set_marks.new.locks ≡ turned g.P.Port g.C.Caller x c.requires.rests.kept c.args.place old m.here (Send m.job m.left)
     m.first (walk.Sent out.end bytes) =

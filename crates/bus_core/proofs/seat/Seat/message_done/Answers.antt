@@ -22,8 +22,7 @@ returns g c =
     let h = c.record_msg.ensures in
     let on = c.advance_walk.ensures in
     record {
-      heard = λ v looked. heard v c.args.self.now c.record_msg.new.self c.advance_walk.new.self c.args.next.now
-          c.args.msg.now.reading c.args.bytes.now c.args.msg.now.end
+      heard = λ v looked. heard v c.args.self.now c.record_msg.new.self c.advance_walk.new.self c.args.next.now c.args.bytes.now c.args.msg.now
           h.same on.same h.gone h.got h.wrote (on.walk ∙ rest-looked v c.record_msg.new.self (Sent c.args.msg.now.end c.args.bytes.now)
           (subst (IsLookedAt v) (sym h.same) looked)) on.route;
       updates = c.updates.ensures ∙ ap (updates_ahead (Sent c.args.msg.now.end c.args.bytes.now)) h.same;
