@@ -185,8 +185,7 @@ module _ {P C S : Type 0} (g : PortGhosts P) (c : CallerGhosts C S) (x : CorePar
                 let same = most addr in
                 omega (arith, room, same);
           };
-          on_bus = λ e. on-bus;
-          more = λ e. (call-left e).1;
+          call = record { on_bus = λ e. on-bus; more = λ e. (call-left e).1 };
           wrote = its.wrote;
         }
 

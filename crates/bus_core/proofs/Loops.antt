@@ -132,7 +132,7 @@ module _ {P C S : Type 0} (g : PortGhosts P) (c : CallerGhosts C S) (x : CorePar
   stuck-below least place is before tell m low = by (slice_get x.places.items m) refl
     where
       by : (o : Option (Option ℕ)) → slice_get x.places.items m ≡ o → IsStuck b asks past m
-      by (Some (Some q)) at = (let up = before m q low at in stuck-by g c x core.kept core.placed m q at up.seat up.here up.waits tell)
+      by (Some (Some q)) at = (let up = before m low q at in stuck-by g c x core.kept core.placed m q at up.seat up.here up.waits tell)
       by (Some None) at = inr (ap (λ (w : WalkTree). first_act (seen (now b asks past).slot w))
           (silent-ends b MOST_CALLERS asks m (silent m at) past (core.kept.kept.told tell).stepwise))
       by None at = absurd (let here = slice_get_within x.places.items least (Some place) is in

@@ -26,7 +26,7 @@ use Rattle.mux_plan.specs.Plans.{RouteView, slots_of}
 use Rattle.seg_locks.specs.Locks.{LocksView}
 use Rattle.bus_message.specs.declared.message.MsgResult.{MsgResult}
 use Rattle.bus_core.specs.Kept.{IsSeated}
-use Rattle.bus_core.specs.Places.{walk_left, owed_by}
+use Rattle.bus_core.specs.Places.{HasCounted, walk_left, owed_by}
 use Rattle.bus_core.specs.Replies.{reply_decided}
 use Rattle.bus_core.specs.Seats.{WentOn, got_heard, HasHeard, HasSettled, HasEnded, HasFreed, MayEnd, MayRefuse}
 use Rattle.bus_core.specs.declared.replies.Decided.{Decided}
@@ -47,7 +47,7 @@ module _ {C : Type 0} (v : LocksView) (s m t : Seat C) where
       → t ≡ record m { walk = t.walk }
       → m.sent ≡ (if is_call_through next.purpose r.end then s.sent + 1 else s.sent)
       → m.replies ≡ record s.replies { got = got_heard next.purpose r.reading bytes s.replies.got }
-      → m.written ≡ sum_by written_of (take m.sent m.transfer.msgs)
+      → HasCounted m
       → walk_left t ≡ behind_of v (walk_left m) (Sent r.end bytes) → t.walk.route ≡ m.walk.route → HasHeard v next bytes r s t
   heard next bytes r counted went gone got wrote walk route =
       subst (λ (x : Seat C). HasHeard v next bytes r s x) (sym went)

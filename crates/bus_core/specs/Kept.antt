@@ -1,5 +1,5 @@
 -- What the core keeps between two steps, and what a step leaves.
-use Rattle.std.specs.Prelude.{◌≡◌, ◌⊎◌, ℕ, ◌+◌, ◌<◌, ◌≤◌, false, IsTrue, List, ◌++◌, length, map, reverse, take, sum_by, Option, Some, slice_get}
+use Rattle.std.specs.Prelude.{◌≡◌, ◌⊎◌, ℕ, ◌+◌, ◌<◌, ◌≤◌, false, IsTrue, List, ◌++◌, length, map, reverse, Option, Some, slice_get}
 use Rattle.i2c_base.specs.declared.caller.Caller.{Ghosts as CallerGhosts}
 use Rattle.i2c_base.specs.declared.entry.Entry.{Entry}
 use Rattle.i2c_base.specs.declared.ids.LockId.{LockId}
@@ -7,7 +7,6 @@ use Rattle.i2c_base.specs.declared.reply.Reply.{Reply}
 use Rattle.i2c_base.specs.Board.{BoardView}
 use Rattle.i2c_base.specs.Limits.{MOST_CALLERS}
 use Rattle.i2c_base.specs.Need.{Covers}
-use Rattle.i2c_base.specs.Transfer.{written_of}
 use Rattle.i2c_spec.specs.History.{Asks}
 use Rattle.i2c_spec.specs.Tree.{buses, root_of}
 use Rattle.bus_spec.specs.Grammar.{is_over}
@@ -22,7 +21,7 @@ use Rattle.core_laws.specs.Steps.{next_of}
 use Rattle.ports.specs.declared.port.Port.{Ghosts as PortGhosts}
 use Rattle.bus_core.specs.Looks.{AreLooked}
 use Rattle.bus_core.specs.Opening.{IsSetUp}
-use Rattle.bus_core.specs.Places.{walk_left, places_of, scripts_of, asks_of, left_of}
+use Rattle.bus_core.specs.Places.{HasCounted, walk_left, places_of, scripts_of, asks_of, left_of}
 use Rattle.bus_core.specs.declared.parts.CoreParts.{CoreParts}
 use Rattle.bus_core.specs.declared.seat.Seat.{Seat}
 
@@ -33,7 +32,7 @@ roots_of ports = map (λ (p : ℕ × _). p.0) ports
 -- bus; a transfer on a bus that isn't there is refused; and its caller has room for the replies to come
 pub record IsSeated {C S : Type 0} (c : CallerGhosts C S) (b : BoardView) (roots : List ℕ) (s : Seat C) : Type 0 where
   pub on : s.walk.route.board ≡ b
-  pub wrote : s.written ≡ sum_by written_of (take s.sent s.transfer.msgs)
+  pub wrote : HasCounted s
   pub within : s.sent ≤ length s.transfer.msgs
   pub plugged : is_over (walk_left s) ≡ false → s.transfer.bus < buses b → slice_get roots s.port ≡ Some (root_of b s.transfer.bus)
   pub there : is_over (walk_left s) ≡ false → (s.transfer.bus < buses b) ⊎ IsLone b (walk_left s)

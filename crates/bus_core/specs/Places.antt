@@ -1,10 +1,10 @@
 -- The parts of the core as plain lists: the callers with their seats, and what they ask for by their numbers.
-use Rattle.std.specs.Prelude.{ℕ, ◌==◌, List, [], ◌∷◌, map, Option, Some, None, if◌then◌else◌}
+use Rattle.std.specs.Prelude.{◌≡◌, ℕ, ◌==◌, List, [], ◌∷◌, map, take, sum_by, Option, Some, None, if◌then◌else◌}
 use Rattle.std.specs.Option.{option_map_or}
 use Rattle.i2c_base.specs.declared.caller.Caller.{Ghosts as CallerGhosts}
 use Rattle.i2c_base.specs.declared.reply.Reply.{Reply}
 use Rattle.i2c_base.specs.Need.{Covers}
-use Rattle.i2c_base.specs.Transfer.{TransferView}
+use Rattle.i2c_base.specs.Transfer.{TransferView, written_of}
 use Rattle.i2c_spec.specs.History.{Asks}
 use Rattle.bus_spec.specs.Walk.{WalkTree}
 use Rattle.mux_plan.specs.Plans.{walk_of}
@@ -16,6 +16,10 @@ use Rattle.bus_core.specs.declared.seat.Seat.{Seat}
 -- what is left of a caller's walk
 abbrev pub walk_left : {C : Type 0} → Seat C → WalkTree
 walk_left s = walk_of s.walk
+
+-- the bytes of its writes that went through are counted
+abbrev pub HasCounted : {C : Type 0} → Seat C → Type 0
+HasCounted s = s.written ≡ sum_by written_of (take s.sent s.transfer.msgs)
 
 -- the reply that is settled and not handed over yet
 abbrev pub owed_by : Option Decided → RepliesView → List Reply

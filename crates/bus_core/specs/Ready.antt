@@ -25,9 +25,13 @@ pub record CanStepAt {P C : Type 0} (x : CoreParts P C) (place : ℕ) : Type 0 w
   pub next : next_of x.locks (walk_left seat) ≡ Some act
   pub free : (l : LockId) → act ≡ Take l → holder_in x.locks l ≡ None
 
+-- the caller of this number is held up, if there is one
+abbrev pub IsCallerHeldUp : {P C : Type 0} → CoreParts P C → ℕ → Type 0
+IsCallerHeldUp x n = (place : ℕ) → slice_get x.places.items n ≡ Some (Some place) → IsHeldUpAt x place
+
 -- every caller below this number is held up
 abbrev pub AreHeldUpBelow : {P C : Type 0} → CoreParts P C → ℕ → Type 0
-AreHeldUpBelow x n = (m q : ℕ) → m < n → slice_get x.places.items m ≡ Some (Some q) → IsHeldUpAt x q
+AreHeldUpBelow x n = (m : ℕ) → m < n → IsCallerHeldUp x m
 
 -- the least caller that can make a step: every caller below it is held up
 pub record IsLeastReady {P C : Type 0} (x : CoreParts P C) (n : ℕ) : Type 0 where
@@ -38,7 +42,7 @@ pub record IsLeastReady {P C : Type 0} (x : CoreParts P C) (n : ℕ) : Type 0 wh
 
 -- all callers are held up
 abbrev pub AllHeldUp : {P C : Type 0} → CoreParts P C → Type 0
-AllHeldUp x = (m q : ℕ) → slice_get x.places.items m ≡ Some (Some q) → IsHeldUpAt x q
+AllHeldUp x = (n : ℕ) → IsCallerHeldUp x n
 
 -- there is a caller of this number
 pub record HasPlace (places : List (Option ℕ)) (n : ℕ) : Type 0 where

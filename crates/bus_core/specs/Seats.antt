@@ -1,5 +1,5 @@
 -- What the steps of a core leave of a seat.
-use Rattle.std.specs.Prelude.{◌≡◌, ℕ, ◌+◌, ◌<◌, ◌≤◌, Bool, true, false, List, [], ◌∷◌, ◌++◌, length, set, take, sum_by, Option, Some, None, IfSome, slice_get, if◌then◌else◌}
+use Rattle.std.specs.Prelude.{◌≡◌, ℕ, ◌+◌, ◌<◌, ◌≤◌, Bool, true, false, List, [], ◌∷◌, ◌++◌, length, set, Option, Some, None, IfSome, slice_get, if◌then◌else◌}
 use Rattle.i2c_base.specs.Limits.{MOST_BYTES}
 use Rattle.i2c_base.specs.declared.caller.Caller.{Ghosts as CallerGhosts}
 use Rattle.i2c_base.specs.declared.entry.Entry.TheVariants as entry
@@ -12,7 +12,7 @@ use Rattle.i2c_base.specs.declared.reply.Reply.{Reply}
 use Rattle.i2c_base.specs.declared.reply.Reply.TheVariants as reply
 use Rattle.i2c_base.specs.Fitting.{Fits}
 use Rattle.i2c_base.specs.Board.{BoardView}
-use Rattle.i2c_base.specs.Transfer.{IsTransfer, TransferView, written_of}
+use Rattle.i2c_base.specs.Transfer.{IsTransfer, TransferView}
 use Rattle.i2c_spec.specs.Tree.{buses, root_of}
 use Rattle.bus_journal.specs.View.{JournalView}
 use Rattle.bus_spec.specs.Grammar.{is_over, first_act, first_note, rest_of, seen, plain, walk_for}
@@ -34,7 +34,7 @@ use Rattle.seg_locks.specs.Locks.{LocksView}
 use Rattle.bus_core.specs.Kept.{IsSeated}
 use Rattle.bus_core.specs.Looks.{IsLookedAt}
 use Rattle.bus_core.specs.Opening.{HasRoot}
-use Rattle.bus_core.specs.Places.{walk_left, owed_by, got_by}
+use Rattle.bus_core.specs.Places.{HasCounted, walk_left, owed_by, got_by}
 use Rattle.bus_message.specs.Sends.{MaySend, NextSent}
 use Rattle.bus_message.specs.declared.message.MsgResult.{MsgResult}
 use Rattle.bus_core.specs.declared.seat.Seat.{Seat}
@@ -133,7 +133,7 @@ pub record HasFreed {C S : Type 0} (c : CallerGhosts C S) (b : BoardView) (v : L
 
 -- it may hear a message of its walk: one of the caller's is left where it went through, and what it read has room
 pub record MayHear {C : Type 0} (next : NextMsg) (bytes : List ℕ) (r : MsgResult) (s : Seat C) : Type 0 where
-  pub wrote : s.written ≡ sum_by written_of (take s.sent s.transfer.msgs)
+  pub wrote : HasCounted s
   pub part : 0 < next.part
   pub more : is_call_through next.purpose r.end ≡ true → s.sent < length s.transfer.msgs
   pub room : next.purpose ≡ purpose.Call → r.reading ≡ true → length s.replies.got + length bytes ≤ MOST_BYTES
@@ -155,7 +155,7 @@ pub record HasHeard {C : Type 0} (v : LocksView) (next : NextMsg) (bytes : List 
   pub gone : t.sent ≡ (if is_call_through next.purpose r.end then s.sent + 1 else s.sent)
   pub got : t.replies ≡ record s.replies { got = got_heard next.purpose r.reading bytes s.replies.got }
   pub walk : walk_left t ≡ behind_of v (walk_left s) (walk.Sent r.end bytes)
-  pub wrote : t.written ≡ sum_by written_of (take t.sent t.transfer.msgs)
+  pub wrote : HasCounted t
   pub route : t.walk.route ≡ s.walk.route
 
 -- the cut that a line step tells
@@ -214,14 +214,18 @@ pub record IsRefusedIn {C S : Type 0} (c : CallerGhosts C S) (b : BoardView) (ro
   pub room : new.room + 1 ≡ old.room
   pub room_bytes : new.room_bytes ≡ old.room_bytes
 
+-- a message of the caller's own that comes next is on a bus of the board, and one is left
+pub record MayCall {C : Type 0} (b : BoardView) (next : NextMsg) (s : Seat C) : Type 0 where
+  pub on_bus : next.purpose ≡ purpose.Call → s.transfer.bus < buses b
+  pub more : next.purpose ≡ purpose.Call → s.sent < length s.transfer.msgs
+
 -- the message that comes next may be sent over the port of its root: one of the caller's own is left
 pub record MaySpeak {C : Type 0} (b : BoardView) (tells : Bool) (next : NextMsg) (sockets : List RootPort) (s : Seat C) : Type 0 where
   pub socket : RootPort
   pub here : slice_get sockets s.port ≡ Some socket
   pub may : MaySend b tells s.transfer s.sent next socket
-  pub on_bus : next.purpose ≡ purpose.Call → s.transfer.bus < buses b
-  pub more : next.purpose ≡ purpose.Call → s.sent < length s.transfer.msgs
-  pub wrote : s.written ≡ sum_by written_of (take s.sent s.transfer.msgs)
+  pub call : MayCall b next s
+  pub wrote : HasCounted s
 
 -- it was sent there, and no other port is another
 pub record HasSpoken {C : Type 0} (b : BoardView) (tells : Bool) (next : NextMsg) (old new : List RootPort) (bytes : List ℕ) (r : MsgResult)

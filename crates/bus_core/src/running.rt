@@ -1,10 +1,10 @@
 //! Many steps: by a schedule, and then until each script is used up.
-ghost use Rattle.std.specs.Prelude.{◌≡◌, ℕ, ◌<◌, true, false, IsTrue, List, [], All, Some, slice_get};
+ghost use Rattle.std.specs.Prelude.{◌≡◌, ℕ, ◌<◌, true, false, IsTrue, List, [], All, Some};
 ghost use Rattle.bus_laws.specs.Following.{GoesOnBy};
 ghost use Rattle.i2c_base.specs.declared.entry.Entry.{Entry};
 ghost use Rattle.i2c_base.specs.Limits.{MOST_CALLERS};
 ghost use Rattle.bus_core.specs.Kept.{IsCore, HasCome};
-ghost use Rattle.bus_core.specs.Ready.{IsHeldUpAt, AllHeldUp, HasPlace};
+ghost use Rattle.bus_core.specs.Ready.{IsCallerHeldUp, AllHeldUp, HasPlace};
 ghost use Rattle.bus_core.specs.Runs.{HasMade, HasMadeLeast, HasWaited, KeepsSchedule};
 ghost use Rattle.bus_core.specs.State.{AllThrough, state_of};
 
@@ -21,7 +21,7 @@ pub fn advance<P: Port, C: Caller>(parts: &mut CoreParts<'_, P, C>, caller: u8) 
     ensures core { IsCore P.Port C.Caller parts.new }
     ensures made { result ≡ true → HasMade P.Port C.Caller caller parts.old parts.new }
     ensures waited { result ≡ false → HasWaited P.Port C.Caller caller parts.old parts.new }
-    ensures held_up { result ≡ false → (place : ℕ) → slice_get parts.old.places.items caller ≡ Some (Some place) → IsHeldUpAt parts.old place }
+    ensures held_up { result ≡ false → IsCallerHeldUp parts.old caller }
 {
     let Some(place) = parts.places[usize::from(caller)] else {
         return false;
@@ -36,7 +36,7 @@ pub fn advance<P: Port, C: Caller>(parts: &mut CoreParts<'_, P, C>, caller: u8) 
 fn is_through<P: Port, C: Caller>(parts: &CoreParts<'_, P, C>, number: u8) -> bool
     requires core { IsCore P.Port C.Caller parts.now }
     requires known { number < MOST_CALLERS }
-    ensures through { result ≡ true → (place : ℕ) → slice_get parts.now.places.items number ≡ Some (Some place) → IsHeldUpAt parts.now place }
+    ensures through { result ≡ true → IsCallerHeldUp parts.now number }
     ensures there { result ≡ false → HasPlace parts.now.places.items number }
 {
     match parts.places[usize::from(number)] {

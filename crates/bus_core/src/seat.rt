@@ -1,5 +1,5 @@
 //! A caller in the core, and where it stands.
-ghost use Rattle.std.specs.Prelude.{◌≡◌, ◌≢◌, ◌+◌, ◌<◌, ◌≤◌, true, false, [], ◌∷◌, ◌++◌, length, take, sum_by, Option, None, Some, IfSome, slice_get, if◌then◌else◌};
+ghost use Rattle.std.specs.Prelude.{◌≡◌, ◌≢◌, ◌+◌, ◌<◌, ◌≤◌, true, false, [], ◌∷◌, ◌++◌, length, Option, None, Some, IfSome, slice_get, if◌then◌else◌};
 ghost use Rattle.i2c_base.specs.Limits.{MOST_BYTES};
 ghost use Rattle.i2c_base.specs.declared.reply.Cut.TheVariants as cut_at;
 ghost use Rattle.i2c_base.specs.Need.{bytes_given};
@@ -8,7 +8,7 @@ ghost use Rattle.i2c_base.specs.declared.entry.Purpose.TheVariants as purpose;
 ghost use Rattle.bus_journal.specs.Borrowed.{entry_seen, most_bytes};
 ghost use Rattle.i2c_base.specs.declared.reply.Reply.{Reply};
 ghost use Rattle.i2c_base.specs.Fitting.{Fits};
-ghost use Rattle.i2c_base.specs.Transfer.{IsTransfer, TransferView, written_of};
+ghost use Rattle.i2c_base.specs.Transfer.{IsTransfer, TransferView};
 ghost use Rattle.i2c_spec.specs.Grant.{grant_of};
 ghost use Rattle.i2c_spec.specs.Tree.{buses, root_of};
 ghost use Rattle.bus_spec.specs.Grammar.{is_over, walk_for};
@@ -27,9 +27,9 @@ ghost use Rattle.mux_plan.specs.Plans.{outcome_of};
 ghost use Rattle.bus_core.specs.Kept.{IsSeated, roots_of};
 ghost use Rattle.bus_core.specs.Looks.{IsLookedAt};
 ghost use Rattle.bus_core.specs.Opening.{HasRoot};
-ghost use Rattle.bus_core.specs.Places.{HasSpare, asked_next, owed_by, walk_left};
+ghost use Rattle.bus_core.specs.Places.{HasCounted, HasSpare, asked_next, owed_by, walk_left};
 ghost use Rattle.bus_core.specs.Replies.{reply_decided};
-ghost use Rattle.bus_core.specs.Seats.{HasAdvanced, HasEnded, HasLooked, HasPassed, IsOn, IsUnused, MayEnd, MayHear, TellsAction, TellsSettle, got_heard, updates_ahead};
+ghost use Rattle.bus_core.specs.Seats.{HasAdvanced, HasEnded, HasLooked, HasPassed, IsOn, IsUnused, MayCall, MayEnd, MayHear, TellsAction, TellsSettle, got_heard, updates_ahead};
 
 use crate::marks::seen as words_of;
 use crate::replies::{Decided, Replies};
@@ -178,8 +178,7 @@ impl<C: Caller> Seat<C> {
 
     // To whom its next message leads; a control message, which is none of its own, to nobody.
     fn grant(&self, board: &CachedBoard<'_>, next: &NextMsg) -> Grant
-        requires on_bus { next.now.purpose ≡ purpose.Call → self.now.transfer.bus < buses board.now }
-        requires more { next.now.purpose ≡ purpose.Call → self.now.sent < length self.now.transfer.msgs }
+        requires { MayCall board.now next.now self.now }
         ensures whole { next.now.purpose ≡ purpose.Call → IsTransfer self.now.transfer.msgs self.now.transfer.out }
         ensures grants { next.now.purpose ≡ purpose.Call → result ≡ grant_of board.now self.now.transfer.bus (call_message self.now.transfer self.now.sent).addr self.now.transfer.force }
     {
@@ -195,9 +194,8 @@ impl<C: Caller> Seat<C> {
 
     /// Its transfer, as far as the message goes that comes next of its walk.
     pub fn cursor(&self, board: &CachedBoard<'_>, next: &NextMsg) -> TransferCursor<'_>
-        requires on_bus { next.now.purpose ≡ purpose.Call → self.now.transfer.bus < buses board.now }
-        requires more { next.now.purpose ≡ purpose.Call → self.now.sent < length self.now.transfer.msgs }
-        requires wrote { self.now.written ≡ sum_by written_of (take self.now.sent self.now.transfer.msgs) }
+        requires call { MayCall board.now next.now self.now }
+        requires wrote { HasCounted self.now }
         ensures value { result ≡ record { transfer = self.now.transfer; sent = self.now.sent; written = self.now.written; grant = result.grant } }
         ensures next { next.now.purpose ≡ purpose.Call → HasNext board.now result }
         ensures whole { next.now.purpose ≡ purpose.Call → IsTransfer self.now.transfer.msgs self.now.transfer.out }
@@ -213,9 +211,9 @@ impl<C: Caller> Seat<C> {
     /// Counts its next message, which went through.
     pub fn count(&mut self)
         requires more { self.old.sent < length self.old.transfer.msgs }
-        requires wrote { self.old.written ≡ sum_by written_of (take self.old.sent self.old.transfer.msgs) }
+        requires wrote { HasCounted self.old }
         ensures sent { self.new.sent ≡ self.old.sent + 1 }
-        ensures wrote { self.new.written ≡ sum_by written_of (take self.new.sent self.new.transfer.msgs) }
+        ensures wrote { HasCounted self.new }
         ensures same { self.new ≡ record self.old { sent = self.new.sent; written = self.new.written } }
     {
         let msg = self.transfer.msgs()[usize::from(self.sent)];
@@ -244,7 +242,7 @@ impl<C: Caller> Seat<C> {
         requires { MayHear next.now bytes.now msg.now self.old }
         ensures gone { self.new.sent ≡ (if is_call_through next.now.purpose msg.now.end then self.old.sent + 1 else self.old.sent) }
         ensures got { self.new.replies ≡ record self.old.replies { got = got_heard next.now.purpose msg.now.reading bytes.now self.old.replies.got } }
-        ensures wrote { self.new.written ≡ sum_by written_of (take self.new.sent self.new.transfer.msgs) }
+        ensures wrote { HasCounted self.new }
         ensures same { self.new ≡ record self.old { sent = self.new.sent; written = self.new.written; replies = self.new.replies; cut = message_cut next.now.purpose next.now.part msg.now.end } }
     {
         self.cut = cut_by(next.purpose, next.part, msg.end);

@@ -10,7 +10,7 @@ use Rattle.bus_core.proofs.readiness.ready.Goals.{in-Some+else-can_step, in_defa
 use Rattle.bus_core.proofs.readiness.ready.Goals as goal
 
 pub loop-number-init : goal.loop-number-init
-loop-number-init g c m q low at = absurd (omega (arith, low))
+loop-number-init g c m low q at = absurd (omega (arith, low))
 
 pub can_step-requires-clause-rests : goal.can_step-requires-clause-rests
 can_step-requires-clause-rests g c κs within = record { kept = c.requires.core.kept; looked = c.requires.core.looked }
@@ -28,7 +28,7 @@ can_step-requires-clause-there g c κs within =
     omega (arith, low, all, c.from-in-Some.ensures)
 
 pub loop-number-preserved : goal.loop-number-preserved
-loop-number-preserved g c m q low at =
+loop-number-preserved g c m low q at =
     let x = c.args.parts.now in
     let all : c.loop-number.number < length x.places.items = omega (arith, c.requires.core.placed.all, c.loop-number-test.true) in
     elim (eqb_tells m c.loop-number.number) [
@@ -42,7 +42,7 @@ loop-number-preserved g c m q low at =
             all c.index.ensures w.in_default.is in
             absurd (let f : Some None ≡ Some (Some q) = sym here ∙ ap (slice_get x.places.items) (sym e.1) ∙ at in cc))
       ])
-      | inr e ↦ c.loop-number.invariant m q (omega (arith, low, e.1)) at
+      | inr e ↦ c.loop-number.invariant m (omega (arith, low, e.1)) q at
     ]
 
 pub returns-then-can_step-clause-some : goal.returns-then-can_step-clause-some
@@ -59,4 +59,4 @@ returns-then-can_step-clause-some g c =
 pub returns-clause-none : goal.returns-clause-none
 returns-clause-none g c is m q at =
     let low : m < length c.args.parts.now.places.items = slice_get_within c.args.parts.now.places.items m (Some q) at in
-    c.loop-number.invariant m q (omega (arith, low, c.requires.core.placed.all, c.loop-number-test.false)) at
+    c.loop-number.invariant m (omega (arith, low, c.requires.core.placed.all, c.loop-number-test.false)) q at

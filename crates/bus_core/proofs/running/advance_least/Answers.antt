@@ -10,7 +10,7 @@ use Rattle.bus_core.proofs.running.advance_least.Goals.{else-not-is_through-via-
 use Rattle.bus_core.proofs.running.advance_least.Goals as goal
 
 pub loop-number-init : goal.loop-number-init
-loop-number-init g c = record { same = refl; before = λ m q low at. absurd (omega (arith, low)) }
+loop-number-init g c = record { same = refl; before = λ m low q at. absurd (omega (arith, low)) }
 
 pub advance-requires-clause-core : goal.advance-requires-clause-core
 advance-requires-clause-core g c κs within = subst (λ (y : CoreParts _ _). IsCore g.P.Port g.C.Caller y)
@@ -43,7 +43,7 @@ loop-number-preserved g c =
             ∙ same
         | else-not-is_through-via-else-not-is_through w ↦ w.parts-is ∙ same
       ];
-      before = λ m q below at.
+      before = λ m below q at.
           elim (eqb_tells m c.loop-number.number) [
             | inl e ↦ (let here : slice_get now.places.items c.loop-number.number ≡ Some (Some q) =
                 ap (λ (y : CoreParts _ _). slice_get y.places.items c.loop-number.number) same ∙ ap (slice_get x.places.items) (sym e.1)
@@ -54,7 +54,7 @@ loop-number-preserved g c =
                   | else-not-is_through-via-else-not-is_through w ↦ subst (λ (y : CoreParts _ _). IsHeldUpAt y q) same
                       (c.is_through.ensures.through w.if-not-is_through.false q here)
                 ])
-            | inr e ↦ c.loop-number.invariant.before m q (omega (arith, below, e.1)) at
+            | inr e ↦ c.loop-number.invariant.before m (omega (arith, below, e.1)) q at
           ];
     }
 
@@ -66,5 +66,5 @@ returns-clause-none g c is = (
   c.loop-number.invariant.same,
   λ m q at.
       let low : m < length c.args.parts.now.places.items = slice_get_within c.args.parts.now.places.items m (Some q) at in
-      c.loop-number.invariant.before m q (omega (arith, low, c.requires.core.placed.all, c.loop-number-test.false)) at,
+      c.loop-number.invariant.before m (omega (arith, low, c.requires.core.placed.all, c.loop-number-test.false)) q at,
 )

@@ -28,7 +28,7 @@ cursor-cursor-requires g c =
     let old = c.index_mut-seat.result.now in
     let m = comes-next x c.args.place c.args.next.now c.requires.next old c.index_mut-seat.ensures.value in
     let speak = may-speak g.P.Port g.C.Caller x c.requires.rests.kept c.args.place old m.here m.job m.left c.args.next.now m.first m.of in
-    record { on_bus = speak.on_bus; more = speak.more; wrote = speak.wrote }
+    record { call = speak.call; wrote = speak.wrote }
 
 pub index_mut-requires : goal.index_mut-requires
 index_mut-requires g c =
