@@ -41,12 +41,13 @@ impl Model for BusLines {
 }
 
 impl BusLines {
-    /// The lines of this root as the board is opened: both are free, and nobody is in a message.
+    /// The lines of this root as the board is opened: both are free, nobody is in a message, and nothing has happened on them.
     pub fn open(alloc: Global, board: &Accepted, root: SegId) -> Result<Self, NoMemory>
         ensures rooted { IfOk result (λ lines. lines.rooted ≡ record { board = board.now; root = root }) }
         ensures let_go { IfOk result (λ lines. AreLetGo lines.wire) }
         ensures free { IfOk result (λ lines. IsFree lines.rooted lines.bus) }
         ensures world { IfOk result (λ lines. world_at lines.rooted false lines.bus ≡ opening_world board.now root) }
+        ensures counts { IfOk result (λ lines. lines.bus.counts ≡ record { edges = 0; flips = 0 }) }
     {
         board.board().roots();
         chips_stand_before_devices();
