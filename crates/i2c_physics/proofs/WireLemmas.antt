@@ -3,13 +3,16 @@ use Rattle.std.proofs.Common.{◌≡◌, ℕ, ◌+◌, ◌<◌, ◌≤◌, List,
 use Rattle.std.specs.Prelude.{All, min, sum_by}
 use Rattle.std.specs.List.{range_with_len}
 use Rattle.std.proofs.lemmas.List.{length-map, map-append, get_or-map}
+use Rattle.std.proofs.lemmas.List.Elements.{All-head, All-tail}
 use Rattle.std.proofs.lemmas.List.Sums.{sum_by-append}
+use Rattle.std.proofs.lemmas.Simd.{splat_is_map}
 use Rattle.i2c_base.specs.Board.{BoardView}
 use Rattle.i2c_spec.specs.World.{AreWorldsOf, openings}
 use Rattle.ports.specs.Causes.{MOST}
 use Rattle.i2c_bits.specs.PortViews.{BitPortView}
 use Rattle.i2c_physics.specs.SimPorts.{PortView}
 use Rattle.i2c_physics.specs.BitRigs.{WiredView, wired, opening_wired, parted, edges_of}
+use Rattle.i2c_physics.specs.SimRigs.{none_of}
 use Rattle.i2c_physics.proofs.PlugLemmas.{opened-count, opened-all, opened-worlds}
 use Rattle.i2c_physics.proofs.RigLemmas.{count_of_worlds}
 
@@ -38,6 +41,18 @@ one_more_edge ps p sum more new was one is =
     let all : sum_by (λ (q : BitPortView). q.counts.edges) (ps ++ p ∷ []) ≡ sum_by (λ (q : BitPortView). q.counts.edges) ps + (0 + p.counts.edges) =
     sum_by-append (λ (q : BitPortView). q.counts.edges) ps (p ∷ []) in
     omega (arith, was, one, is, all)
+
+-- where none of these ports has counted a fault, their counts are all 0
+no_fault : (ps : List BitPortView) → All (λ (p : BitPortView). p.faults ≡ 0) ps → map (λ (p : BitPortView). 0) ps ≡ map (λ (p : BitPortView). p.faults) ps
+no_fault [] none = refl
+no_fault (p ∷ ps) none =
+    let head = All-head (λ (q : BitPortView). q.faults ≡ 0) p ps none in
+    let rest = no_fault ps (All-tail (λ (q : BitPortView). q.faults ≡ 0) p ps none) in
+    cc
+
+pub none_counted : (ps : List BitPortView) → All (λ (p : BitPortView). p.faults ≡ 0) ps
+    → none_of (length (map (λ (p : BitPortView). p.log) ps)) ≡ map (λ (p : BitPortView). p.faults) ps
+none_counted ps none = splat_is_map ps _ 0 (sym (length-map ps (λ (p : BitPortView). p.log))) ∙ no_fault ps none
 
 -- one port more is taken apart
 pub one_more_parted : (old now new : List PortView) (ps : List BitPortView) (p : BitPortView) → now ≡ old ++ map parted ps

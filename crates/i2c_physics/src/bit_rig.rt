@@ -1,11 +1,10 @@
 //! The rig whose ports drive two wires, which takes every board.
-ghost use Rattle.std.specs.Prelude.{◌≡◌, ◌≢◌, ℕ, ◌≤◌, [], true, false, List, Option, Some, None, Err, OnOk, OnErr, IfOk, IsTrue, All, length, map, is_some, unwrap_or, vec_len};
+ghost use Rattle.std.specs.Prelude.{◌≡◌, ◌≢◌, [], true, false, Some, None, Err, OnOk, OnErr, IfOk, All, length, map, is_some, unwrap_or};
 ghost use Rattle.std.specs.List.{range_with_len};
-ghost use Rattle.i2c_base.specs.declared.port.Phase.{Phase};
-ghost use Rattle.i2c_spec.specs.World.{AreWorldsOf, openings, devices_of};
-ghost use Rattle.ports.specs.Causes.{Rose, counted};
+ghost use Rattle.i2c_spec.specs.World.{AreWorldsOf, devices_of};
+ghost use Rattle.ports.specs.Causes.{counted};
 ghost use Rattle.i2c_physics.specs.BitRigs.{edges_of, opening_wired, wired};
-ghost use Rattle.i2c_physics.specs.SimRigs.{no_board, kept_states};
+ghost use Rattle.i2c_physics.specs.SimRigs.{no_board, none_of, kept_states};
 
 use crate::WirePort;
 use crate::parted_port::PartsBuffer;
@@ -18,7 +17,8 @@ use std::marker::Model;
 use std::snapshot::Snapshot;
 use targets::DeviceState;
 
-/// The rig of the same boards as `SimRig`, whose ports drive the two wires of each root, bit by bit. Its ports never fail.
+/// The rig of the same boards as `SimRig`, whose ports drive the two wires of each root, bit by bit. No call on one fails, so that
+/// the count of each port that is given back is 0, by what is seen of the rig.
 #[derive(Drop)]
 pub struct BitRig {
     sim: SimRig,
@@ -36,7 +36,7 @@ impl Model for BitRig {
 
     ghost Value = { BitRigView };
 
-    ghost view = { λ r. record { sim = r.sim; logs = option_map_or (λ ports. map (λ p. p.log) ports.value.items) r.given []; port_faults = option_map_or (λ ports. map (λ p. p.faults) ports.value.items) r.given []; edges = r.edges } };
+    ghost view = { λ r. record { sim = r.sim; logs = option_map_or (λ ports. map (λ p. p.log) ports.value.items) r.given []; edges = r.edges } };
 
     ghost invariant = { λ r. r.buffer ≡ r.sim.room };
 }
@@ -44,7 +44,7 @@ impl Model for BitRig {
 impl BitRig {
     /// A rig that was never plugged.
     pub fn new() -> Self
-        ensures { result ≡ record { sim = record { faults = 0; plugs = 0; unplugs = 0; room = None; kept = None; given = 0 }; logs = []; port_faults = []; edges = 0 } }
+        ensures { result ≡ record { sim = record { faults = 0; plugs = 0; unplugs = 0; room = None; kept = None; given = 0 }; logs = []; edges = 0 } }
     {
         BitRig {
             sim: SimRig::new(),
@@ -130,28 +130,23 @@ impl Rig for BitRig {
 
     ghost logs = { λ r. r.logs };
 
-    ghost port_faults = { λ r. r.port_faults };
+    // A 0 for each port that was last given back, which is its count (`counts` of `unplug`).
+    ghost port_faults = { λ r. none_of (length r.logs) };
 
-    /// It never fails, but for want of memory.
+    /// It never fails, but for want of memory. Neither wire of a root has changed yet.
     fn plug(&mut self, alloc: Global, board: &Accepted) -> Result<Vec<WirePort>, RigFail>
-        ensures later { self.old.sim.faults ≤ self.new.sim.faults }
-        ensures cause { result ≡ Err RigFail.Failed → Rose self.old.sim.faults self.new.sim.faults }
-        ensures plugs { self.new.sim.plugs ≡ counted self.old.sim.plugs }
-        ensures unplugs { self.new.sim.unplugs ≡ self.old.sim.unplugs }
-        ensures plugged { OnOk result (is_some self.new.sim.room ≡ true) }
-        ensures unplugged { OnErr result (is_some self.new.sim.room ≡ false) }
-        ensures count { IfOk result (λ ports. vec_len ports ≡ length board.now.roots) }
-        ensures idle { IfOk result (λ ports. All (λ p. p.phase ≡ Phase.Idle) ports.items) }
-        ensures fresh { IfOk result (λ ports. All (λ p. p.faults ≡ 0) ports.items) }
-        ensures empty { IfOk result (λ ports. All (λ p. p.log ≡ []) ports.items) }
-        ensures worlds { IfOk result (λ ports. map (λ p. p.world) ports.items ≡ openings board.now) }
-        ensures board { OnOk result (unwrap_or self.new.sim.room no_board ≡ board.now) }
+        ensures ports { IfOk result (λ ports. map wired ports.items ≡ map (opening_wired board.now) (range_with_len 0 (length board.now.roots))) }
+        ensures counts { IfOk result (λ ports. All (λ p. p.counts ≡ record { edges = 0; flips = 0 }) ports.items) }
+        ensures board { OnOk result (self.new.sim.room ≡ Some board.now) }
+        ensures unplugged { OnErr result (self.new.sim.room ≡ None) }
+        ensures kept { self.new.sim.kept ≡ None }
+        ensures edges { self.new.edges ≡ 0 }
 
         // It takes every board, and counts no fault.
         ensures never { result ≢ Err RigFail.Failed }
         ensures calm { self.new.sim.faults ≡ self.old.sim.faults }
-        ensures kept { self.new.sim.kept ≡ None }
-        ensures edges { self.new.edges ≡ 0 }
+        ensures plugs { self.new.sim.plugs ≡ counted self.old.sim.plugs }
+        ensures unplugs { self.new.sim.unplugs ≡ self.old.sim.unplugs }
     {
         self.begin();
         match open_ports(alloc, board) {
@@ -168,14 +163,14 @@ impl Rig for BitRig {
         ensures plugged { is_some self.new.sim.room ≡ false }
         ensures plugs { self.new.sim.plugs ≡ self.old.sim.plugs }
         ensures unplugs { self.new.sim.unplugs ≡ counted self.old.sim.unplugs }
-        ensures later { self.old.sim.faults ≤ self.new.sim.faults }
-        ensures counts { self.new.port_faults ≡ map (λ p. p.faults) ports.items }
+        ensures counts { none_of (length self.new.logs) ≡ map (λ p. p.faults) ports.items }
         ensures states { AreWorldsOf (unwrap_or self.old.sim.room no_board) (map (λ p. p.world) ports.items)
             → kept_states self.new.sim.kept ≡ devices_of (unwrap_or self.old.sim.room no_board) (map (λ p. p.world) ports.items) }
         ensures logs { AreWorldsOf (unwrap_or self.old.sim.room no_board) (map (λ p. p.world) ports.items)
             → self.new.logs ≡ map (λ p. p.log) ports.items }
 
-        // It never counts a fault, and it tells how often SCL rose.
+        // No call on a port has failed. It never counts a fault, and it tells how often SCL rose.
+        ensures none { All (λ p. p.faults ≡ 0) ports.items }
         ensures calm { self.new.sim.faults ≡ self.old.sim.faults }
         ensures edges { self.new.edges ≡ edges_of ports.items }
     {

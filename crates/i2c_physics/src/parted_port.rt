@@ -1,5 +1,5 @@
 //! A port on two wires that was taken apart, and the room for one of each root.
-ghost use Rattle.std.specs.Prelude.{◌≡◌, ◌<◌, ◌≤◌, ◌+◌, ◌++◌, [], ◌∷◌, length, map, min, vec_len, vec_capacity, IfOk};
+ghost use Rattle.std.specs.Prelude.{◌≡◌, ◌<◌, ◌≤◌, ◌+◌, ◌++◌, [], ◌∷◌, All, length, map, min, vec_len, vec_capacity, IfOk};
 ghost use Rattle.ports.specs.Causes.{MOST};
 ghost use Rattle.i2c_physics.specs.BitRigs.{edges_of, parted};
 
@@ -79,6 +79,7 @@ impl PartsBuffer {
     pub fn fill(self, ports: Vec<WirePort>) -> PartedPorts
         ensures ports { length ports.items ≤ length self.roots → result.ports.items ≡ map parted ports.items }
         ensures edges { result.edges ≡ edges_of ports.items }
+        ensures faults { All (λ p. p.faults ≡ 0) ports.items }
     {
         let mut parted = self.ports;
         let edges = take_apart(&mut parted, ports);
@@ -93,6 +94,7 @@ impl PartsBuffer {
 fn take_apart(done: &mut Vec<PartedPort>, ports: Vec<WirePort>) -> u64
     ensures ports { vec_len done.old + vec_len ports ≤ vec_capacity done.old → done.new.items ≡ done.old.items ++ map parted ports.items }
     ensures edges { result ≡ edges_of ports.items }
+    ensures faults { All (λ p. p.faults ≡ 0) ports.items }
 {
     let mut edges: u64 = 0;
     for port in ports {
@@ -106,6 +108,7 @@ fn take_one(done: &mut Vec<PartedPort>, port: WirePort) -> u64
     ensures port { vec_len done.old < vec_capacity done.old → done.new.items ≡ done.old.items ++ parted port ∷ [] }
     ensures room { vec_capacity done.old ≤ vec_capacity done.new }
     ensures edges { result ≡ min port.counts.edges MOST }
+    ensures faults { port.faults ≡ 0 }
 {
     let parts = port.into_parts();
     let edges = parts.lines.edges();

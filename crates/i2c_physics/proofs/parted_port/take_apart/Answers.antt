@@ -1,5 +1,6 @@
-use Rattle.std.proofs.Common.{◌+◌, ◌<◌, ◌∷◌, [], length, map, vec_len, vec_capacity, append-nil, refl, sym, ap, ◌∙◌, arith, rules}
+use Rattle.std.proofs.Common.{◌≡◌, ◌+◌, ◌<◌, ◌∷◌, [], length, map, vec_len, vec_capacity, append-nil, refl, sym, ap, ◌∙◌, arith, rules}
 use Rattle.std.proofs.lemmas.List.{length-append, length-map}
+use Rattle.std.proofs.lemmas.List.Elements.{All-nil, All-push}
 use Rattle.i2c_physics.specs.BitRigs.{parted}
 use Rattle.i2c_physics.proofs.WireLemmas.{one_more_edge, one_more_parted}
 use Rattle.i2c_physics.proofs.parted_port.take_apart.Goals as goal
@@ -18,6 +19,7 @@ loop-port-preserved c = record {
       (c.take_one.ensures.port room);
   edges = one_more_edge c.loop-port.yielded c.in-Some.port c.loop-port.edges c.take_one.result c.saturating_add-edges.result c.loop-port.invariant.edges
       c.take_one.ensures.edges (search rules);
+  faults = All-push (λ p. p.faults ≡ 0) c.loop-port.yielded c.in-Some.port c.loop-port.invariant.faults c.take_one.ensures.faults;
 }
 
 pub loop-port-init : goal.loop-port-init
@@ -26,4 +28,5 @@ loop-port-init c = record {
   whole = omega (arith, c.into_iter-port-iterator.ensures.into_iter_gives.1);
   kept = λ room. sym (append-nil _);
   edges = refl;
+  faults = All-nil (λ p. p.faults ≡ 0);
 }

@@ -1,5 +1,6 @@
 -- There is room for the ports that are left.
 use Rattle.std.proofs.Common.{◌≡◌, ◌≤◌, ◌+◌, ◌++◌, length, map, vec_len, vec_capacity}
+use Rattle.std.specs.Prelude.{All}
 use Rattle.i2c_physics.specs.BitRigs.{edges_of, parted}
 use Rattle.i2c_physics.proofs.parted_port.take_apart.Given as goal
 
@@ -9,4 +10,5 @@ invariant-loop-port l = record {
   whole : length l.yielded + l.port-iterator.rest.len ≡ vec_len l.fn.ports;
   kept : vec_len l.fn.done + vec_len l.fn.ports ≤ vec_capacity l.fn.done → l.done.items ≡ l.fn.done.items ++ map parted l.yielded;
   edges : l.edges ≡ edges_of l.yielded;
+  faults : All (λ p. p.faults ≡ 0) l.yielded;
 }

@@ -5,7 +5,7 @@ use Rattle.i2c_spec.specs.World.{World, AreWorldsOf, devices_of}
 use Rattle.i2c_physics.specs.BitRigs.{BitRigView, parted}
 use Rattle.i2c_physics.specs.SimPorts.{PortView}
 use Rattle.i2c_physics.specs.SimRigs.{no_board}
-use Rattle.i2c_physics.proofs.WireLemmas.{parted_worlds, room_enough}
+use Rattle.i2c_physics.proofs.WireLemmas.{none_counted, parted_worlds, room_enough}
 use Rattle.i2c_physics.proofs.bit_rig.BitRigRig.unplug.Goals as goal
 
 -- the board of the room is the rig's
@@ -38,3 +38,7 @@ returns-in-Some-clause-states c = λ of.
     c.take_devices.ensures.states (are_those c of)
     ∙ ap (λ (b : BoardView). devices_of b (map (λ (p : PortView). p.world) c.fill-parted.result.ports.items)) (sym (same_board c))
     ∙ ap (devices_of (unwrap_or c.args.self.now.sim.room no_board)) (worlds_are c of)
+
+pub returns-in-Some-clause-counts : goal.returns-in-Some-clause-counts
+returns-in-Some-clause-counts c =
+    rw c.of.ensures (none_counted c.args.ports.items c.fill-parted.ensures.faults)
