@@ -1,5 +1,5 @@
 //! Worked examples of the parts of a board, each told apart by the front of its line.
-use crate::{chips, held, lines, transfers, trees, wires};
+use crate::{chips, held, lines, reads, transfers, trees, wires};
 use case_parts::{Page, board_in, parted};
 use i2c_board::Accepted;
 use std::alloc::Global;
@@ -10,6 +10,7 @@ fn answer_on(page: &mut Page, alloc: Global, board: &Accepted, kind: &str, words
     match kind {
         "tree" => trees::answer_all(page, board.board(), words),
         "wires" => wires::answer_all(page, alloc, board, words),
+        "edges" => reads::answer_all(page, alloc, board, words),
         "flat" => transfers::answer_all(page, alloc, board, words),
         _ => page.put(" no kind of example"),
     }

@@ -5,6 +5,7 @@
 //! - `tree BOARD:` questions on the tree of a board of `data/` (`trees::answer_all`)
 //! - `wires BOARD:` calls on the wires of its first root (`wires::answer_all`)
 //! - `held LOOKS..:` calls on a port over two wires of no board, with register devices that hold the clock (`held::answer_all`)
+//! - `edges BOARD:` reads of registers on its first root, and how often SCL rises in each (`reads::answer_all`)
 //! - `flat BOARD:` transfers in the flat world, with a semicolon between them (`transfers::answer_all`)
 //! - `line LIMIT:` lines of a script over a board with this block limit, with a semicolon between them (`lines::answer_all`)
 //!
@@ -18,6 +19,7 @@ mod chips;
 mod driver;
 mod held;
 mod lines;
+mod reads;
 mod transfers;
 mod trees;
 mod watched;

@@ -1,0 +1,25 @@
+-- How often SCL rose on ports of which one was read.
+use Rattle.std.proofs.Common.{◌≡◌, ℕ, ◌+◌, ◌<◌, ◌≤◌, List, length, get_or, set, ap, arith}
+use Rattle.std.specs.Prelude.{All, sum_by}
+use Rattle.std.proofs.lemmas.List.Elements.{All-get_or, All-weaker}
+use Rattle.std.proofs.lemmas.List.Sums.{sum_by-le, sum_by-set}
+use Rattle.i2c_bits.specs.PortViews.{BitPortView}
+use Rattle.i2c_physics.specs.BitRigs.{edges_of}
+
+-- nothing has happened on its wires
+abbrev pub IsStill : BitPortView → Type 0
+IsStill p = p.counts ≡ record { edges = 0; flips = 0 }
+
+none_rose : (ps : List BitPortView) → All IsStill ps → sum_by (λ (p : BitPortView). p.counts.edges) ps ≡ 0
+none_rose ps still =
+    let none : All (λ (p : BitPortView). p.counts.edges ≤ 0) ps =
+    All-weaker IsStill (λ (p : BitPortView). p.counts.edges ≤ 0) (λ p is. let e = ap (λ c. c.edges) is in omega (arith, e)) ps still in
+    omega (arith, sum_by-le (λ (p : BitPortView). p.counts.edges) 0 ps none)
+
+-- behind calls on the first of them
+pub edges_of_one : (ps : List BitPortView) (old new : BitPortView) (n : ℕ) → 0 < length ps → All IsStill ps → n < 256 → old ≡ get_or ps 0 old
+    → new.counts.edges ≡ old.counts.edges + n → edges_of (set ps 0 new) ≡ n
+edges_of_one ps old new n some still small first rose =
+    let was = ap (λ c. c.edges) (All-get_or IsStill ps 0 old some still) in
+    let same = ap (λ (p : BitPortView). p.counts.edges) first in
+    omega (arith, none_rose ps still, sum_by-set (λ (p : BitPortView). p.counts.edges) ps 0 new old some, was, same, rose, small)
