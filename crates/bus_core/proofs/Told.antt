@@ -24,12 +24,14 @@ use Rattle.bus_core.specs.Answers.{HasAdded, WaitsFor, HasUsedUp, IsLeast, IsOve
 use Rattle.bus_core.specs.Looks.{AreLooked}
 use Rattle.bus_core.specs.Kept.{asks_in, roots_of, run_of, whole_of, IsKept, IsCore, ArePlaced, HasStepped, HasCome}
 use Rattle.bus_core.specs.Opens.{IsOpenedWith, opening_of, uncalled}
-use Rattle.bus_core.specs.Places.{walk_left, place_of, places_of, script_of, scripts_of}
+use Rattle.bus_core.specs.Places.{walk_left, owed_by, place_of, places_of, script_of, scripts_of}
 use Rattle.bus_core.specs.Ready.{HasPlace, IsLeastReady}
 use Rattle.bus_core.specs.Runs.{HasMade}
-use Rattle.bus_core.specs.State.{CoreState, CoreTold, has_caller, logs_of, now_in, roots_in, state_of, worlds_of}
+use Rattle.bus_core.specs.Replies.{RepliesView, reply_decided}
+use Rattle.bus_core.specs.State.{AreHanded, CoreState, CoreTold, has_caller, logs_of, now_in, roots_in, state_of, worlds_of}
 use Rattle.bus_core.specs.Steps.{IsBlockedAt, HasEndedAt}
 use Rattle.bus_core.specs.declared.parts.CoreParts.{CoreParts}
+use Rattle.bus_core.specs.declared.replies.Decided.{Decided}
 use Rattle.bus_core.specs.declared.seat.Seat.{Seat}
 use Rattle.bus_core.specs.declared.steps.StepAnswer.{StepAnswer}
 use Rattle.bus_core.specs.declared.steps.StepAnswer.TheVariants as answer
@@ -123,6 +125,11 @@ pub added : {P C S : Type 0} (g : PortGhosts P) (c : CallerGhosts C S) (x new : 
     → HasAdded c.asked g.tells caller (state_of g c x) (state_of g c new)
 added g c x new caller made = record { room = made.room; turn = made.turn }
 
+-- what is owed is at most one reply
+handed : (d : Option Decided) (r : RepliesView) (taken settled : List Reply) → settled ≡ taken ++ owed_by d r → AreHanded taken settled
+handed None r taken settled is = inl (is ∙ append-nil taken)
+handed (Some d) r taken settled is = inr (reply_decided d r, is)
+
 module _ {P C S : Type 0} (g : PortGhosts P) (c : CallerGhosts C S) (x : CoreParts P C) (core : IsCore g c x) where
   abbrev state : CoreState S
   state = state_of g c x
@@ -137,6 +144,15 @@ module _ {P C S : Type 0} (g : PortGhosts P) (c : CallerGhosts C S) (x : CorePar
       record {
         stepwise = told.stepwise;
         rests = told.rests;
+        taken = λ k n rs at.
+            let s = map_from (λ (y : Seat C). (y.number, c.taken y.caller)) x.seats.items k (n, rs) at in
+            let spot : CallerTold b (asks_in c x) (now_in c.asked state) s.0.number (walk_left s.0)
+            (c.taken s.0.caller ++ (place_of c s.0).owed) (place_of c s.0).got s.0.cut =
+            told.spots_told k (spot_of (place_of c s.0))
+            (map_at spot_of (places_of c x.seats.items) k (place_of c s.0) (place-here g c x core.kept k s.0 s.1)) in
+            subst (λ (m : ℕ). AreHanded rs ((now_in c.asked state).settled m)) (ap (λ (y : ℕ × List Reply). y.0) s.2)
+            (subst (λ (ys : List Reply). AreHanded ys ((now_in c.asked state).settled s.0.number)) (ap (λ (y : ℕ × List Reply). y.1) s.2)
+            (handed s.0.decided s.0.replies (c.taken s.0.caller) ((now_in c.asked state).settled s.0.number) spot.settled));
         locks = told.locks_told;
         worlds = λ k r w at.
             let q = map_from (λ (p : ℕ × P). (p.0, g.world p.1)) x.ports.items k (r, w) at in

@@ -1,5 +1,5 @@
 -- A core as contracts see it: what it was opened with, and where all stand.
-use Rattle.std.specs.Prelude.{◌≡◌, ℕ, ◌==◌, Bool, true, false, IsTrue, List, [], ◌∷◌, map, reverse, Option, Some, None, slice_get, if◌then◌else◌}
+use Rattle.std.specs.Prelude.{◌≡◌, ℕ, ◌==◌, Bool, true, false, IsTrue, ◌⊎◌, List, [], ◌∷◌, ◌++◌, map, reverse, Option, Some, None, slice_get, if◌then◌else◌}
 use Rattle.i2c_base.specs.declared.caller.Caller.{Ghosts as CallerGhosts}
 use Rattle.i2c_base.specs.declared.port.PortCall.{PortCall}
 use Rattle.i2c_base.specs.declared.reply.Reply.{Reply}
@@ -65,11 +65,16 @@ asks_in_state asked v = asks_of asked v.opening.scripts
 abbrev pub now_in : {S : Type 0} → (S → List Reply → Option TransferView) → CoreState S → Now
 now_in asked v = now v.opening.board (asks_in_state asked v) (reverse v.journal.entries)
 
--- over ports that tell: each entry might come where it did, and no settle is due; the lock words tell what the journal does;
--- each port's world is that of its root, and its log the calls of that
+-- of the replies that are settled for it a caller was handed all, or all but the last one, which it takes at its next step
+abbrev pub AreHanded : (taken settled : List Reply) → Type 0
+AreHanded taken settled = (settled ≡ taken) ⊎ ((last : Reply) × (settled ≡ taken ++ last ∷ []))
+
+-- over ports that tell: each entry might come where it did, and no settle is due; each caller was handed the replies that the journal
+-- settles for it; the lock words tell what the journal does; each port's world is that of its root, and its log the calls of that
 pub record CoreTold {S : Type 0} (asked : S → List Reply → Option TransferView) (v : CoreState S) : Type 0 where
   pub stepwise : IsStepwise v.opening.board MOST_CALLERS (asks_in_state asked v) (reverse v.journal.entries)
   pub rests : (now_in asked v).due ≡ None
+  pub taken : (k n : ℕ) (rs : List Reply) → slice_get v.taken k ≡ Some (n, rs) → AreHanded rs ((now_in asked v).settled n)
   pub locks : LocksTold v.opening.board (now_in asked v) v.locks
   pub worlds : (k r : ℕ) (w : World) → slice_get v.worlds k ≡ Some (r, w) → w ≡ (now_in asked v).worlds r
   pub logs : (k r : ℕ) (log : List PortCall) → slice_get v.logs k ≡ Some (r, log) → log ≡ reverse ((now_in asked v).calls r)
