@@ -14,7 +14,7 @@ use Rattle.bus_spec.specs.Readings.{caller_of}
 use Rattle.bus_spec.specs.Past.{Now, current, now, is_due}
 use Rattle.bus_spec.specs.Places.{outcome_of}
 use Rattle.bus_spec.specs.Tells.{Tells}
-use Rattle.bus_spec.specs.WalkRule.{Deed, quiet, PathStep, Saw, Did, IsWalk, first_done}
+use Rattle.bus_spec.specs.WalkRule.{Deed, without_marks, PathStep, Saw, Did, IsWalk, first_done}
 
 -- A step is an entry, where everything stood before it, and what is done there, with what it marks where it fails by the port
 pub record Step : Type 0 where
@@ -24,8 +24,8 @@ pub record Step : Type 0 where
 
 -- the next step of a walk without a look in front
 abbrev pub deed_next : WalkTree → Deed
-deed_next Ends = quiet (Settle None)
-deed_next (Look ask next) = quiet (Settle None)
+deed_next Ends = without_marks (Settle None)
+deed_next (Look ask next) = without_marks (Settle None)
 deed_next (Then act note next) = record { act = act; marks = note.marks }
 
 -- an entry as the next step of a walk

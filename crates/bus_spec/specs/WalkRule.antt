@@ -34,8 +34,8 @@ pub record Deed : Type 0 where
   pub act : Act
   pub marks : List Mark
 
-abbrev pub quiet : Act → Deed
-quiet act = record { act = act; marks = [] }
+abbrev pub without_marks : Act → Deed
+without_marks act = record { act = act; marks = [] }
 
 abbrev pub for_jobs : Act → List Job → Deed
 for_jobs act way = record { act = act; marks = marks_on way }
@@ -55,7 +55,7 @@ Rule = Job → List Job → List PathStep → JobOutcome → Type 0
 
 -- A JOB ON THE BUS ITSELF. Behind its last message or line step there is the settle, directly, where it decides
 abbrev pub settle_where : Bool → Option Errno → List (Option Deed)
-settle_where true verdict = Some (quiet (Settle verdict)) ∷ []
+settle_where true verdict = Some (without_marks (Settle verdict)) ∷ []
 settle_where false verdict = []
 
 abbrev pub IsJobEnd : Job → List Job → ℕ → ActOutcome → List PathStep → JobOutcome → Type 0
@@ -101,9 +101,9 @@ pub record IsLocked (locks : List LockId) (on : Rule) (job : Job) (whose : List 
   pub middle : List PathStep
   pub frees : List PathStep
   pub all : steps ≡ takes ++ (middle ++ frees)
-  pub taken : map deed_of takes ≡ map (λ l. Some (quiet (Take l))) locks
+  pub taken : map deed_of takes ≡ map (λ l. Some (without_marks (Take l))) locks
   pub job_done : on job whose middle out
-  pub freed : map deed_of frees ≡ map (λ l. Some (quiet (Free l))) (reverse locks)
+  pub freed : map deed_of frees ≡ map (λ l. Some (without_marks (Free l))) (reverse locks)
 
 -- INNER, behind a mux: where its bus carries a mark, the marked mux is closed; the channel is selected; the job is done on the
 -- mux's bus; the mux is deselected, where it doesn't stay as it is. Each part is a job of its own on that bus. A deselect is on
@@ -183,7 +183,7 @@ IsFull b root hs = IsLocked (locks_of root hs) (IsInner b root hs)
 
 -- THE WALK OF A TRANSFER: the full one of its messages on its bus; one settle where it is refused
 abbrev pub IsWalkBy : BoardView → TransferView → Option Errno → List PathStep → Type 0
-IsWalkBy b t (Some e) steps = map deed_of steps ≡ Some (quiet (Settle (Some e))) ∷ []
+IsWalkBy b t (Some e) steps = map deed_of steps ≡ Some (without_marks (Settle (Some e))) ∷ []
 IsWalkBy b t None steps = (out : JobOutcome) × IsFull b (root_of b t.bus) (hops b t.bus) (Call t.bus (messages_of t)) [] steps out
 
 abbrev pub IsWalk : BoardView → TransferView → List PathStep → Type 0

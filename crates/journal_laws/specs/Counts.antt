@@ -1,27 +1,14 @@
--- How many calls of a port failed, by the entries and by the port's own calls.
-use Rattle.std.specs.Prelude.{ℕ, ◌+◌, Bool, true, false, ◌&&◌, if◌then◌else◌, List, [], ◌∷◌}
-use Rattle.i2c_base.specs.declared.port.PortCall.{PortCall}
-use Rattle.i2c_base.specs.declared.port.PortCall.TheVariants as call
+-- How many entries failed by the port, and how many replies tell it.
+use Rattle.std.specs.Prelude.{ℕ, ◌+◌, Bool, true, false, ◌&&◌, List, [], ◌∷◌}
 use Rattle.i2c_base.specs.declared.entry.Entry.{Entry}
 use Rattle.i2c_base.specs.declared.entry.Entry.TheVariants as entry
 use Rattle.i2c_base.specs.declared.errno.Errno.{Errno}
 use Rattle.i2c_base.specs.declared.errno.Errno.TheVariants.{Eremoteio}
 use Rattle.i2c_base.specs.declared.reply.Reply.TheVariants as reply
 use Rattle.i2c_base.specs.Board.{BoardView}
+use Rattle.bus_spec.specs.Faults.{count_if}
 use Rattle.bus_spec.specs.Readings.{of_message, is_on_root}
 use Rattle.bus_spec.specs.Places.{is_cut}
-
-abbrev pub count_if : Bool → ℕ
-count_if b = if b then 1 else 0
-
--- the calls that failed
-abbrev pub is_fault : PortCall → Bool
-is_fault call.Fault = true
-is_fault c = false
-
-abbrev pub faults_in : List PortCall → ℕ
-faults_in [] = 0
-faults_in (c ∷ cs) = count_if (is_fault c) + faults_in cs
 
 -- the messages and line steps on a root that failed by the port
 abbrev pub is_failed : Entry → Bool

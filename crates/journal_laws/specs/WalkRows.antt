@@ -11,21 +11,21 @@ use Rattle.i2c_base.specs.Transfer.{TransferView}
 use Rattle.i2c_spec.specs.Tree.{Hop}
 use Rattle.i2c_spec.specs.Messages.{messages_of}
 use Rattle.bus_spec.specs.Walk.{Mark, Job, Call, Select, SwitchOff, Deselect, Close, Take, Free, Send, Shift, Settle, Passed, Sent, Lined, MarkOf, KeptOf}
-use Rattle.bus_spec.specs.WalkRule.{PathStep, Saw, Did, quiet, for_jobs}
+use Rattle.bus_spec.specs.WalkRule.{PathStep, Saw, Did, without_marks, for_jobs}
 use Rattle.bus_spec.specs.Rows as row
 
 -- steps, shortly
 abbrev pub did_take : LockId → PathStep
-did_take l = Did (quiet (Take l)) Passed
+did_take l = Did (without_marks (Take l)) Passed
 
 abbrev pub did_free : LockId → PathStep
-did_free l = Did (quiet (Free l)) Passed
+did_free l = Did (without_marks (Free l)) Passed
 
 abbrev pub did_send : Job → ℕ → End → List ℕ → PathStep
 did_send job left e bytes = Did (for_jobs (Send job left) (job ∷ [])) (Sent e bytes)
 
 abbrev pub did_settle : Option Errno → PathStep
-did_settle verdict = Did (quiet (Settle verdict)) Passed
+did_settle verdict = Did (without_marks (Settle verdict)) Passed
 
 abbrev pub sees : Option ℕ → PathStep
 sees mark = Saw (MarkOf 0) mark

@@ -11,7 +11,8 @@ ghost use Rattle.bus_spec.specs.Past.{calls_of, kept_channel, mark};
 ghost use Rattle.bus_spec.specs.Stepwise.{IsStepwise};
 ghost use Rattle.bus_spec.specs.Legal.{IsLegal};
 ghost use Rattle.bus_laws.specs.Reach.{AsksForMessages, AsksWithinLimits};
-ghost use Rattle.journal_laws.specs.Counts.{failed_on, failures, faults_in, remotes};
+ghost use Rattle.bus_spec.specs.Faults.{faults_in};
+ghost use Rattle.journal_laws.specs.Counts.{failed_on, failures, remotes};
 ghost use Rattle.journal_laws.specs.Faulty.{HasClosed, HasSwitchedOff, NoneCloses, PassesBy, KeepsCuts};
 
 use i2c_spec::an_accepted_board_is_a_tree;

@@ -28,7 +28,8 @@ use Rattle.bus_laws.specs.Reach.{AsksForMessages}
 use Rattle.bus_laws.proofs.tree.Slots.{eqb-apart}
 use Rattle.bus_laws.proofs.world.TalkLaws.{IsMade, IsOwnEnd, talk-ends}
 use Rattle.bus_laws.proofs.past.Whole.{line_root}
-use Rattle.journal_laws.specs.Counts.{count_if, faults_in, failed_on}
+use Rattle.bus_spec.specs.Faults.{count_if, faults_in}
+use Rattle.journal_laws.specs.Counts.{failed_on}
 
 faults-append : (xs ys : List PortCall) → faults_in (xs ++ ys) ≡ faults_in xs + faults_in ys
 faults-append [] ys = omega arith

@@ -28,7 +28,8 @@ use Rattle.bus_laws.proofs.tree.Slots.{eqb-apart}
 use Rattle.bus_laws.proofs.past.Marks.{home_there}
 use Rattle.bus_laws.proofs.past.Next.{call-reaches}
 use Rattle.bus_laws.proofs.past.Placed.{cut-told}
-use Rattle.journal_laws.specs.Counts.{count_if, is_failed, faults_in, failed_on, failures, has_remote, remotes}
+use Rattle.bus_spec.specs.Faults.{count_if, faults_in}
+use Rattle.journal_laws.specs.Counts.{is_failed, failed_on, failures, has_remote, remotes}
 use Rattle.journal_laws.proofs.past.Due.{by-due}
 use Rattle.journal_laws.proofs.past.Counts.{counts-kept}
 use Rattle.bus_laws.proofs.past.Laws.{sends}
