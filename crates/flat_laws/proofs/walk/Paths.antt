@@ -10,7 +10,7 @@ use Rattle.bus_spec.specs.Walk.{Job, Select, SwitchOff, Deselect, Close, Act, Ta
 use Rattle.bus_spec.specs.Grammar.{Doer, plain, settled, over, by_go, messages, at_bus, locked, part, with_mark, aside, if_sent, if_good, kind_of, closing, left_behind, opened, chosen, crossed, behind, inner, full}
 use Rattle.bus_spec.specs.Grammar as grammar
 use Rattle.flat_laws.specs.Paths.{note_of, deed_by, IsPath, IsDoneBy}
-use Rattle.bus_spec.specs.WalkRule.{Rule, Deed, quiet, for_jobs, is_forward, PathStep, Saw, Did, deed_of, settle_where, IsJobEnd, next_by, next_message, NextOr, AreMessages, IsLineStep, AtBus, IsLocked, IsLeft, IsOpened, IsCrossed, IsPassed, IfGood, IsChosen, IfSent, IsClosed, IsBehindMux, IsPart, IsInner, IsFull}
+use Rattle.bus_spec.specs.WalkRule.{Rule, Deed, without_marks, for_jobs, is_forward, PathStep, Saw, Did, deed_of, settle_where, IsJobEnd, next_by, next_message, NextOr, AreMessages, IsLineStep, AtBus, IsLocked, IsLeft, IsOpened, IsCrossed, IsPassed, IfGood, IsChosen, IfSent, IsClosed, IsBehindMux, IsPart, IsInner, IsFull}
 
 pub path_append : (xs ys : List PathStep) (u v w : WalkTree) → IsPath xs u v → IsPath ys v w → IsPath (xs ++ ys) u w
 path_append [] ys u v w p q = subst (λ (x : WalkTree). IsPath ys x w) (sym p) q
@@ -125,9 +125,9 @@ splits-settled false v o k steps path = record { out = o; done = []; rest = step
 
 leads-settled : (t : Bool) (v : Option Errno) (o : JobOutcome) → Leads (λ k. settled t v (k o)) (SettleRule t v o)
 leads-settled true v o steps out kept k =
-    let s = first_step steps (quiet (Settle v)) [] kept.0 in
+    let s = first_step steps (without_marks (Settle v)) [] kept.0 in
     subst (λ (xs : List PathStep). IsPath xs (Then (Settle v) plain (λ x. k o)) (k out))
-    (sym (s.2 ∙ ap (λ (xs : List PathStep). Did (quiet (Settle v)) s.0 ∷ xs) (no_acts s.1 s.3)))
+    (sym (s.2 ∙ ap (λ (xs : List PathStep). Did (without_marks (Settle v)) s.0 ∷ xs) (no_acts s.1 s.3)))
     (refl, ap k (sym kept.1))
 leads-settled false v o steps out kept k =
     subst (λ (xs : List PathStep). IsPath xs (k o) (k out)) (sym (no_acts steps kept.0)) (ap k (sym kept.1))
@@ -279,15 +279,15 @@ keeps-at_bus =
 
 -- the locks that are freed, with one that is freed last
 freed-more : (l : LockId) (ls : List LockId)
-    → map (λ (i : LockId). Some (quiet (Free i))) (reverse (l ∷ ls))
-    ≡ map (λ (i : LockId). Some (quiet (Free i))) (reverse ls) ++ Some (quiet (Free l)) ∷ []
-freed-more l ls = ap (map (λ (i : LockId). Some (quiet (Free i)))) (reverse-append (l ∷ []) ls)
-    ∙ map_push (λ (i : LockId). Some (quiet (Free i))) (reverse ls) l
+    → map (λ (i : LockId). Some (without_marks (Free i))) (reverse (l ∷ ls))
+    ≡ map (λ (i : LockId). Some (without_marks (Free i))) (reverse ls) ++ Some (without_marks (Free l)) ∷ []
+freed-more l ls = ap (map (λ (i : LockId). Some (without_marks (Free i)))) (reverse-append (l ∷ []) ls)
+    ∙ map_push (λ (i : LockId). Some (without_marks (Free i))) (reverse ls) l
 
 module _ (on : Doer) (rule : Rule) (keeps : Keeps on rule) where
   -- LOCKS
   one_more : (l : LockId) (ls : List LockId) (job : Job) (whose : List Job) (k : JobOutcome → WalkTree) (o : ActOutcome) (a : Deed)
-      (steps : List PathStep) → a ≡ quiet (Take l)
+      (steps : List PathStep) → a ≡ without_marks (Take l)
       → Split (IsLocked ls rule job whose) (λ out. Then (Free l) plain (λ o2. k out)) steps
       → Split (IsLocked (l ∷ ls) rule job whose) k (Did a o ∷ steps)
   one_more l ls job whose k o a steps take s = by s.rest s.all s.goes_on
@@ -311,11 +311,11 @@ module _ (on : Doer) (rule : Rule) (keeps : Keeps on rule) where
                   ∙ append_assoc s.kept.takes (s.kept.middle ++ s.kept.frees) (Did free o2 ∷ [])
                   ∙ ap (λ (xs : List PathStep). s.kept.takes ++ xs) (append_assoc s.kept.middle s.kept.frees (Did free o2 ∷ [])));
               taken = ap (λ (x : Deed). Some x ∷ map deed_of s.kept.takes) take
-                  ∙ ap (λ (xs : List (Option Deed)). Some (quiet (Take l)) ∷ xs) s.kept.taken;
+                  ∙ ap (λ (xs : List (Option Deed)). Some (without_marks (Take l)) ∷ xs) s.kept.taken;
               job_done = s.kept.job_done;
               freed = map_push deed_of s.kept.frees (Did free o2)
                   ∙ ap (λ (xs : List (Option Deed)). xs ++ Some free ∷ []) s.kept.freed
-                  ∙ ap (λ (x : Deed). map (λ (i : LockId). Some (quiet (Free i))) (reverse ls) ++ Some x ∷ []) path.0
+                  ∙ ap (λ (x : Deed). map (λ (i : LockId). Some (without_marks (Free i))) (reverse ls) ++ Some x ∷ []) path.0
                   ∙ sym (freed-more l ls);
             };
             goes_on = path.1;
@@ -353,8 +353,8 @@ module _ (on : Doer) (rule : Rule) (keeps : Keeps on rule) where
       ∙ ap (λ (xs : List PathStep). kept.middle ++ xs) (no_acts kept.frees kept.freed) ∙ append-nil kept.middle))
       (keeps.leads job whose kept.middle out kept.job_done k)
   leads-locked (l ∷ ls) job whose steps out kept k =
-      let take = first_step kept.takes (quiet (Take l)) (map (λ (i : LockId). Some (quiet (Take i))) ls) kept.taken in
-      let free = last_step kept.frees (map (λ (i : LockId). Some (quiet (Free i))) (reverse ls)) (quiet (Free l)) (kept.freed ∙ freed-more l ls) in
+      let take = first_step kept.takes (without_marks (Take l)) (map (λ (i : LockId). Some (without_marks (Take i))) ls) kept.taken in
+      let free = last_step kept.frees (map (λ (i : LockId). Some (without_marks (Free i))) (reverse ls)) (without_marks (Free l)) (kept.freed ∙ freed-more l ls) in
       let inside : IsLocked ls rule job whose (take.1 ++ (kept.middle ++ free.0)) out =
       record {
         takes = take.1;
@@ -367,12 +367,12 @@ module _ (on : Doer) (rule : Rule) (keeps : Keeps on rule) where
       } in
       subst (λ (xs : List PathStep). IsPath xs (locked (l ∷ ls) on job (note_of job whose) k) (k out))
       (sym (kept.all ∙ ap (λ (xs : List PathStep). xs ++ (kept.middle ++ kept.frees)) take.2
-      ∙ ap (λ (xs : List PathStep). Did (quiet (Take l)) take.0 ∷ (take.1 ++ (kept.middle ++ xs))) free.2
-      ∙ ap (λ (xs : List PathStep). Did (quiet (Take l)) take.0 ∷ xs)
-      (ap (λ (xs : List PathStep). take.1 ++ xs) (sym (append_assoc kept.middle free.0 (Did (quiet (Free l)) free.1 ∷ [])))
-      ∙ sym (append_assoc take.1 (kept.middle ++ free.0) (Did (quiet (Free l)) free.1 ∷ []))))) (
+      ∙ ap (λ (xs : List PathStep). Did (without_marks (Take l)) take.0 ∷ (take.1 ++ (kept.middle ++ xs))) free.2
+      ∙ ap (λ (xs : List PathStep). Did (without_marks (Take l)) take.0 ∷ xs)
+      (ap (λ (xs : List PathStep). take.1 ++ xs) (sym (append_assoc kept.middle free.0 (Did (without_marks (Free l)) free.1 ∷ [])))
+      ∙ sym (append_assoc take.1 (kept.middle ++ free.0) (Did (without_marks (Free l)) free.1 ∷ []))))) (
         refl,
-        path_append (take.1 ++ (kept.middle ++ free.0)) (Did (quiet (Free l)) free.1 ∷ [])
+        path_append (take.1 ++ (kept.middle ++ free.0)) (Did (without_marks (Free l)) free.1 ∷ [])
             (locked ls on job (note_of job whose) (λ o. Then (Free l) plain (λ o2. k o))) (Then (Free l) plain (λ o2. k out)) (k out)
             (leads-locked ls job whose (take.1 ++ (kept.middle ++ free.0)) out inside (λ o. Then (Free l) plain (λ o2. k o))) (refl, refl),
       )

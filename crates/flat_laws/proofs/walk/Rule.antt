@@ -20,7 +20,7 @@ use Rattle.bus_spec.specs.Tells.{Tells}
 use Rattle.bus_spec.specs.Stepwise.{IsStepwise}
 use Rattle.bus_spec.specs.ByTree.{Step, deed_next, TellsAct, AreTold, AreTransfers, no_more, one_more, under_way, steps_in, KeepsWalks}
 use Rattle.bus_laws.specs.Reach.{AsksForMessages}
-use Rattle.bus_spec.specs.WalkRule.{Deed, quiet, PathStep, Saw, Did, deed_of, IsWalkBy, IsWalk, first_done}
+use Rattle.bus_spec.specs.WalkRule.{Deed, without_marks, PathStep, Saw, Did, deed_of, IsWalkBy, IsWalk, first_done}
 use Rattle.flat_laws.proofs.past.Walks.{tells_none, walks-kept}
 use Rattle.flat_laws.specs.Paths.{deed_by, IsPath}
 use Rattle.flat_laws.specs.Led.{Leads, AreWalks, none, whole, front, AreAllWalks}
@@ -33,12 +33,12 @@ at_end (Saw ask m ∷ steps) p = absurd p
 at_end (Did a o ∷ steps) p = absurd p
 
 refused-walk : (e : Option Errno) (steps : List PathStep) → IsPath steps (Then (Settle e) plain (λ o. Ends)) Ends
-    → map deed_of steps ≡ Some (quiet (Settle e)) ∷ []
+    → map deed_of steps ≡ Some (without_marks (Settle e)) ∷ []
 refused-walk e [] p = absurd (let f : Then (Settle e) plain (λ o. Ends) ≡ Ends = p in cc)
 refused-walk e (Saw ask m ∷ steps) p = absurd p
 refused-walk e (Did a o ∷ steps) p =
     ap (λ (x : Deed). Some x ∷ map deed_of steps) p.0
-    ∙ ap (λ (xs : List PathStep). Some (quiet (Settle e)) ∷ map deed_of xs) (at_end steps p.1)
+    ∙ ap (λ (xs : List PathStep). Some (without_marks (Settle e)) ∷ map deed_of xs) (at_end steps p.1)
 
 pub path-walk : (b : BoardView) (t : TransferView) (steps : List PathStep) → IsPath steps (walk_for b t) Ends → IsWalk b t steps
 path-walk b t steps path = by (refusal b t) path
@@ -58,9 +58,9 @@ walk-path b t steps walk = by (refusal b t) walk
   where
     by : (o : Option Errno) → IsWalkBy b t o steps → IsPath steps (walk_by b t o) Ends
     by (Some e) w =
-        let s = first_step steps (quiet (Settle (Some e))) [] w in
+        let s = first_step steps (without_marks (Settle (Some e))) [] w in
         subst (λ (xs : List PathStep). IsPath xs (Then (Settle (Some e)) plain (λ o. Ends)) Ends)
-        (sym (s.2 ∙ ap (λ (xs : List PathStep). Did (quiet (Settle (Some e))) s.0 ∷ xs) (no_acts s.1 s.3))) (refl, refl)
+        (sym (s.2 ∙ ap (λ (xs : List PathStep). Did (without_marks (Settle (Some e))) s.0 ∷ xs) (no_acts s.1 s.3))) (refl, refl)
     by None w = (keeps-full b (root_of b t.bus) (hops b t.bus)).leads (Call t.bus (messages_of t)) [] steps w.0 w.1 (λ o. Ends)
 
 -- as fronts
@@ -147,19 +147,19 @@ module _ (b : BoardView) (asks : List Reply → Option TransferView) where
       let told = leads-told b mine (walk_for b t) Ends leads in
       one_more xs t told.0 mine rest all r asked (path-walk b t told.0 told.1) told.2 settles
       (walks-transfers (xs ++ r ∷ []) rest more) parts
-  walks-transfers rs steps (front xs t mine left asked leads quiet) =
+  walks-transfers rs steps (front xs t mine left asked leads without_marks) =
       let told = leads-told b mine (walk_for b t) left leads in
       let more = path-front b t told.0 left told.1 in
-      under_way xs t told.0 more.0 mine asked more.2 told.2 (ap is_due (sym (first_next more.0 left more.1)) ∙ quiet)
+      under_way xs t told.0 more.0 mine asked more.2 told.2 (ap is_due (sym (first_next more.0 left more.1)) ∙ without_marks)
 
   pub transfers-walks : (rs : List Reply) (steps : List Step) → AreTransfers b asks rs steps → AreWalks b asks rs steps
   transfers-walks rs steps (no_more xs) = none xs
   transfers-walks rs steps (one_more xs t walk mine rest all r asked keeps told settles more parts) =
       whole xs t mine rest all r asked (told-leads b walk mine (walk_for b t) Ends (walk-path b t walk keeps) told) settles
       (transfers-walks (xs ++ r ∷ []) rest more) parts
-  transfers-walks rs steps (under_way xs t done rest mine asked keeps told quiet) =
+  transfers-walks rs steps (under_way xs t done rest mine asked keeps told without_marks) =
       let way = front-path b t done rest keeps in
-      front xs t mine way.0 asked (told-leads b done mine (walk_for b t) way.0 way.1 told) (ap is_due (first_next rest way.0 way.2) ∙ quiet)
+      front xs t mine way.0 asked (told-leads b done mine (walk_for b t) way.0 way.1 told) (ap is_due (first_next rest way.0 way.2) ∙ without_marks)
 
 -- OF A JOURNAL: each caller's
 pub walks-led : (b : BoardView) (asks : Asks) (past : List Entry) → KeepsWalks b asks past → AreAllWalks b asks past

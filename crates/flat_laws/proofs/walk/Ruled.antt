@@ -198,3 +198,9 @@ worlds-same b asks past r = ap (λ (s : Stand). s.worlds r) (past-stands b asks 
 pub calls-same : (b : BoardView) (asks : Asks) (past : List Entry) (r : ℕ)
     → calls_of b asks past r ≡ calls_by b (deeds_of b asks past) past r
 calls-same b asks past r = ap (λ (s : Stand). reverse (s.calls r)) (past-stands b asks past)
+
+-- .. by what the entries of a legal journal do
+pub ruled-calls : (b : BoardView) (callers : ℕ) (asks : Asks) (past : List Entry) (legal : IsLegal b callers asks past) (r : ℕ)
+    → calls_of b asks past r ≡ calls_by b (ruled b callers asks past legal).deeds past r
+unfolding ruled
+ruled-calls b callers asks past legal r = calls-same b asks past r
