@@ -18,7 +18,7 @@ use Rattle.std.specs.Prelude.{sum_by}
 use Rattle.std.proofs.lemmas.List.Sums.{sum_by-le-sum_by}
 use Rattle.tools.specs.Dialogues.{transfers_behind}
 use Rattle.caller_core.specs.Scripts.{commands_of, cost_of_script, asked_by as script_asked}
-use Rattle.caller_core.specs.Turns.{talk, sum_of}
+use Rattle.caller_core.specs.Turns.{command_talk, sum_of}
 use Rattle.caller_core.specs.View.{CommandView}
 use Rattle.caller_core.proofs.FairLemmas.{scripts_fair}
 use Rattle.caller_core.proofs.SumLemmas.{sum_falls, sum_first}
@@ -96,6 +96,6 @@ covered s plain meets =
     let first : left_of s [] ≡ sum_by (sum_of (lowered_cost s)) cs = sum_first (lowered_cost s) cs in
     let less : sum_by (sum_of (lowered_cost s)) cs ≤ sum_by (sum_of (cost_of s.script.board)) cs =
     sum_by-le-sum_by (sum_of (lowered_cost s)) (sum_of (cost_of s.script.board)) cs
-    (λ c. sum_by-le-sum_by (lowered_cost s) (cost_of s.script.board) (transfers_behind (talk c) 0)
+    (λ c. sum_by-le-sum_by (lowered_cost s) (cost_of s.script.board) (transfers_behind (command_talk c) 0)
     (λ t. translated-costs s.script.board s.translators t tree)) in
     omega (arith, first, less)

@@ -2,7 +2,7 @@
 use Rattle.std.proofs.Common.{◌≡◌, ℕ, zero, suc, ◌+◌, ◌<◌, ◌≤◌, true, false, cond, eqb, ◌&&◌, nat_le, List, [], ◌∷◌, Some, None, refl, sym, ◌∙◌, ap, subst, arith, length, map, get_or, drop}
 use Rattle.std.proofs.lemmas.Bool.{le-leb}
 use Rattle.toml.specs.Data.{Data, Members, get_member, as_integer}
-use Rattle.i2c_boardtext.specs.BoardText.{◌>>=◌, unless}
+use Rattle.i2c_boardtext.specs.BoardText.{◌>>=◌, unless_fault}
 use Rattle.i2c_base.specs.declared.alias.AliasPair.{AliasPair}
 use Rattle.addr_atr.specs.declared.fault.MapFault.{MapFault}
 use Rattle.addr_atr.specs.declared.fault.MapFault.TheVariants as map_fault
@@ -45,13 +45,13 @@ some_there zero e = absurd (let f : true ≡ false = e in cc)
 some_there (suc n) e = omega arith
 
 pub tested : (muxes : ℕ) (ms : Members) (rs : List Members) (n : ℕ) → table_fault top_rules ms ≡ None → rs ≡ rows_in ms → length rs ≡ n
-    → 1 ≤ n → n ≤ 32 → tested_rows muxes ms ≡ unless (rows_fault (translator_rules muxes) 0 rs) rs
+    → 1 ≤ n → n ≤ 32 → tested_rows muxes ms ≡ unless_fault (rows_fault (translator_rules muxes) 0 rs) rs
 tested muxes ms rs n top same count some few =
     let rules = translator_rules muxes in
-    ap (λ xs. unless (option_or (option_or (placed_in 0 (table_fault top_rules ms)) (count_fault (length xs))) (rows_fault rules 0 xs)) xs) (sym same)
-    ∙ ap (λ o. unless (option_or (option_or (placed_in 0 o) (count_fault (length rs))) (rows_fault rules 0 rs)) rs) top
-    ∙ ap (λ k. unless (option_or (count_fault k) (rows_fault rules 0 rs)) rs) count
-    ∙ ap (λ o. unless (option_or o (rows_fault rules 0 rs)) rs) (counted n some few)
+    ap (λ xs. unless_fault (option_or (option_or (placed_in 0 (table_fault top_rules ms)) (count_fault (length xs))) (rows_fault rules 0 xs)) xs) (sym same)
+    ∙ ap (λ o. unless_fault (option_or (option_or (placed_in 0 o) (count_fault (length rs))) (rows_fault rules 0 rs)) rs) top
+    ∙ ap (λ k. unless_fault (option_or (count_fault k) (rows_fault rules 0 rs)) rs) count
+    ∙ ap (λ o. unless_fault (option_or o (rows_fault rules 0 rs)) rs) (counted n some few)
 
 -- no fault of keys, values, muxes or pairs is another one
 abbrev pub IsTextFault : MapFault → Type 0
@@ -96,7 +96,7 @@ after_told b before (t ∷ ts) =
       ]
     ]
 
-unless_told : {X : Type 0} (o : Option MapFault) (x : X) (e : MapFault) → IsTold o → unless o x ≡ Err e → IsTextFault e
+unless_told : {X : Type 0} (o : Option MapFault) (x : X) (e : MapFault) → IsTold o → unless_fault o x ≡ Err e → IsTextFault e
 unless_told None x e told is = absurd (let f : Ok x ≡ Err e = is in cc)
 unless_told {X} (Some d) x e told is = subst IsTextFault (let f : ◌≡◌ {A = Result X MapFault} (Err d) (Err e) = is in let g : d ≡ e = cc in g) told
 
@@ -120,11 +120,11 @@ fails-read map_fault.Memory read told is = tt
 pub fault-told : (b : BoardView) (ts us : List TranslatorView) (e : MapFault) → us ≡ ts → fault_after b [] us ≡ Some e → FailsRead e (as_map b ts)
 fault-told b ts us e same is =
     let here : fault_after b [] ts ≡ Some e = ap (fault_after b []) (sym same) ∙ is in
-    fails-read e (as_map b ts) (subst IsTold here (after_told b [] ts)) (ap (λ o. unless o ts) here)
+    fails-read e (as_map b ts) (subst IsTold here (after_told b [] ts)) (ap (λ o. unless_fault o ts) here)
 
 pub map-told : (b : BoardView) (ts us : List TranslatorView) → us ≡ ts → fault_after b [] us ≡ None → as_map b ts ≡ Ok us
 map-told b ts us same is =
-    ap (λ o. unless o ts) (ap (fault_after b []) (sym same) ∙ is) ∙ ap (λ x. Ok x) (sym same)
+    ap (λ o. unless_fault o ts) (ap (fault_after b []) (sym same) ∙ is) ∙ ap (λ x. Ok x) (sym same)
 
 -- addresses are in range, as they are read
 range_of : (o : Option ℤ) → unwrap_or (option_map (is_from_to 0x08 0x77) o) false ≡ true → IsTargetAddress (unwrap_or (option_map nat_of o) 0)

@@ -7,7 +7,7 @@ use Rattle.toml.specs.Data.{Data, Members, get_member}
 use Rattle.toml.specs.Parse.{parse_document}
 use Rattle.i2c_base.specs.Board.{BoardView}
 use Rattle.i2c_spec.specs.Rules.{MeetsRules, TellsBroken}
-use Rattle.i2c_boardtext.specs.BoardText.{◌>>=◌, unless}
+use Rattle.i2c_boardtext.specs.BoardText.{◌>>=◌, unless_fault}
 use Rattle.i2c_boardtext.specs.Items.{elements, number}
 use Rattle.i2c_boardtext.specs.Rules.{KeyRule, needs, is_in, table_fault}
 use Rattle.i2c_boardtext.specs.Values.{elements_in, tables_in}
@@ -80,10 +80,10 @@ abbrev pub document_of : List ℕ → Result Members MapFault
 document_of text = if is_utf8 text then ok_or (parse_document text) map_fault.NotToml else Err map_fault.NotToml
 
 abbrev pub tested_rows : ℕ → Members → Result (List Members) MapFault
-tested_rows muxes ms = unless (option_or (top_fault ms) (rows_fault (translator_rules muxes) 0 (rows_in ms))) (rows_in ms)
+tested_rows muxes ms = unless_fault (option_or (top_fault ms) (rows_fault (translator_rules muxes) 0 (rows_in ms))) (rows_in ms)
 
 abbrev pub as_map : BoardView → List TranslatorView → Result (List TranslatorView) MapFault
-as_map b ts = unless (fault_after b [] ts) ts
+as_map b ts = unless_fault (fault_after b [] ts) ts
 
 abbrev pub map_in : BoardView → Members → Result (List TranslatorView) MapFault
 map_in b ms = tested_rows (length b.muxes) ms >>= λ rows. as_map b (map translator_value rows)

@@ -27,7 +27,7 @@ use Rattle.bus_core.specs.declared.seat.Seat.{Seat}
 use Rattle.bus_core.proofs.Told.{roots-told, has-by}
 use Rattle.bus_spec.specs.Readings.{caller_of}
 use Rattle.group_laws.specs.Groups.{joined, ArePartsApart, IsApartFrom, AreApart, IsOwn, AreOwn}
-use Rattle.bus_groups.specs.Homes.{homes_of, caller_home, home_at, AreByHomes}
+use Rattle.bus_groups.specs.Homes.{homes_of, caller_home, caller_home_at, AreByHomes}
 use Rattle.bus_groups.specs.Shares.{of_home, parts_by, joined_by}
 use Rattle.bus_groups.specs.Slots.{HasRun, IsTold}
 use Rattle.bus_groups.specs.Rounds.{IsOpenedWith, IsLeftOf, AreLeftOf, left_of, CameOut, AreBegun, MayRun}
@@ -446,27 +446,27 @@ module _ {P C S : Type 0} (p : PortGhosts P) (c : CallerGhosts C S) (b : BoardVi
 
     -- of each home's journal all entries are of callers of that home
     homes-own : (v : CoreState S) (h : ℕ) (x : Parts P C) → CameOut p c b (of_home rh h ports) (of_home ch h callers) x
-        → IsOwn (part_of c.asked (left v x)) → AreOfHome (home_at rh masks) h x.journal.entries
+        → IsOwn (part_of c.asked (left v x)) → AreOfHome (caller_home_at rh masks) h x.journal.entries
     homes-own v h x came own =
-        each-own (λ e. home_at rh masks (caller_of e) ≡ h) (λ n. has_caller (scripts_of c x.seats.items) n) x.journal.entries
+        each-own (λ e. caller_home_at rh masks (caller_of e) ≡ h) (λ n. has_caller (scripts_of c x.seats.items) n) x.journal.entries
         (λ e who.
         let m = map_from (caller_home rh) masks (caller_of e) h (who-home v h x came (caller_of e) who) in
         ap (caller_home rh) (get_or_from_slice_get masks (caller_of e) m.0 0 m.1) ∙ m.2) own
 
     -- the journals of the homes from this one on, one after the other
     from-home : (v : CoreState S) (h : ℕ) (xs : List (Parts P C)) → AreRan h xs → AreOwn (map (part_of c.asked) (map (left v) xs))
-        → AreFrom (home_at rh masks) h (flat_map (λ y. y.journal.entries) xs)
+        → AreFrom (caller_home_at rh masks) h (flat_map (λ y. y.journal.entries) xs)
     from-home v h [] are own = λ i e at. absurd (let f : None ≡ Some e = at in cc)
     from-home v h (x ∷ xs) are own =
-        from-both (home_at rh masks) h x.journal.entries (flat_map (λ y. y.journal.entries) xs)
+        from-both (caller_home_at rh masks) h x.journal.entries (flat_map (λ y. y.journal.entries) xs)
         (λ i e at. let is = homes-own v h x are.0 own.0 i e at in omega (arith, is))
         (λ i e at. let le = from-home v (h + 1) xs are.1 own.1 i e at in omega (arith, le))
 
     by-homes : (v : CoreState S) (h : ℕ) (xs : List (Parts P C)) → AreRan h xs → AreOwn (map (part_of c.asked) (map (left v) xs))
-        → AreByHomes (home_at rh masks) (flat_map (λ y. y.journal.entries) xs)
+        → AreByHomes (caller_home_at rh masks) (flat_map (λ y. y.journal.entries) xs)
     by-homes v h [] are own = λ i j e f le at to. absurd (let g : None ≡ Some e = at in cc)
     by-homes v h (x ∷ xs) are own =
-        by-both (home_at rh masks) h x.journal.entries (flat_map (λ y. y.journal.entries) xs) (homes-own v h x are.0 own.0)
+        by-both (caller_home_at rh masks) h x.journal.entries (flat_map (λ y. y.journal.entries) xs) (homes-own v h x are.0 own.0)
         (λ i e at. let le = from-home v (h + 1) xs are.1 own.1 i e at in omega (arith, le)) (by-homes v (h + 1) xs are.1 own.1)
 
     -- the groups' journals stand one after the other
@@ -476,12 +476,12 @@ module _ {P C S : Type 0} (p : PortGhosts P) (c : CallerGhosts C S) (b : BoardVi
         → AllZip (λ s y. CameOut p c b s.ports.items s.callers.items y) ss xs
         → x.ports.items ≡ joined_by rh (map (λ y. y.ports.items) xs) → x.seats.items ≡ joined_by ch (map (λ y. y.seats.items) xs)
         → x.journal.entries ≡ flat_map (λ y. y.journal.entries) xs
-        → scripts_of c x.seats.items ≡ scripts → AreByHomes (home_at rh masks) x.journal.entries
+        → scripts_of c x.seats.items ≡ scripts → AreByHomes (caller_home_at rh masks) x.journal.entries
     are-groups tree v tell ss xs x ports_of callers_of ran ps se es same =
         let are : AreRan 0 xs = ran-from ss xs 0 many ports_of callers_of ran in
         let own = (joins c.asked p.tells b scripts tree (map (left v) xs) (groups-from v 0 xs are) (apart-from v 0 xs are) (left v x)
         (whole v x xs ps se es) same tell).own in
-        subst (AreByHomes (home_at rh masks)) (sym es) (by-homes v 0 xs are own)
+        subst (AreByHomes (caller_home_at rh masks)) (sym es) (by-homes v 0 xs are own)
 
 -- so many cores were opened
 pub begun-count : {P C S : Type 0} (p : PortGhosts P) (c : CallerGhosts C S) (b : BoardView) (homes callers_at : List ℕ) (many : ℕ) (ports : List (ℕ × P))

@@ -33,8 +33,8 @@ abbrev pub caller_home : List ℕ → ℕ → ℕ
 caller_home homes mask = if nat_lt (least_home homes mask) (length homes) then least_home homes mask else 0
 
 -- the home of the caller with this number
-abbrev pub home_at : (homes masks : List ℕ) → ℕ → ℕ
-home_at homes masks n = caller_home homes (get_or masks n 0)
+abbrev pub caller_home_at : (homes masks : List ℕ) → ℕ → ℕ
+caller_home_at homes masks n = caller_home homes (get_or masks n 0)
 
 -- the groups come one after the other, each as a whole, by their homes: no entry stands behind one of a caller whose home is
 -- greater

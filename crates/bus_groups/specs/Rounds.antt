@@ -14,7 +14,7 @@ use Rattle.bus_core.specs.declared.bus.Parts.{Parts}
 use Rattle.bus_journal.specs.View.{JournalView}
 use Rattle.i2c_base.specs.Transfer.{TransferView}
 use Rattle.i2c_spec.specs.Tree.{buses, root_of}
-use Rattle.bus_groups.specs.Homes.{names, homes_of, home_at, AreByHomes}
+use Rattle.bus_groups.specs.Homes.{names, homes_of, caller_home_at, AreByHomes}
 use Rattle.bus_groups.specs.Slots.{IsTold}
 use Rattle.bus_groups.specs.Shares.{parts_by, joined_by}
 use Rattle.bus_groups.specs.declared.rounds.Share.{Share}
@@ -70,7 +70,7 @@ pub record CameOut {P C S : Type 0} (p : PortGhosts P) (c : CallerGhosts C S) (b
 pub record HaveRun {P C S : Type 0} (p : PortGhosts P) (c : CallerGhosts C S) (b : BoardView) (masks : List ℕ) (ports : List (ℕ × P))
     (callers : List (ℕ × C)) (x : Ran P C) : Type 0 where
   pub came : CameOut p c b ports callers (one_of x)
-  pub groups : IsTrue p.tells → AreByHomes (home_at (homes_of (length b.roots) masks) masks) (one_of x).journal.entries
+  pub groups : IsTrue p.tells → AreByHomes (caller_home_at (homes_of (length b.roots) masks) masks) (one_of x).journal.entries
 
 -- cores were opened with the shares of the homes
 pub record AreBegun {P C S : Type 0} (p : PortGhosts P) (c : CallerGhosts C S) (b : BoardView) (roots callers_at : List ℕ) (many : ℕ)

@@ -10,7 +10,7 @@ use Rattle.std.proofs.lemmas.List.Elements.{All-nil, All-head, All-tail, All-con
 use Rattle.bus_spec.specs.Lines.{entry_line}
 use Rattle.bus_spec.specs.Report.{sections, ended_line}
 use Rattle.bus_journal.specs.Ranges.{IsEntry}
-use Rattle.bus_journal.specs.Reports.{IsLine, ended, IsSectionLine, HasNoJournalLine, ReportsAreDistinct}
+use Rattle.bus_journal.specs.Reports.{IsLine, line_ended, IsSectionLine, HasNoJournalLine, ReportsAreDistinct}
 use Rattle.bus_journal.proofs.LineFeeds.{line-append, decimal-line, entry-line}
 use Rattle.bus_journal.proofs.Whole.{lines_are_distinct}
 use Rattle.i2c_base.specs.declared.entry.Entry.{Entry}
@@ -35,7 +35,7 @@ first_lines (c ∷ a) (d ∷ b) x y is_a is_b same =
     (cc, rest.1)
 
 -- a line, those behind it, and a text
-lines-text : (l : List ℕ) (ls : List (List ℕ)) (text : List ℕ) → flat_map ended (l ∷ ls) ++ text ≡ l ++ 10 ∷ (flat_map ended ls ++ text)
+lines-text : (l : List ℕ) (ls : List (List ℕ)) (text : List ℕ) → flat_map line_ended (l ∷ ls) ++ text ≡ l ++ 10 ∷ (flat_map line_ended ls ++ text)
 lines-text l ls text = simp append_assoc
 
 entries-text : (e : Entry) (es : List Entry) (text : List ℕ)
@@ -44,23 +44,23 @@ entries-text e es text = simp append_assoc
 
 -- what stands below the line `journal`
 below_journal : (ls ms : List (List ℕ)) (x y : List ℕ) → All IsSectionLine ls → All IsSectionLine ms
-    → flat_map ended ls ++ (codes "journal\n" ++ x) ≡ flat_map ended ms ++ (codes "journal\n" ++ y) → x ≡ y
+    → flat_map line_ended ls ++ (codes "journal\n" ++ x) ≡ flat_map line_ended ms ++ (codes "journal\n" ++ y) → x ≡ y
 below_journal [] [] x y all_l all_m same = (first_lines (codes "journal") (codes "journal") x y refl refl same).1
 below_journal [] (m ∷ ms) x y all_l all_m same =
     let here = All-head IsSectionLine m ms all_m in
-    let line = first_lines (codes "journal") m x (flat_map ended ms ++ (codes "journal\n" ++ y)) refl here.one (same
+    let line = first_lines (codes "journal") m x (flat_map line_ended ms ++ (codes "journal\n" ++ y)) refl here.one (same
     ∙ lines-text m ms (codes "journal\n" ++ y)) in
     absurd (here.other (sym line.0))
 below_journal (l ∷ ls) [] x y all_l all_m same =
     let here = All-head IsSectionLine l ls all_l in
-    let line = first_lines l (codes "journal") (flat_map ended ls ++ (codes "journal\n" ++ x)) y here.one refl
+    let line = first_lines l (codes "journal") (flat_map line_ended ls ++ (codes "journal\n" ++ x)) y here.one refl
     (sym (lines-text l ls (codes "journal\n" ++ x)) ∙ same) in
     absurd (here.other line.0)
 below_journal (l ∷ ls) (m ∷ ms) x y all_l all_m same =
     let before = codes "journal\n" ++ x in
     let behind = codes "journal\n" ++ y in
     let line =
-    first_lines l m (flat_map ended ls ++ before) (flat_map ended ms ++ behind) (All-head IsSectionLine l ls all_l).one
+    first_lines l m (flat_map line_ended ls ++ before) (flat_map line_ended ms ++ behind) (All-head IsSectionLine l ls all_l).one
     (All-head IsSectionLine m ms all_m).one
     (sym (lines-text l ls before) ∙ (same ∙ lines-text m ms behind)) in
     below_journal ls ms x y (All-tail IsSectionLine l ls all_l) (All-tail IsSectionLine m ms all_m) line.1
@@ -74,8 +74,8 @@ heading-line : (c : ℕ) → IsSectionLine (codes "caller " ++ decimal c)
 heading-line c = record { one = line-append (codes "caller ") (decimal c) refl (decimal-line c); other = heading-other c }
 
 section-text : (c : ℕ) (lines more : List (List ℕ))
-    → flat_map ended ((codes "caller " ++ decimal c) ∷ (lines ++ more)) ≡
-    (codes "caller " ++ (decimal c ++ (10 ∷ flat_map ended lines))) ++ flat_map ended more
+    → flat_map line_ended ((codes "caller " ++ decimal c) ∷ (lines ++ more)) ≡
+    (codes "caller " ++ (decimal c ++ (10 ∷ flat_map line_ended lines))) ++ flat_map line_ended more
 section-text c lines more = simp (append_assoc, flat_map-append)
 
 sections-lines : (c : ℕ) (texts : List (List ℕ)) → All HasNoJournalLine texts → HasNoJournalLine (sections c texts)
@@ -87,7 +87,7 @@ sections-lines c (text ∷ texts) all =
       lines = (codes "caller " ++ decimal c) ∷ (here.lines ++ rest.lines);
       text_is =
           ap (λ (xs : List ℕ). (codes "caller " ++ (decimal c ++ (10 ∷ xs))) ++ sections (c + 1) texts) here.text_is
-          ∙ (ap (λ (xs : List ℕ). (codes "caller " ++ (decimal c ++ (10 ∷ flat_map ended here.lines))) ++ xs) rest.text_is
+          ∙ (ap (λ (xs : List ℕ). (codes "caller " ++ (decimal c ++ (10 ∷ flat_map line_ended here.lines))) ++ xs) rest.text_is
           ∙ sym (section-text c here.lines rest.lines));
       others = All-cons IsSectionLine (codes "caller " ++ decimal c) (here.lines ++ rest.lines) (heading-line c)
           (All-append IsSectionLine here.lines rest.lines here.others rest.others);
@@ -127,6 +127,6 @@ reports_are_distinct texts others es fs all_t all_o all_e all_f same =
     let t = sections-lines 0 texts all_t in
     let o = sections-lines 0 others all_o in
     let below = λ (xs : List Entry). flat_map ended_line xs ++ codes "end\n" in
-    let at : flat_map ended t.lines ++ (codes "journal\n" ++ below es) ≡ flat_map ended o.lines ++ (codes "journal\n" ++ below fs) =
+    let at : flat_map line_ended t.lines ++ (codes "journal\n" ++ below es) ≡ flat_map line_ended o.lines ++ (codes "journal\n" ++ below fs) =
     rw (← t.text_is, ← o.text_is) same in
     entries_are_distinct es fs all_e all_f (below_journal t.lines o.lines (below es) (below fs) t.others o.others at)

@@ -9,8 +9,8 @@ use Rattle.i2c_base.specs.declared.entry.Entry.{Entry}
 abbrev pub IsLine : List ℕ → Type 0
 IsLine line = list_any (λ c. c == 10) line ≡ false
 
-abbrev pub ended : List ℕ → List ℕ
-ended line = line ++ 10 ∷ []
+abbrev pub line_ended : List ℕ → List ℕ
+line_ended line = line ++ 10 ∷ []
 
 -- a line of a caller's section: another one than that above the journal
 pub record IsSectionLine (line : List ℕ) : Type 0 where
@@ -20,7 +20,7 @@ pub record IsSectionLine (line : List ℕ) : Type 0 where
 -- whole lines, of which none is `journal`
 pub record HasNoJournalLine (text : List ℕ) : Type 0 where
   pub lines : List (List ℕ)
-  pub text_is : text ≡ flat_map ended lines
+  pub text_is : text ≡ flat_map line_ended lines
   pub others : All IsSectionLine lines
 
 -- two equal reports, whose sections have no line `journal`, tell of the same entries

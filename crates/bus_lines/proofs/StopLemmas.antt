@@ -6,7 +6,7 @@ use Rattle.std.specs.Option.{option_map_or}
 use Rattle.std.proofs.lemmas.Option.{slice_get_within}
 use Rattle.i2c_base.proofs.ListLemmas.{map_from}
 use Rattle.i2c_base.specs.Muxes.{facts_of}
-use Rattle.i2c_spec.specs.Chips.{ChipView, at_level, stopped, arbitrated, is_free, kept_bits, bit_of}
+use Rattle.i2c_spec.specs.Chips.{ChipView, at_level, chip_stopped, arbitrated, is_free, kept_bits, bit_of}
 use Rattle.i2c_spec.specs.Targets.{IsQuiet, IsFairTable}
 use Rattle.wire_spec.specs.declared.mode.Mode.TheVariants.{In}
 use Rattle.wire_spec.specs.Wires.{Bit, stands, finish}
@@ -215,8 +215,8 @@ level_taken true by_line kept c level byte waits same =
 level_taken false true kept c level byte waits same = refl
 level_taken false false kept c level byte waits same = absurd (still c (record c { control = kept; waiting = None }) byte same refl waits)
 
-level_stop : (c : ChipView) (level : ℕ) (waiting : Option ℕ) → c.waiting ≡ waiting → stopped c waiting ≡ c
-    → stopped (at_level c level) waiting ≡ at_level c level
+level_stop : (c : ChipView) (level : ℕ) (waiting : Option ℕ) → c.waiting ≡ waiting → chip_stopped c waiting ≡ c
+    → chip_stopped (at_level c level) waiting ≡ at_level c level
 level_stop c level None waits same = refl
 level_stop c level (Some byte) waits same =
     level_taken (facts_of c.kind).asks (facts_of c.kind).by_line (kept_bits c.kind byte) c level byte waits same
@@ -226,7 +226,7 @@ same_chip c d same = cc
 
 level_quiet : (x : NodeState) (level : ℕ) → IsQuiet node_table x → IsQuiet node_table (node_level x level)
 level_quiet (Chip c) level quiet =
-    let stays : stopped c c.waiting ≡ c = same_chip (stopped c c.waiting) c quiet.stop in
+    let stays : chip_stopped c c.waiting ≡ c = same_chip (chip_stopped c c.waiting) c quiet.stop in
     record { other = refl; stop = ap Chip (level_stop c level c.waiting refl stays) }
 level_quiet (Device x) level quiet = quiet
 

@@ -12,24 +12,24 @@ use Rattle.tools.specs.declared.command.Cmd.{Cmd}
 use Rattle.tools.specs.declared.command.Cmd.TheVariants as cmd
 use Rattle.tools.proofs.CommandLemmas as tools
 use Rattle.tools.proofs.TransferLemmas.{IsAsk}
-use Rattle.caller_core.specs.Runs.{dialogue_of, run_of, handles_behind}
+use Rattle.caller_core.specs.Runs.{command_dialogue, command_run, handles_behind}
 use Rattle.caller_core.specs.declared.run.CommandRun.{CommandRun}
 use Rattle.caller_core.proofs.HandleLemmas.{AreNear, handle_asks, handle_lines, near_after}
 
 -- each of its transfers is within the limits
 abbrev pub AsksWithin : CommandRun → Type 0
-AsksWithin r = (k : ℕ) → k < (dialogue_of r).places → IsAsk ((dialogue_of r).at k)
+AsksWithin r = (k : ℕ) → k < (command_dialogue r).places → IsAsk ((command_dialogue r).at k)
 
 -- whatever the replies, what it prints is lines, of which none is `journal`
 abbrev pub HasSectionLines : CommandRun → Type 0
-HasSectionLines r = (replies : List Reply) → All IsSectionLine ((dialogue_of r).lines replies)
+HasSectionLines r = (replies : List Reply) → All IsSectionLine ((command_dialogue r).lines replies)
 
-pub asks : (b : BoardView) (v : HandlesView) (limit : ℕ) (c : Cmd) → IsInRange limit c → AreNear v → AsksWithin (run_of b v c)
+pub asks : (b : BoardView) (v : HandlesView) (limit : ℕ) (c : Cmd) → IsInRange limit c → AreNear v → AsksWithin (command_run b v c)
 asks b v limit (cmd.Tool t) range near = tools.asks b limit t range
 asks b v limit (cmd.Driver d) range near = drivers.asks (driver_run b d) (drivers.opened b d range)
 asks b v limit (cmd.Handle h) range near = handle_asks b v limit h range near
 
-pub answers : (b : BoardView) (v : HandlesView) (c : Cmd) → HasSectionLines (run_of b v c)
+pub answers : (b : BoardView) (v : HandlesView) (c : Cmd) → HasSectionLines (command_run b v c)
 answers b v (cmd.Tool t) = tools.answers b t
 answers b v (cmd.Driver d) = drivers.answers (driver_run b d)
 answers b v (cmd.Handle h) = handle_lines b v h

@@ -11,7 +11,7 @@ use Rattle.i2c_spec.proofs.CostLemmas.{cost_some}
 use Rattle.tools.specs.Dialogues.{place_after, is_over}
 use Rattle.tools.proofs.TransferLemmas.{IsAsk}
 use Rattle.caller_core.specs.Callers.{ScriptsAreFair}
-use Rattle.caller_core.specs.Turns.{Progress, talk, quiet_front, turn_to, over_with, replied_to, replied, progress, next_of, asked_at}
+use Rattle.caller_core.specs.Turns.{Progress, command_talk, quiet_front, turn_to, over_with, replied_to, replied, progress, next_of, asked_at}
 use Rattle.caller_core.specs.Scripts.{commands_of, asked_by, left_of, cost_of_script}
 use Rattle.caller_core.specs.View.{CommandView, ScriptView}
 use Rattle.caller_core.proofs.CommandLemmas.{IsSpoken, commands_are_read}
@@ -23,7 +23,7 @@ left_kept : (P : CommandView → Type 0) (p : Progress) (left : List CommandView
     → All P (replied_to p left r).left
 left_kept P p [] r all h = all
 left_kept P p (c ∷ cs) r all h =
-    elim (is_over (talk c) (place_after (talk c) (p.own ++ r ∷ []))) as
+    elim (is_over (command_talk c) (place_after (command_talk c) (p.own ++ r ∷ []))) as
     (λ b. All P (cond b (turn_to (over_with p c (p.own ++ r ∷ [])) cs) (record p { own = p.own ++ r ∷ [] })).left) [
       | true ↦ All-drop P (quiet_front cs) cs (All-tail P c cs h)
       | false ↦ all
@@ -47,10 +47,10 @@ none_some t e = cc
 next_asks : (left : List CommandView) (own : List Reply) (t : TransferView) → All IsSpoken left → next_of left own ≡ Some t → IsAsk t
 next_asks [] own t all e = absurd (none_some t e)
 next_asks (c ∷ cs) own t all e =
-    let k : ℕ = place_after (talk c) own in
-    elim (leb_tells (talk c).places k) [
-      | inl x ↦ absurd (none_some t (sym (ap (λ b. cond b None (Some ((talk c).at k))) x.0) ∙ e))
-      | inr x ↦ subst IsAsk (some_same ((talk c).at k) t (sym (ap (λ b. cond b None (Some ((talk c).at k))) x.0) ∙ e))
+    let k : ℕ = place_after (command_talk c) own in
+    elim (leb_tells (command_talk c).places k) [
+      | inl x ↦ absurd (none_some t (sym (ap (λ b. cond b None (Some ((command_talk c).at k))) x.0) ∙ e))
+      | inr x ↦ subst IsAsk (some_same ((command_talk c).at k) t (sym (ap (λ b. cond b None (Some ((command_talk c).at k))) x.0) ∙ e))
           ((All-head IsSpoken c cs all).asks k x.1)
     ]
 

@@ -11,7 +11,7 @@ use Rattle.i2c_base.specs.Addr.{IsTargetAddress}
 use Rattle.i2c_base.specs.Board.{BoardView}
 use Rattle.i2c_spec.specs.Grant.{grant_of, is_busy}
 use Rattle.i2c_spec.specs.Tree.{buses}
-use Rattle.dev_handle.specs.Handles.{HandlesView, handle_at, if_open, answer_of, changed_if, changed, fresh, opened, open_answer, slave_answer, slaved, target_at, target_of, place_of, with_pec}
+use Rattle.dev_handle.specs.Handles.{HandlesView, handle_at, if_open, answer_by_handle, changed_if, changed, fresh, opened, open_answer, slave_answer, slaved, target_at, target_of, bus_and_force, with_pec}
 use Rattle.dev_handle.specs.declared.fault.HandleFault.{HandleFault}
 use Rattle.dev_handle.specs.declared.fault.HandleFault.TheVariants as fault
 use Rattle.dev_handle.specs.declared.handle.OpenHandle.{OpenHandle}
@@ -29,7 +29,7 @@ use Rattle.tools.specs.declared.run.ToolRun.{ToolRun}
 use Rattle.tools.specs.declared.run.call.HeldOp.TheVariants as held
 use Rattle.tools.proofs.FormLemmas.{AsksWithin, HasSectionLines, call_asks_within, call_lines, says_lines, says_nothing, transfer_asks_within, transfer_lines}
 use Rattle.tools.proofs.ValueLemmas.{others, result_line}
-use Rattle.caller_core.specs.HandleRuns.{by_answer, call_to, callee_of, done_text, fault_text, handle_run, handles_after, message_to, messages_at, number_text, says_line}
+use Rattle.caller_core.specs.HandleRuns.{run_by_answer, call_by_handle, callee_of, done_text, fault_text, handle_run, handles_after, message_by_handle, messages_at, number_text, says_line}
 
 -- ---- the numbers of open handles are those that their types have
 
@@ -106,14 +106,14 @@ target_near : (o : Option OpenHandle) (s : Slave) → IsNearIfOpen o → if_open
 target_near None s near e = absurd cc
 target_near (Some h) s near e = reached h h.addr s near.bus near.addr e
 
-place_near : (o : Option OpenHandle) (p : ℕ × Bool) → IsNearIfOpen o → if_open o place_of ≡ Ok p → p.0 < 2 ^ 16
+place_near : (o : Option OpenHandle) (p : ℕ × Bool) → IsNearIfOpen o → if_open o bus_and_force ≡ Ok p → p.0 < 2 ^ 16
 place_near None p near e = absurd cc
 place_near (Some h) p near e =
     let same : (h.bus, h.force) ≡ p = cc in subst (λ (q : ℕ × Bool). q.0 < 2 ^ 16) same near.bus
 
 -- ---- transfers
 
-by_asks : {X : Type 0} (f : X → ToolRun) (r : Result X HandleFault) → ((x : X) → r ≡ Ok x → AsksWithin (f x)) → AsksWithin (by_answer f r)
+by_asks : {X : Type 0} (f : X → ToolRun) (r : Result X HandleFault) → ((x : X) → r ≡ Ok x → AsksWithin (f x)) → AsksWithin (run_by_answer f r)
 by_asks f (Ok x) h = h x refl
 by_asks f (Err e) h = says_nothing (fault_text e ∷ [])
 
@@ -135,30 +135,30 @@ messages_ask : (ms : List Desc) (p : ℕ × Bool) → AreMessages ms → p.0 < 2
 messages_ask ms p are bus = transfer_asks_within (record { force = p.1; bus = p.0; messages = ms }) (record { bus = bus; messages = are })
 
 message_asks : (b : BoardView) (v : HandlesView) (h : ℕ) (o : DescOp) → IsOpInRange o → AreNear v
-    → AsksWithin (by_answer (message_to o) (answer_of v h target_of))
-message_asks b v h o is are = by_asks (message_to o) (answer_of v h target_of) (λ s e.
+    → AsksWithin (run_by_answer (message_by_handle o) (answer_by_handle v h target_of))
+message_asks b v h o is are = by_asks (message_by_handle o) (answer_by_handle v h target_of) (λ s e.
     let near : IsReached s = target_near (handle_at v h) s (near_at v h are) e in
     messages_ask (record { addr = s.addr; op = o } ∷ []) (s.bus, s.force) (one_message s.addr o near.addr is) near.bus)
 
 pub handle_asks : (b : BoardView) (v : HandlesView) (limit : ℕ) (c : HandleCmd) → IsHandleInRange limit c → AreNear v
     → AsksWithin (handle_run b v c)
 handle_asks b v limit (handle.Open bus) range are = says_nothing (number_text (open_answer b v bus) ∷ [])
-handle_asks b v limit (handle.Slave h addr force) range are = says_nothing (done_text (answer_of v h (slave_answer b addr force)) ∷ [])
-handle_asks b v limit (handle.Pec h on) range are = says_nothing (done_text (answer_of v h (λ x. Ok tt)) ∷ [])
+handle_asks b v limit (handle.Slave h addr force) range are = says_nothing (done_text (answer_by_handle v h (slave_answer b addr force)) ∷ [])
+handle_asks b v limit (handle.Pec h on) range are = says_nothing (done_text (answer_by_handle v h (λ x. Ok tt)) ∷ [])
 handle_asks b v limit (handle.Read h n) range are = message_asks b v h (op.Read n) (range.1, range.2) are
 handle_asks b v limit (handle.Write h bytes) range are = message_asks b v h (op.Write bytes) (range.1.each, range.1.few) are
 handle_asks b v limit (handle.Rdwr h ms) range are =
-    by_asks (messages_at ms) (answer_of v h place_of) (λ p e. messages_ask ms p range.1 (place_near (handle_at v h) p (near_at v h are) e))
+    by_asks (messages_at ms) (answer_by_handle v h bus_and_force) (λ p e. messages_ask ms p range.1 (place_near (handle_at v h) p (near_at v h are) e))
 handle_asks b v limit (handle.Proc h reg word) range are =
-    by_asks (call_to (held.ProcCall reg word)) (answer_of v h target_of) (λ s e.
+    by_asks (call_by_handle (held.ProcCall reg word)) (answer_by_handle v h target_of) (λ s e.
     let near : IsReached s = target_near (handle_at v h) s (near_at v h are) e in
     call_asks_within (callee_of s) near.addr (held.ProcCall reg word) (range.1, range.2))
 handle_asks b v limit (handle.Bproc h reg bytes) range are =
-    by_asks (call_to (held.BlockProc reg bytes)) (answer_of v h target_of) (λ s e.
+    by_asks (call_by_handle (held.BlockProc reg bytes)) (answer_by_handle v h target_of) (λ s e.
     let near : IsReached s = target_near (handle_at v h) s (near_at v h are) e in
     call_asks_within (callee_of s) near.addr (held.BlockProc reg bytes)
     (range.1, (range.2.each, (range.2.some, omega (arith, range.2.few)))))
-handle_asks b v limit (handle.Close h) range are = says_nothing (done_text (answer_of v h (λ x. Ok tt)) ∷ [])
+handle_asks b v limit (handle.Close h) range are = says_nothing (done_text (answer_by_handle v h (λ x. Ok tt)) ∷ [])
 
 -- ---- lines
 
@@ -180,26 +180,26 @@ number_line (Err e) = fault_line e
 one_line : (line : List ℕ) → IsSectionLine line → HasSectionLines (says_line line)
 one_line line is = says_lines (line ∷ []) (All-cons IsSectionLine line [] is (All-nil IsSectionLine))
 
-by_lines : {X : Type 0} (f : X → ToolRun) (r : Result X HandleFault) → ((x : X) → HasSectionLines (f x)) → HasSectionLines (by_answer f r)
+by_lines : {X : Type 0} (f : X → ToolRun) (r : Result X HandleFault) → ((x : X) → HasSectionLines (f x)) → HasSectionLines (run_by_answer f r)
 by_lines f (Ok x) h = h x
 by_lines f (Err e) h = one_line (fault_text e) (fault_line e)
 
-message_lines : (o : DescOp) (s : Slave) → HasSectionLines (message_to o s)
+message_lines : (o : DescOp) (s : Slave) → HasSectionLines (message_by_handle o s)
 message_lines o s = transfer_lines (record { force = s.force; bus = s.bus; messages = record { addr = s.addr; op = o } ∷ [] })
 
 pub handle_lines : (b : BoardView) (v : HandlesView) (c : HandleCmd) → HasSectionLines (handle_run b v c)
 handle_lines b v (handle.Open bus) = one_line (number_text (open_answer b v bus)) (number_line (open_answer b v bus))
 handle_lines b v (handle.Slave h addr force) =
-    one_line (done_text (answer_of v h (slave_answer b addr force))) (done_line (answer_of v h (slave_answer b addr force)))
-handle_lines b v (handle.Pec h on) = one_line (done_text (answer_of v h (λ x. Ok tt))) (done_line (answer_of v h (λ x. Ok tt)))
-handle_lines b v (handle.Read h n) = by_lines (message_to (op.Read n)) (answer_of v h target_of) (message_lines (op.Read n))
-handle_lines b v (handle.Write h bytes) = by_lines (message_to (op.Write bytes)) (answer_of v h target_of) (message_lines (op.Write bytes))
+    one_line (done_text (answer_by_handle v h (slave_answer b addr force))) (done_line (answer_by_handle v h (slave_answer b addr force)))
+handle_lines b v (handle.Pec h on) = one_line (done_text (answer_by_handle v h (λ x. Ok tt))) (done_line (answer_by_handle v h (λ x. Ok tt)))
+handle_lines b v (handle.Read h n) = by_lines (message_by_handle (op.Read n)) (answer_by_handle v h target_of) (message_lines (op.Read n))
+handle_lines b v (handle.Write h bytes) = by_lines (message_by_handle (op.Write bytes)) (answer_by_handle v h target_of) (message_lines (op.Write bytes))
 handle_lines b v (handle.Rdwr h ms) =
-    by_lines (messages_at ms) (answer_of v h place_of) (λ p. transfer_lines (record { force = p.1; bus = p.0; messages = ms }))
+    by_lines (messages_at ms) (answer_by_handle v h bus_and_force) (λ p. transfer_lines (record { force = p.1; bus = p.0; messages = ms }))
 handle_lines b v (handle.Proc h reg word) =
-    by_lines (call_to (held.ProcCall reg word)) (answer_of v h target_of)
+    by_lines (call_by_handle (held.ProcCall reg word)) (answer_by_handle v h target_of)
     (λ s. call_lines (record { to = callee_of s; op = held.ProcCall reg word }))
 handle_lines b v (handle.Bproc h reg bytes) =
-    by_lines (call_to (held.BlockProc reg bytes)) (answer_of v h target_of)
+    by_lines (call_by_handle (held.BlockProc reg bytes)) (answer_by_handle v h target_of)
     (λ s. call_lines (record { to = callee_of s; op = held.BlockProc reg bytes }))
-handle_lines b v (handle.Close h) = one_line (done_text (answer_of v h (λ x. Ok tt))) (done_line (answer_of v h (λ x. Ok tt)))
+handle_lines b v (handle.Close h) = one_line (done_text (answer_by_handle v h (λ x. Ok tt))) (done_line (answer_by_handle v h (λ x. Ok tt)))

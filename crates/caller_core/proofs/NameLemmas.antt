@@ -11,7 +11,7 @@ use Rattle.i2c_base.specs.Transfer.{TransferView}
 use Rattle.i2c_spec.specs.Tree.{buses, root_of}
 use Rattle.tools.specs.Dialogues.{place_after}
 use Rattle.caller_core.specs.Roots.{names_root, command_names, HasRoots}
-use Rattle.caller_core.specs.Turns.{talk, progress, next_of, asked_at}
+use Rattle.caller_core.specs.Turns.{command_talk, progress, next_of, asked_at}
 use Rattle.caller_core.specs.View.{CommandView}
 use Rattle.caller_core.proofs.FairLemmas.{left_all}
 
@@ -45,17 +45,17 @@ next_named : (b : BoardView) (r : ℕ) (left : List CommandView) (own : List Rep
     → All (λ c. command_names b r c ≡ true → any ≡ true) left → next_of left own ≡ Some t → names_root b r t ≡ true → any ≡ true
 next_named b r [] own t any all e is = absurd (let f : None ≡ Some t = e in cc)
 next_named b r (c ∷ cs) own t any all e is =
-    let k : ℕ = place_after (talk c) own in
-    elim (leb_tells (talk c).places k) [
-      | inl x ↦ absurd (let f : None ≡ Some t = sym (ap (λ b. cond b None (Some ((talk c).at k))) x.0) ∙ e in cc)
+    let k : ℕ = place_after (command_talk c) own in
+    elim (leb_tells (command_talk c).places k) [
+      | inl x ↦ absurd (let f : None ≡ Some t = sym (ap (λ b. cond b None (Some ((command_talk c).at k))) x.0) ∙ e in cc)
       | inr x ↦ (
-          let f : Some ((talk c).at k) ≡ Some t = sym (ap (λ b. cond b None (Some ((talk c).at k))) x.0) ∙ e in
-          let same : (talk c).at k ≡ t = cc in
-          let low : k < (talk c).places - 0 = omega (arith, x.1) in
-          let here : names_root b r ((talk c).at (0 + k)) ≡ true =
-          ap (λ n. names_root b r ((talk c).at n)) (let z : 0 + k ≡ k = omega arith in z) ∙ ap (names_root b r) same ∙ is in
+          let f : Some ((command_talk c).at k) ≡ Some t = sym (ap (λ b. cond b None (Some ((command_talk c).at k))) x.0) ∙ e in
+          let same : (command_talk c).at k ≡ t = cc in
+          let low : k < (command_talk c).places - 0 = omega (arith, x.1) in
+          let here : names_root b r ((command_talk c).at (0 + k)) ≡ true =
+          ap (λ n. names_root b r ((command_talk c).at n)) (let z : 0 + k ≡ k = omega arith in z) ∙ ap (names_root b r) same ∙ is in
           All-head (λ c. command_names b r c ≡ true → any ≡ true) c cs all
-          (any_made (names_root b r) (talk c).at 0 ((talk c).places - 0) k low here))
+          (any_made (names_root b r) (command_talk c).at 0 ((command_talk c).places - 0) k low here))
     ]
 
 pub asked_named : (b : BoardView) (cs : List CommandView) (bits : ℕ) (rs : List Reply) (t : TransferView) → HasRoots b cs bits

@@ -11,9 +11,9 @@ use Rattle.std.proofs.lemmas.Option.{slice_get_within, get_or_from_slice_get}
 use Rattle.i2c_base.specs.Fitting.{Fits}
 use Rattle.i2c_base.specs.Transfer.{TransferView}
 use Rattle.i2c_base.specs.declared.reply.Reply.{Reply}
-use Rattle.tools.specs.Dialogues.{Dialogue, behind, place_after, is_over, AreReplies}
+use Rattle.tools.specs.Dialogues.{Dialogue, next_place, place_after, is_over, AreReplies}
 use Rattle.caller_core.specs.Scripts.{command_text, quiet_text, section_text}
-use Rattle.caller_core.specs.Turns.{Answered, Progress, talk, quiet, quiet_front, turn_to, over_with, replied_to, progress, next_of, asked_at, IsAt}
+use Rattle.caller_core.specs.Turns.{Answered, Progress, command_talk, quiet, quiet_front, turn_to, over_with, replied_to, progress, next_of, asked_at, IsAt}
 use Rattle.caller_core.specs.View.{CommandView}
 use Rattle.caller_core.proofs.SumLemmas.{progress_push, place_push}
 
@@ -22,7 +22,7 @@ use Rattle.caller_core.proofs.SumLemmas.{progress_push, place_push}
 front_within : (cs : List CommandView) → quiet_front cs ≤ length cs
 front_within [] = omega arith
 front_within (c ∷ cs) =
-    elim ((talk c).places == 0) as (λ b. cond b (quiet_front cs + 1) 0 ≤ length (c ∷ cs)) [
+    elim ((command_talk c).places == 0) as (λ b. cond b (quiet_front cs + 1) 0 ≤ length (c ∷ cs)) [
       | true ↦ omega (arith, front_within cs)
       | false ↦ omega arith
     ]
@@ -34,16 +34,16 @@ some_is : (c e : CommandView) → Some c ≡ Some e → c ≡ e
 some_is c e same = cc
 
 -- the first that is left asks for something
-front_asks : (cs : List CommandView) (e : CommandView) → slice_get cs (quiet_front cs) ≡ Some e → 0 < (talk e).places
+front_asks : (cs : List CommandView) (e : CommandView) → slice_get cs (quiet_front cs) ≡ Some e → 0 < (command_talk e).places
 front_asks [] e is = absurd cc
 front_asks (c ∷ cs) e is =
-    elim (eqb_tells (talk c).places 0) [
+    elim (eqb_tells (command_talk c).places 0) [
       | inl x ↦ front_asks cs e
           (sym (ap (λ b. slice_get (c ∷ cs) (cond b (quiet_front cs + 1) 0)) x.0 ∙ slice_get_cons (quiet_front cs) c cs) ∙ is)
       | inr x ↦
           let same : c ≡ e = some_is c e (sym (ap (λ b. slice_get (c ∷ cs) (cond b (quiet_front cs + 1) 0)) x.0) ∙ is) in
-          let n : (talk c).places ≡ (talk e).places = ap (λ (y : CommandView). (talk y).places) same in
-          let some : 0 < (talk c).places = grind (arith, x.1) in
+          let n : (command_talk c).places ≡ (command_talk e).places = ap (λ (y : CommandView). (command_talk y).places) same in
+          let some : 0 < (command_talk c).places = grind (arith, x.1) in
           omega (arith, n, some)
     ]
 
@@ -59,23 +59,23 @@ none_past [] k e = omega arith
 none_past (c ∷ cs) zero e = absurd cc
 none_past (c ∷ cs) (suc k) e = let h = none_past cs k e in omega (arith, h)
 
-pub not_over : (c : CommandView) (k : ℕ) → k < (talk c).places → is_over (talk c) k ≡ false
-not_over c k h = elim (leb_tells (talk c).places k) [ inl x ↦ absurd (omega (arith, x.1, h)) | inr x ↦ x.0 ]
+pub not_over : (c : CommandView) (k : ℕ) → k < (command_talk c).places → is_over (command_talk c) k ≡ false
+not_over c k h = elim (leb_tells (command_talk c).places k) [ inl x ↦ absurd (omega (arith, x.1, h)) | inr x ↦ x.0 ]
 
-asks_here : (c : CommandView) (cs : List CommandView) (own : List Reply) → place_after (talk c) own < (talk c).places
-    → next_of (c ∷ cs) own ≡ Some ((talk c).at (place_after (talk c) own))
-asks_here c cs own h = ap (λ b. cond b None (Some ((talk c).at (place_after (talk c) own)))) (not_over c (place_after (talk c) own) h)
+asks_here : (c : CommandView) (cs : List CommandView) (own : List Reply) → place_after (command_talk c) own < (command_talk c).places
+    → next_of (c ∷ cs) own ≡ Some ((command_talk c).at (place_after (command_talk c) own))
+asks_here c cs own h = ap (λ b. cond b None (Some ((command_talk c).at (place_after (command_talk c) own)))) (not_over c (place_after (command_talk c) own) h)
 
 pub asks : (cs : List CommandView) (rs : List Reply) (turn from place : ℕ) (c : CommandView) → IsAt cs rs turn from place
-    → slice_get cs turn ≡ Some c → asked_at (progress cs rs) ≡ Some ((talk c).at place)
+    → slice_get cs turn ≡ Some c → asked_at (progress cs rs) ≡ Some ((command_talk c).at place)
 asks cs rs turn from place c a is =
-    let k : ℕ = place_after (talk c) (drop from rs) in
+    let k : ℕ = place_after (command_talk c) (drop from rs) in
     let here : place ≡ k = a.here c is in
-    let more : k < (talk c).places = omega (arith, here, a.more c is) in
+    let more : k < (command_talk c).places = omega (arith, here, a.more c is) in
     ap (λ (left : List CommandView). next_of left (progress cs rs).own) (a.left ∙ there cs turn c is)
     ∙ ap (λ (own : List Reply). next_of (c ∷ drop (turn + 1) cs) own) a.own
     ∙ asks_here c (drop (turn + 1) cs) (drop from rs) more
-    ∙ ap (λ j. Some ((talk c).at j)) (sym here)
+    ∙ ap (λ j. Some ((command_talk c).at j)) (sym here)
 
 pub all_over : (cs : List CommandView) (rs : List Reply) (turn from place : ℕ) → IsAt cs rs turn from place
     → slice_get cs turn ≡ None → asked_at (progress cs rs) ≡ None
@@ -91,37 +91,37 @@ slice_get_dropped (y ∷ ys) (suc m) q x e =
 
 -- ---- one reply more
 
-fit_push : (d : Dialogue) (k : ℕ) (own : List Reply) (r : Reply) → AreReplies d k own → Fits (d.at (fold (behind d) k own)) r
+fit_push : (d : Dialogue) (k : ℕ) (own : List Reply) (r : Reply) → AreReplies d k own → Fits (d.at (fold (next_place d) k own)) r
     → AreReplies d k (own ++ r ∷ [])
 fit_push d k [] r h fits = (fits, tt)
-fit_push d k (x ∷ xs) r h fits = (h.0, fit_push d (behind d k x) xs r h.1 fits)
+fit_push d k (x ∷ xs) r h fits = (h.0, fit_push d (next_place d k x) xs r h.1 fits)
 
 module _ (cs : List CommandView) (rs : List Reply) (turn from place : ℕ) (c : CommandView) (r : Reply)
     (a : IsAt cs rs turn from place) (is : slice_get cs turn ≡ Some c) where
   pub own_more : drop from (rs ++ r ∷ []) ≡ drop from rs ++ r ∷ []
   own_more = drop-append-le from rs (r ∷ []) a.from_within
 
-  place_more : place_after (talk c) (drop from rs ++ r ∷ []) ≡ behind (talk c) place r
-  place_more = place_push c (drop from rs) r ∙ ap (λ j. behind (talk c) j r) (sym (a.here c is))
+  place_more : place_after (command_talk c) (drop from rs ++ r ∷ []) ≡ next_place (command_talk c) place r
+  place_more = place_push c (drop from rs) r ∙ ap (λ j. next_place (command_talk c) j r) (sym (a.here c is))
 
   stepped : progress cs (rs ++ r ∷ []) ≡ replied_to (progress cs rs) (c ∷ drop (turn + 1) cs) r
   stepped = progress_push cs rs r ∙ ap (λ (left : List CommandView). replied_to (progress cs rs) left r) (a.left ∙ there cs turn c is)
 
-  by_end : (b : Bool) → is_over (talk c) (behind (talk c) place r) ≡ b
+  by_end : (b : Bool) → is_over (command_talk c) (next_place (command_talk c) place r) ≡ b
       → progress cs (rs ++ r ∷ []) ≡ cond b (turn_to (over_with (progress cs rs) c (drop from rs ++ r ∷ [])) (drop (turn + 1) cs))
       (record (progress cs rs) { own = drop from rs ++ r ∷ [] })
   by_end b e =
       let p : Progress = progress cs rs in
       stepped
-      ∙ ap (λ (own : List Reply). cond (is_over (talk c) (place_after (talk c) (own ++ r ∷ [])))
+      ∙ ap (λ (own : List Reply). cond (is_over (command_talk c) (place_after (command_talk c) (own ++ r ∷ [])))
       (turn_to (over_with p c (own ++ r ∷ [])) (drop (turn + 1) cs)) (record p { own = own ++ r ∷ [] })) a.own
       ∙ ap (λ t. cond t (turn_to (over_with p c (drop from rs ++ r ∷ [])) (drop (turn + 1) cs))
-      (record p { own = drop from rs ++ r ∷ [] })) (ap (λ j. is_over (talk c) j) place_more ∙ e)
+      (record p { own = drop from rs ++ r ∷ [] })) (ap (λ j. is_over (command_talk c) j) place_more ∙ e)
 
-  pub text_stays : is_over (talk c) (behind (talk c) place r) ≡ false → section_text cs (rs ++ r ∷ []) ≡ section_text cs rs
+  pub text_stays : is_over (command_talk c) (next_place (command_talk c) place r) ≡ false → section_text cs (rs ++ r ∷ []) ≡ section_text cs rs
   text_stays e = ap (λ (p : Progress). flat_map command_text p.over) (by_end false e)
 
-  pub text_goes : is_over (talk c) (behind (talk c) place r) ≡ true
+  pub text_goes : is_over (command_talk c) (next_place (command_talk c) place r) ≡ true
       → section_text cs (rs ++ r ∷ []) ≡ (section_text cs rs ++ command_text (record { command = c; replies = drop from rs ++ r ∷ [] }))
       ++ quiet_text (drop (turn + 1) cs)
   text_goes e =
@@ -134,13 +134,13 @@ module _ (cs : List CommandView) (rs : List Reply) (turn from place : ℕ) (c : 
       ∙ ap (λ (x : List ℕ). x ++ quiet_text (drop (turn + 1) cs)) one
 
   -- the replies of the command whose turn it is, with one more
-  pub fit_more : Fits ((talk c).at place) r → AreReplies (talk c) 0 (drop from (rs ++ r ∷ []))
+  pub fit_more : Fits ((command_talk c).at place) r → AreReplies (command_talk c) 0 (drop from (rs ++ r ∷ []))
   fit_more fits =
-      let there : Fits ((talk c).at (place_after (talk c) (drop from rs))) r = subst (λ j. Fits ((talk c).at j) r) (a.here c is) fits in
-      subst (λ (own : List Reply). AreReplies (talk c) 0 own) (sym own_more) (fit_push (talk c) 0 (drop from rs) r (a.fit c is) there)
+      let there : Fits ((command_talk c).at (place_after (command_talk c) (drop from rs))) r = subst (λ j. Fits ((command_talk c).at j) r) (a.here c is) fits in
+      subst (λ (own : List Reply). AreReplies (command_talk c) 0 own) (sym own_more) (fit_push (command_talk c) 0 (drop from rs) r (a.fit c is) there)
 
-  pub stays : Fits ((talk c).at place) r → is_over (talk c) (behind (talk c) place r) ≡ false
-      → IsAt cs (rs ++ r ∷ []) turn from (behind (talk c) place r)
+  pub stays : Fits ((command_talk c).at place) r → is_over (command_talk c) (next_place (command_talk c) place r) ≡ false
+      → IsAt cs (rs ++ r ∷ []) turn from (next_place (command_talk c) place r)
   stays fits e =
       let now : progress cs (rs ++ r ∷ []) ≡ record (progress cs rs) { own = drop from rs ++ r ∷ [] } = by_end false e in
       record {
@@ -149,19 +149,19 @@ module _ (cs : List CommandView) (rs : List Reply) (turn from place : ℕ) (c : 
         left = ap (λ (p : Progress). p.left) now ∙ a.left;
         own = ap (λ (p : Progress). p.own) now ∙ sym own_more;
         here = λ y at. let same : c ≡ y = some_is c y (sym is ∙ at) in
-            subst (λ (x : CommandView). behind (talk c) place r ≡ place_after (talk x) (drop from (rs ++ r ∷ []))) same
-            (sym (ap (λ (own : List Reply). place_after (talk c) own) own_more ∙ place_more));
+            subst (λ (x : CommandView). next_place (command_talk c) place r ≡ place_after (command_talk x) (drop from (rs ++ r ∷ []))) same
+            (sym (ap (λ (own : List Reply). place_after (command_talk c) own) own_more ∙ place_more));
         more = λ y at. let same : c ≡ y = some_is c y (sym is ∙ at) in
-            let n : (talk c).places ≡ (talk y).places = ap (λ (x : CommandView). (talk x).places) same in
-            elim (leb_tells (talk c).places (behind (talk c) place r)) [
+            let n : (command_talk c).places ≡ (command_talk y).places = ap (λ (x : CommandView). (command_talk x).places) same in
+            elim (leb_tells (command_talk c).places (next_place (command_talk c) place r)) [
               | inl x ↦ absurd (let no : true ≡ false = sym x.0 ∙ e in cc)
               | inr x ↦ omega (arith, x.1, n)
             ];
-        fit = λ y at. subst (λ (x : CommandView). AreReplies (talk x) 0 (drop from (rs ++ r ∷ []))) (some_is c y (sym is ∙ at))
+        fit = λ y at. subst (λ (x : CommandView). AreReplies (command_talk x) 0 (drop from (rs ++ r ∷ []))) (some_is c y (sym is ∙ at))
             (fit_more fits);
       }
 
-  pub goes : is_over (talk c) (behind (talk c) place r) ≡ true
+  pub goes : is_over (command_talk c) (next_place (command_talk c) place r) ≡ true
       → IsAt cs (rs ++ r ∷ []) (turn + 1 + quiet_front (drop (turn + 1) cs)) (length (rs ++ r ∷ [])) 0
   goes e =
       let rest : List CommandView = drop (turn + 1) cs in
@@ -175,9 +175,9 @@ module _ (cs : List CommandView) (rs : List Reply) (turn from place : ℕ) (c : 
         from_within = omega arith;
         left = ap (λ (p : Progress). p.left) now ∙ dropped;
         own = ap (λ (p : Progress). p.own) now ∙ sym none;
-        here = λ y at. sym (ap (λ (own : List Reply). place_after (talk y) own) none);
+        here = λ y at. sym (ap (λ (own : List Reply). place_after (command_talk y) own) none);
         more = λ y at. front_asks rest y (slice_get_dropped cs (turn + 1) q y at);
-        fit = λ y at. subst (λ (own : List Reply). AreReplies (talk y) 0 own) (sym none) tt;
+        fit = λ y at. subst (λ (own : List Reply). AreReplies (command_talk y) 0 own) (sym none) tt;
       }
 
 -- before any reply
@@ -195,8 +195,8 @@ at_first cs =
 
 -- ---- what a caller needs for a reply
 
-pub over_past : (c : CommandView) (k : ℕ) → (talk c).places ≤ k → is_over (talk c) k ≡ true
-over_past c k h = elim (leb_tells (talk c).places k) [ inl x ↦ x.0 | inr x ↦ absurd (omega (arith, x.1, h)) ]
+pub over_past : (c : CommandView) (k : ℕ) → (command_talk c).places ≤ k → is_over (command_talk c) k ≡ true
+over_past c k h = elim (leb_tells (command_talk c).places k) [ inl x ↦ x.0 | inr x ↦ absurd (omega (arith, x.1, h)) ]
 
 none_asked : (t : TransferView) → None ≡ Some t → ⊥
 none_asked t e = cc

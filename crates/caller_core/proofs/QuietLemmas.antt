@@ -5,7 +5,7 @@ use Rattle.std.specs.List.{flat_map}
 use Rattle.std.proofs.lemmas.Bool.Decides.{eqb_tells}
 use Rattle.std.proofs.lemmas.List.Sums.{sum_by-cons}
 use Rattle.caller_core.specs.Scripts.{command_text, front_room, room_of, quiet_text}
-use Rattle.caller_core.specs.Turns.{talk, quiet, quiet_front}
+use Rattle.caller_core.specs.Turns.{command_talk, quiet, quiet_front}
 use Rattle.caller_core.specs.View.{CommandView}
 use Rattle.caller_core.proofs.PlaceLemmas.{there}
 
@@ -28,37 +28,37 @@ pub front_parts : (cs : List CommandView) → sum_by room_of cs ≡ front_room c
 front_parts cs = sum_parts room_of (quiet_front cs) cs
 
 module _ (cs : List CommandView) (k : ℕ) (c : CommandView) (is : slice_get cs k ≡ Some c) where
-  none : (talk c).places ≡ 0 → ((talk c).places == 0) ≡ true
+  none : (command_talk c).places ≡ 0 → ((command_talk c).places == 0) ≡ true
   none e = ap (λ (n : ℕ). n == 0) e
 
-  some : 0 < (talk c).places → ((talk c).places == 0) ≡ false
-  some h = elim (eqb_tells (talk c).places 0) [ inl x ↦ absurd (omega (arith, x.1, h)) | inr x ↦ x.0 ]
+  some : 0 < (command_talk c).places → ((command_talk c).places == 0) ≡ false
+  some h = elim (eqb_tells (command_talk c).places 0) [ inl x ↦ absurd (omega (arith, x.1, h)) | inr x ↦ x.0 ]
 
-  pub front_quiet : (talk c).places ≡ 0 → quiet_front (drop k cs) ≡ quiet_front (drop (k + 1) cs) + 1
+  pub front_quiet : (command_talk c).places ≡ 0 → quiet_front (drop k cs) ≡ quiet_front (drop (k + 1) cs) + 1
   front_quiet e = ap quiet_front (there cs k c is) ∙ ap (λ b. cond b (quiet_front (drop (k + 1) cs) + 1) 0) (none e)
 
-  pub front_asking : 0 < (talk c).places → quiet_front (drop k cs) ≡ 0
+  pub front_asking : 0 < (command_talk c).places → quiet_front (drop k cs) ≡ 0
   front_asking h = ap quiet_front (there cs k c is) ∙ ap (λ b. cond b (quiet_front (drop (k + 1) cs) + 1) 0) (some h)
 
-  pub text_quiet : (talk c).places ≡ 0 → quiet_text (drop k cs) ≡ command_text (quiet c) ++ quiet_text (drop (k + 1) cs)
+  pub text_quiet : (command_talk c).places ≡ 0 → quiet_text (drop k cs) ≡ command_text (quiet c) ++ quiet_text (drop (k + 1) cs)
   text_quiet e =
       let rest : List CommandView = drop (k + 1) cs in
       ap (λ (xs : List CommandView). quiet_text xs) (there cs k c is) ∙ ap (λ b. text_by c rest b) (none e)
       ∙ ap (λ (xs : List CommandView). flat_map command_text (map quiet xs)) (take_cons (quiet_front rest) c rest)
 
-  pub text_asking : 0 < (talk c).places → quiet_text (drop k cs) ≡ []
+  pub text_asking : 0 < (command_talk c).places → quiet_text (drop k cs) ≡ []
   text_asking h =
       let rest : List CommandView = drop (k + 1) cs in
       ap (λ (xs : List CommandView). quiet_text xs) (there cs k c is) ∙ ap (λ b. text_by c rest b) (some h)
 
-  pub room_quiet : (talk c).places ≡ 0 → front_room (drop k cs) ≡ room_of c + front_room (drop (k + 1) cs)
+  pub room_quiet : (command_talk c).places ≡ 0 → front_room (drop k cs) ≡ room_of c + front_room (drop (k + 1) cs)
   room_quiet e =
       let rest : List CommandView = drop (k + 1) cs in
       ap (λ (xs : List CommandView). front_room xs) (there cs k c is) ∙ ap (λ b. room_by c rest b) (none e)
       ∙ ap (λ (xs : List CommandView). sum_by room_of xs) (take_cons (quiet_front rest) c rest)
       ∙ sum_by-cons room_of c (take (quiet_front rest) rest)
 
-  pub room_asking : 0 < (talk c).places → front_room (drop k cs) ≡ 0
+  pub room_asking : 0 < (command_talk c).places → front_room (drop k cs) ≡ 0
   room_asking h =
       let rest : List CommandView = drop (k + 1) cs in
       ap (λ (xs : List CommandView). front_room xs) (there cs k c is) ∙ ap (λ b. room_by c rest b) (some h)

@@ -18,7 +18,7 @@ use Rattle.i2c_spec.specs.Tree.{buses, root_of, root_named}
 use Rattle.tools.specs.Dialogues.{AreAlike, transfers_of}
 use Rattle.tools.specs.Replies.{most_brought}
 use Rattle.caller_core.specs.Roots.{names_root, command_names, HasBits}
-use Rattle.caller_core.specs.Turns.{talk}
+use Rattle.caller_core.specs.Turns.{command_talk}
 use Rattle.caller_core.specs.View.{CommandView}
 use Rattle.caller_core.specs.declared.totals.Totals.{Totals}
 
@@ -92,7 +92,7 @@ bits_more test xs i x bits bit within at had one =
 pub transfer_bit : (b : BoardView) (t : TransferView) (bit : ℕ) → bit ≡ root_bits b t → IsBit (names_root b) t bit
 transfer_bit b t bit e = record { exactly = λ r. ap (λ (n : ℕ). bit_at n r) e ∙ root_bit_at b t r }
 
-pub command_bits : (b : BoardView) (c : CommandView) (bits : ℕ) → HasBits (names_root b) (transfers_of (talk c)) bits
+pub command_bits : (b : BoardView) (c : CommandView) (bits : ℕ) → HasBits (names_root b) (transfers_of (command_talk c)) bits
     → IsBit (command_names b) c bits
 command_bits b c bits had = record { exactly = had.exactly }
 

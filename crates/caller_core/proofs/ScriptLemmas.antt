@@ -10,7 +10,7 @@ use Rattle.tools.specs.Readers.{FaultIs}
 use Rattle.tools.specs.declared.command.Cmd.{Cmd}
 use Rattle.tools.specs.declared.fault.LineFault.{LineFault}
 use Rattle.tools.specs.declared.fault.LineFault.TheVariants as line_fault
-use Rattle.caller_core.specs.Runs.{run_of, handles_behind}
+use Rattle.caller_core.specs.Runs.{command_run, handles_behind}
 use Rattle.caller_core.specs.declared.run.CommandRun.{CommandRun}
 use Rattle.caller_core.specs.View.{CommandView}
 use Rattle.caller_core.specs.Scripts.{Place, command_of, at_most, lines_read, behind_commands, behind_line_read, fault_at, ScriptFaultIs, commands_or_none, text_read}
@@ -25,7 +25,7 @@ behind_push old c (Err p) = refl
 
 -- a line read behind the commands before it: a command, none, or a refusal
 pub is_step_some : (b : BoardView) (number count : ℕ) (line : List ℕ) (old new : List CommandView) (c : Cmd) (run : CommandRun)
-    (before after : HandlesView) → count ≡ length old → run ≡ run_of b before c → after ≡ handles_behind b before c
+    (before after : HandlesView) → count ≡ length old → run ≡ command_run b before c → after ≡ handles_behind b before c
     → at_most count (line_read (block_limit b) line) ≡ Ok (Some c)
     → new ≡ old ++ record { echo = joined_words (words_of line); run = run } ∷ [] → IsStep b number old new line before after
 is_step_some b number count line old new c run before after n runs handles e made =

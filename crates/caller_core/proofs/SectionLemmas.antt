@@ -8,7 +8,7 @@ use Rattle.std.proofs.lemmas.List.Elements.{All-nil, All-cons, All-head, All-tai
 use Rattle.i2c_base.specs.Board.{BoardView}
 use Rattle.i2c_base.specs.declared.reply.Reply.{Reply}
 use Rattle.i2c_spec.specs.Flat.{block_limit}
-use Rattle.bus_journal.specs.Reports.{IsLine, ended, IsSectionLine, HasNoJournalLine}
+use Rattle.bus_journal.specs.Reports.{IsLine, line_ended, IsSectionLine, HasNoJournalLine}
 use Rattle.bus_journal.proofs.LineFeeds.{line-append}
 use Rattle.tools.specs.Lines.{line_read}
 use Rattle.tools.specs.Words.{begins_with_word, onto_first}
@@ -16,7 +16,7 @@ use Rattle.tools.specs.Splits.{is_blank, begins_feed, words_of, behind_space, jo
 use Rattle.tools.specs.declared.command.Cmd.{Cmd}
 use Rattle.tools.specs.Dialogues.{place_after, is_over}
 use Rattle.dev_handle.specs.Handles.{HandlesView}
-use Rattle.caller_core.specs.Turns.{Answered, Progress, talk, quiet, quiet_front, turn_to, over_with, replied_to, replied, progress}
+use Rattle.caller_core.specs.Turns.{Answered, Progress, command_talk, quiet, quiet_front, turn_to, over_with, replied_to, replied, progress}
 use Rattle.caller_core.specs.Scripts.{Place, command_of, at_most, lines_read, behind_commands, behind_line_read, commands_or_none, script_read, commands_of, command_text}
 use Rattle.caller_core.specs.Sections.{SectionsHaveNoJournalLine}
 use Rattle.caller_core.specs.Runs.{handles_behind}
@@ -135,7 +135,7 @@ turned over cs done all =
 keeps : (p : Progress) (left : List CommandView) (r : Reply) → HaveLines p → All HasLines left → HaveLines (replied_to p left r)
 keeps p [] r h all = h
 keeps p (c ∷ cs) r h all =
-    elim (is_over (talk c) (place_after (talk c) (p.own ++ r ∷ []))) as
+    elim (is_over (command_talk c) (place_after (command_talk c) (p.own ++ r ∷ []))) as
     (λ b. HaveLines (cond b (turn_to (over_with p c (p.own ++ r ∷ [])) cs) (record p { own = p.own ++ r ∷ [] }))) [
       | true ↦
           let a : Answered = record { command = c; replies = p.own ++ r ∷ [] } in
@@ -156,12 +156,12 @@ abbrev words_line : Answered → List ℕ
 words_line a = codes "> " ++ a.command.echo
 
 abbrev answer_of : Answered → List (List ℕ)
-answer_of a = (talk a.command).lines a.replies
+answer_of a = (command_talk a.command).lines a.replies
 
-command_lines : (a : Answered) (rest : List ℕ) → command_text a ++ rest ≡ ended (words_line a) ++ (flat_map ended (answer_of a) ++ rest)
+command_lines : (a : Answered) (rest : List ℕ) → command_text a ++ rest ≡ line_ended (words_line a) ++ (flat_map line_ended (answer_of a) ++ rest)
 command_lines a rest =
     let echo : List ℕ = a.command.echo in
-    let answer : List ℕ = flat_map ended (answer_of a) in
+    let answer : List ℕ = flat_map line_ended (answer_of a) in
     ap (λ x. codes "> " ++ x) (append_assoc echo (10 ∷ answer) rest ∙ sym (append_assoc echo (10 ∷ []) (answer ++ rest)))
 
 words_other : (a : Answered) → words_line a ≡ codes "journal" → ⊥
@@ -177,8 +177,8 @@ section_lines (a ∷ done) h =
       lines = words_line a ∷ (answer ++ more.lines);
       text_is =
           command_lines a (flat_map command_text done)
-          ∙ ap (λ x. ended (words_line a) ++ (flat_map ended answer ++ x)) more.text_is
-          ∙ ap (λ x. ended (words_line a) ++ x) (sym (flat_map-append ended answer more.lines));
+          ∙ ap (λ x. line_ended (words_line a) ++ (flat_map line_ended answer ++ x)) more.text_is
+          ∙ ap (λ x. line_ended (words_line a) ++ x) (sym (flat_map-append line_ended answer more.lines));
       others =
           All-cons IsSectionLine (words_line a) (answer ++ more.lines)
           (record { one = line-append (codes "> ") a.command.echo refl has.words; other = words_other a })

@@ -6,8 +6,8 @@ use Rattle.std.proofs.lemmas.Bool.Decides.{leb_tells, eqb_tells}
 use Rattle.std.proofs.lemmas.List.Sums.{fold_push, sum_by-cons}
 use Rattle.i2c_base.specs.Transfer.{TransferView}
 use Rattle.i2c_base.specs.declared.reply.Reply.{Reply}
-use Rattle.tools.specs.Dialogues.{Dialogue, behind, place_after, is_over, sum_behind}
-use Rattle.caller_core.specs.Turns.{Answered, Progress, talk, quiet_front, turn_to, over_with, replied, progress, next_of, asked_at, sum_of, sum_from, sum_left}
+use Rattle.tools.specs.Dialogues.{Dialogue, next_place, place_after, is_over, sum_behind}
+use Rattle.caller_core.specs.Turns.{Answered, Progress, command_talk, quiet_front, turn_to, over_with, replied, progress, next_of, asked_at, sum_of, sum_from, sum_left}
 use Rattle.caller_core.specs.View.{CommandView}
 
 -- ---- sums over places
@@ -43,9 +43,9 @@ drop_cons n x xs = rw add-one
 quiet_sum : (f : TransferView → ℕ) (cs : List CommandView) → sum_by (sum_of f) (drop (quiet_front cs) cs) ≡ sum_by (sum_of f) cs
 quiet_sum f [] = refl
 quiet_sum f (c ∷ cs) =
-    elim (eqb_tells (talk c).places 0) [
+    elim (eqb_tells (command_talk c).places 0) [
       | inl x ↦
-          let none : sum_of f c ≡ 0 = sum_past f (talk c) 0 (omega (arith, x.1)) in
+          let none : sum_of f c ≡ 0 = sum_past f (command_talk c) 0 (omega (arith, x.1)) in
           let dropped : drop (quiet_front (c ∷ cs)) (c ∷ cs) ≡ drop (quiet_front cs) cs =
           ap (λ b. drop (cond b (quiet_front cs + 1) 0) (c ∷ cs)) x.0 ∙ drop_cons (quiet_front cs) c cs in
           omega (arith, ap (λ (xs : List CommandView). sum_by (sum_of f) xs) dropped, quiet_sum f cs, sum_by-cons (sum_of f) c cs, none)
@@ -65,8 +65,8 @@ pub progress_push : (cs : List CommandView) (rs : List Reply) (r : Reply) → pr
 progress_push cs rs r = fold_push replied (turn_to [] cs) rs r
 
 pub place_push : (c : CommandView) (own : List Reply) (r : Reply)
-    → place_after (talk c) (own ++ r ∷ []) ≡ behind (talk c) (place_after (talk c) own) r
-place_push c own r = fold_push (behind (talk c)) 0 own r
+    → place_after (command_talk c) (own ++ r ∷ []) ≡ next_place (command_talk c) (place_after (command_talk c) own) r
+place_push c own r = fold_push (next_place (command_talk c)) 0 own r
 
 some_same : (t u : TransferView) → Some t ≡ Some u → t ≡ u
 some_same t u e = cc
@@ -81,19 +81,19 @@ falls_in : (f : TransferView → ℕ) (over : List Answered) (left : List Comman
 falls_in f over [] own r t e = absurd (none_some t e)
 falls_in f over (c ∷ cs) own r t e =
     let p : Progress = record { over = over; left = c ∷ cs; own = own } in
-    let k : ℕ = place_after (talk c) own in
-    elim (leb_tells (talk c).places k) [
-      | inl x ↦ absurd (none_some t (sym (ap (λ b. cond b None (Some ((talk c).at k))) x.0) ∙ e))
+    let k : ℕ = place_after (command_talk c) own in
+    elim (leb_tells (command_talk c).places k) [
+      | inl x ↦ absurd (none_some t (sym (ap (λ b. cond b None (Some ((command_talk c).at k))) x.0) ∙ e))
       | inr x ↦
-          let same : (talk c).at k ≡ t = some_same ((talk c).at k) t (sym (ap (λ b. cond b None (Some ((talk c).at k))) x.0) ∙ e) in
-          let here : sum_behind f (talk c) k ≡ f ((talk c).at k) + sum_behind f (talk c) (k + 1) = sum_here f (talk c) k x.1 in
-          let later : sum_behind f (talk c) (k + 1 + (talk c).skips k r) ≤ sum_behind f (talk c) (k + 1) =
-          sum_later f (talk c) (k + 1) ((talk c).skips k r) in
-          let next : sum_behind f (talk c) (place_after (talk c) (own ++ r ∷ [])) ≡ sum_behind f (talk c) (k + 1 + (talk c).skips k r) =
-          ap (λ j. sum_behind f (talk c) j) (place_push c own r) in
-          elim (is_over (talk c) (place_after (talk c) (own ++ r ∷ []))) as
+          let same : (command_talk c).at k ≡ t = some_same ((command_talk c).at k) t (sym (ap (λ b. cond b None (Some ((command_talk c).at k))) x.0) ∙ e) in
+          let here : sum_behind f (command_talk c) k ≡ f ((command_talk c).at k) + sum_behind f (command_talk c) (k + 1) = sum_here f (command_talk c) k x.1 in
+          let later : sum_behind f (command_talk c) (k + 1 + (command_talk c).skips k r) ≤ sum_behind f (command_talk c) (k + 1) =
+          sum_later f (command_talk c) (k + 1) ((command_talk c).skips k r) in
+          let next : sum_behind f (command_talk c) (place_after (command_talk c) (own ++ r ∷ [])) ≡ sum_behind f (command_talk c) (k + 1 + (command_talk c).skips k r) =
+          ap (λ j. sum_behind f (command_talk c) j) (place_push c own r) in
+          elim (is_over (command_talk c) (place_after (command_talk c) (own ++ r ∷ []))) as
           (λ b. sum_left f (cond b (turn_to (over_with p c (own ++ r ∷ [])) cs) (record p { own = own ++ r ∷ [] })) + f t
-          ≤ sum_behind f (talk c) k + sum_by (sum_of f) cs) [
+          ≤ sum_behind f (command_talk c) k + sum_by (sum_of f) cs) [
             | true ↦ omega (arith, here, ap f same, sum_turn f (over_with p c (own ++ r ∷ [])) cs)
             | false ↦ omega (arith, here, later, next, ap f same)
           ]

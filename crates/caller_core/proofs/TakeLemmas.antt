@@ -11,13 +11,13 @@ use Rattle.i2c_base.specs.Replies.{reply_by, most_read}
 use Rattle.i2c_base.specs.declared.reply.ReplyHead.{ReplyHead}
 use Rattle.i2c_base.specs.declared.reply.ReplyHead.TheVariants as head
 use Rattle.packed.specs.View.{PackedView}
-use Rattle.tools.specs.Dialogues.{AreReplies, behind, is_over}
+use Rattle.tools.specs.Dialogues.{AreReplies, next_place, is_over}
 use Rattle.tools.specs.Replies.{reply_of, replies_of, most_brought}
 use Rattle.tools.specs.View.{TextView}
 use Rattle.tools.proofs.TransferLemmas.{IsAsk, brings_few}
 use Rattle.caller_core.specs.Callers.{need_at, owed_by}
 use Rattle.caller_core.specs.Kept.{IsCaller, HasRoom}
-use Rattle.caller_core.specs.Turns.{talk, quiet_front, progress, asked_at, sum_left, IsAt}
+use Rattle.caller_core.specs.Turns.{command_talk, quiet_front, progress, asked_at, sum_left, IsAt}
 use Rattle.caller_core.specs.Scripts.{commands_of, asked_by, command_text, quiet_text, section_text, room_of}
 use Rattle.caller_core.specs.View.{CommandView, ScriptView, CallerView}
 use Rattle.caller_core.specs.declared.totals.Totals.{Totals}
@@ -108,9 +108,9 @@ module _ (script : ScriptView) (cs : List CommandView) (taken : PackedView Reply
       omega (arith, ap length these, k.few, room.bytes, sum_falls most_brought cs before r k.transfer k.next)
 
   module _ (room : HasRoom cs taken printed turn) (k : IsTaking cs before turn r) (c : CommandView) (there : slice_get cs turn ≡ Some c) where
-    fits_here : Fits ((talk c).at place) r
+    fits_here : Fits ((command_talk c).at place) r
     fits_here =
-        let same : k.transfer ≡ (talk c).at place = transfer_same k.transfer ((talk c).at place)
+        let same : k.transfer ≡ (command_talk c).at place = transfer_same k.transfer ((command_talk c).at place)
         (sym k.next ∙ asks cs before turn from place c is.at there) in
         subst (λ (t : TransferView). Fits t r) same k.fits
 
@@ -144,16 +144,16 @@ module _ (script : ScriptView) (cs : List CommandView) (taken : PackedView Reply
           )
 
       -- what the command has been told, where it is over
-      pub replies_so : AreReplies (talk c) 0 (drop from (replies_of then.items))
+      pub replies_so : AreReplies (command_talk c) 0 (drop from (replies_of then.items))
       replies_so =
-          subst (λ (xs : List Reply). AreReplies (talk c) 0 (drop from xs)) (sym now)
+          subst (λ (xs : List Reply). AreReplies (command_talk c) 0 (drop from xs)) (sym now)
           (fit_more cs before turn from place c r is.at there fits_here)
 
-      pub stays_so : (next : ℕ) → next ≡ behind (talk c) place r → next < (talk c).places
+      pub stays_so : (next : ℕ) → next ≡ next_place (command_talk c) place r → next < (command_talk c).places
           → IsCaller script cs then.items printed.bytes turn from next totals
       stays_so next to more =
-          let no : is_over (talk c) (behind (talk c) place r) ≡ false = ap (λ n. is_over (talk c) n) (sym to) ∙ not_over c next more in
-          let at : IsAt cs (before ++ r ∷ []) turn from (behind (talk c) place r) = stays cs before turn from place c r is.at there
+          let no : is_over (command_talk c) (next_place (command_talk c) place r) ≡ false = ap (λ n. is_over (command_talk c) n) (sym to) ∙ not_over c next more in
+          let at : IsAt cs (before ++ r ∷ []) turn from (next_place (command_talk c) place r) = stays cs before turn from place c r is.at there
           fits_here no in
           record {
             whole = is.whole;
@@ -171,13 +171,13 @@ module _ (script : ScriptView) (cs : List CommandView) (taken : PackedView Reply
       pub stays_room : HasRoom cs then printed turn
       stays_room = record { replies = room_then; bytes = bytes_then; text = room.text }
 
-      pub goes_on : (text : TextView) (next end to : ℕ) → next ≡ behind (talk c) place r → (talk c).places ≤ next → end ≡ length then.items
+      pub goes_on : (text : TextView) (next end to : ℕ) → next ≡ next_place (command_talk c) place r → (command_talk c).places ≤ next → end ≡ length then.items
           → to ≡ turn + 1 + quiet_front (drop (turn + 1) cs)
           → text.bytes ≡ (printed.bytes ++ command_text (record { command = c; replies = drop from (replies_of then.items) }))
           ++ quiet_text (drop (turn + 1) cs)
           → IsCaller script cs then.items text.bytes to end 0 totals
       goes_on text next end to is_next past all is_to told =
-          let over : is_over (talk c) (behind (talk c) place r) ≡ true = ap (λ n. is_over (talk c) n) (sym is_next)
+          let over : is_over (command_talk c) (next_place (command_talk c) place r) ≡ true = ap (λ n. is_over (command_talk c) n) (sym is_next)
           ∙ over_past c next past in
           let last : end ≡ length (before ++ r ∷ []) = all ∙ sym (length-map then.items reply_of) ∙ ap length now in
           let at : IsAt cs (before ++ r ∷ []) (turn + 1 + quiet_front (drop (turn + 1) cs)) (length (before ++ r ∷ [])) 0 = goes cs before

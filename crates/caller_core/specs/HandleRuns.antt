@@ -3,7 +3,7 @@ use Rattle.std.specs.Prelude.{⊤, ℕ, Bool, List, [], ◌∷◌, ◌++◌, Non
 use Rattle.std.specs.Fmt.{decimal}
 use Rattle.bus_spec.specs.Lines.{errno_text}
 use Rattle.i2c_base.specs.Board.{BoardView}
-use Rattle.dev_handle.specs.Handles.{HandlesView, answer_of, changed, open_answer, opened, place_of, slave_answer, slaved, target_of, with_pec}
+use Rattle.dev_handle.specs.Handles.{HandlesView, answer_by_handle, changed, open_answer, opened, bus_and_force, slave_answer, slaved, target_of, with_pec}
 use Rattle.dev_handle.specs.declared.fault.HandleFault.{HandleFault}
 use Rattle.dev_handle.specs.declared.fault.HandleFault.TheVariants as fault
 use Rattle.dev_handle.specs.declared.handle.Slave.{Slave}
@@ -39,37 +39,37 @@ says_line line = run.Says (line ∷ [])
 -- ---- transfers
 
 -- what is asked for by an answer, or why nothing is
-abbrev pub by_answer : {X : Type 0} → (X → ToolRun) → Result X HandleFault → ToolRun
-by_answer f (Ok x) = f x
-by_answer f (Err e) = says_line (fault_text e)
+abbrev pub run_by_answer : {X : Type 0} → (X → ToolRun) → Result X HandleFault → ToolRun
+run_by_answer f (Ok x) = f x
+run_by_answer f (Err e) = says_line (fault_text e)
 
 -- messages on the bus of a handle
 abbrev pub messages_at : List Desc → ℕ × Bool → ToolRun
 messages_at ms place = run.Transfers (record { force = place.1; bus = place.0; messages = ms })
 
 -- one message to whom a handle reaches, and an SMBus call to him
-abbrev pub message_to : DescOp → Slave → ToolRun
-message_to o s = messages_at (record { addr = s.addr; op = o } ∷ []) (s.bus, s.force)
+abbrev pub message_by_handle : DescOp → Slave → ToolRun
+message_by_handle o s = messages_at (record { addr = s.addr; op = o } ∷ []) (s.bus, s.force)
 
 abbrev pub callee_of : Slave → Callee
 callee_of s = record { bus = s.bus; addr = s.addr; force = s.force; pec = s.pec }
 
-abbrev pub call_to : HeldOp → Slave → ToolRun
-call_to o s = run.Calls (record { to = callee_of s; op = o })
+abbrev pub call_by_handle : HeldOp → Slave → ToolRun
+call_by_handle o s = run.Calls (record { to = callee_of s; op = o })
 
 -- ---- a line, with the handles before it
 
 -- how it runs
 abbrev pub handle_run : BoardView → HandlesView → HandleCmd → ToolRun
 handle_run b v (handle.Open bus) = says_line (number_text (open_answer b v bus))
-handle_run b v (handle.Slave h addr force) = says_line (done_text (answer_of v h (slave_answer b addr force)))
-handle_run b v (handle.Pec h on) = says_line (done_text (answer_of v h (λ x. Ok tt)))
-handle_run b v (handle.Read h n) = by_answer (message_to (op.Read n)) (answer_of v h target_of)
-handle_run b v (handle.Write h bytes) = by_answer (message_to (op.Write bytes)) (answer_of v h target_of)
-handle_run b v (handle.Rdwr h ms) = by_answer (messages_at ms) (answer_of v h place_of)
-handle_run b v (handle.Proc h reg word) = by_answer (call_to (held.ProcCall reg word)) (answer_of v h target_of)
-handle_run b v (handle.Bproc h reg bytes) = by_answer (call_to (held.BlockProc reg bytes)) (answer_of v h target_of)
-handle_run b v (handle.Close h) = says_line (done_text (answer_of v h (λ x. Ok tt)))
+handle_run b v (handle.Slave h addr force) = says_line (done_text (answer_by_handle v h (slave_answer b addr force)))
+handle_run b v (handle.Pec h on) = says_line (done_text (answer_by_handle v h (λ x. Ok tt)))
+handle_run b v (handle.Read h n) = run_by_answer (message_by_handle (op.Read n)) (answer_by_handle v h target_of)
+handle_run b v (handle.Write h bytes) = run_by_answer (message_by_handle (op.Write bytes)) (answer_by_handle v h target_of)
+handle_run b v (handle.Rdwr h ms) = run_by_answer (messages_at ms) (answer_by_handle v h bus_and_force)
+handle_run b v (handle.Proc h reg word) = run_by_answer (call_by_handle (held.ProcCall reg word)) (answer_by_handle v h target_of)
+handle_run b v (handle.Bproc h reg bytes) = run_by_answer (call_by_handle (held.BlockProc reg bytes)) (answer_by_handle v h target_of)
+handle_run b v (handle.Close h) = says_line (done_text (answer_by_handle v h (λ x. Ok tt)))
 
 -- the handles behind it
 abbrev pub handles_after : BoardView → HandlesView → HandleCmd → HandlesView

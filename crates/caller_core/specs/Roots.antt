@@ -6,7 +6,7 @@ use Rattle.i2c_base.specs.Board.{BoardView}
 use Rattle.i2c_base.specs.Transfer.{TransferView}
 use Rattle.i2c_spec.specs.Tree.{buses, root_of}
 use Rattle.tools.specs.Dialogues.{transfers_of}
-use Rattle.caller_core.specs.Turns.{talk}
+use Rattle.caller_core.specs.Turns.{command_talk}
 use Rattle.caller_core.specs.View.{CommandView}
 
 -- the transfer's bus hangs from root r; a bus that the board lacks names no root
@@ -15,7 +15,7 @@ names_root b r t = nat_lt t.bus (buses b) && (root_of b t.bus == r)
 
 -- this command asks for such a transfer
 abbrev pub command_names : BoardView → ℕ → CommandView → Bool
-command_names b r c = list_any (names_root b r) (transfers_of (talk c))
+command_names b r c = list_any (names_root b r) (transfers_of (command_talk c))
 
 -- a number that has a bit for exactly those r that some x passes the test of
 pub record HasBits {X : Type 0} (test : ℕ → X → Bool) (xs : List X) (bits : ℕ) : Type 0 where

@@ -13,15 +13,15 @@ use Rattle.caller_core.specs.declared.run.CommandRun.{CommandRun}
 use Rattle.caller_core.specs.declared.run.CommandRun.TheVariants as run
 
 -- what it says to the bus
-abbrev pub dialogue_of : CommandRun → Dialogue
-dialogue_of (run.Tool r) = forms.dialogue_of r
-dialogue_of (run.Driver r) = drivers.dialogue_of r
+abbrev pub command_dialogue : CommandRun → Dialogue
+command_dialogue (run.Tool r) = forms.dialogue_of r
+command_dialogue (run.Driver r) = drivers.driver_dialogue r
 
 -- how it runs, and the handles behind it
-abbrev pub run_of : BoardView → HandlesView → Cmd → CommandRun
-run_of b v (cmd.Tool t) = run.Tool (tools.run_of b t)
-run_of b v (cmd.Driver d) = run.Driver (driver_run b d)
-run_of b v (cmd.Handle h) = run.Tool (handle_run b v h)
+abbrev pub command_run : BoardView → HandlesView → Cmd → CommandRun
+command_run b v (cmd.Tool t) = run.Tool (tools.tool_run b t)
+command_run b v (cmd.Driver d) = run.Driver (driver_run b d)
+command_run b v (cmd.Handle h) = run.Tool (handle_run b v h)
 
 abbrev pub handles_behind : BoardView → HandlesView → Cmd → HandlesView
 handles_behind b v (cmd.Tool t) = v

@@ -1,7 +1,7 @@
 -- A script: the commands of its lines, in order, or the first line that isn't in the grammar.
 use Rattle.std.specs.Prelude.{⊤, ◌≡◌, ℕ, ◌+◌, nat_le, List, [], ◌∷◌, ◌++◌, length, map, take, codes, Option, Some, None, Result, Ok, Err, if◌then◌else◌}
 use Rattle.std.specs.List.{sum_by, flat_map}
-use Rattle.bus_journal.specs.Reports.{ended}
+use Rattle.bus_journal.specs.Reports.{line_ended}
 use Rattle.i2c_base.specs.Board.{BoardView}
 use Rattle.i2c_base.specs.Transfer.{TransferView}
 use Rattle.i2c_base.specs.declared.reply.Reply.{Reply}
@@ -13,15 +13,15 @@ use Rattle.tools.specs.declared.command.Cmd.{Cmd}
 use Rattle.tools.specs.declared.fault.LineFault.{LineFault}
 use Rattle.tools.specs.declared.fault.LineFault.TheVariants as line_fault
 use Rattle.dev_handle.specs.Handles.{HandlesView}
-use Rattle.caller_core.specs.Runs.{run_of, handles_behind}
-use Rattle.caller_core.specs.Turns.{Answered, talk, quiet, quiet_front, progress, asked_at, sum_of, sum_left}
+use Rattle.caller_core.specs.Runs.{command_run, handles_behind}
+use Rattle.caller_core.specs.Turns.{Answered, command_talk, quiet, quiet_front, progress, asked_at, sum_of, sum_left}
 use Rattle.caller_core.specs.View.{CommandView, ScriptView}
 use Rattle.caller_core.specs.declared.script.ScriptFault.{ScriptFault}
 use Rattle.caller_core.specs.declared.script.ScriptFault.TheVariants as script_fault
 
 -- the command of a line, over a board, with the handles before it
 abbrev pub command_of : BoardView → HandlesView → List ℕ → Cmd → CommandView
-command_of b v line c = record { echo = joined_words (words_of line); run = run_of b v c }
+command_of b v line c = record { echo = joined_words (words_of line); run = command_run b v c }
 
 -- a line read behind so many commands: 1,000 is the most, and one more is refused at its first word
 abbrev pub at_most : ℕ → Result (Option Cmd) ℕ → Result (Option Cmd) ℕ
@@ -87,11 +87,11 @@ left_of s taken = sum_left (cost_of s.board) (progress (commands_of s) taken)
 
 -- a command that is over: its words, and what it answers
 abbrev pub command_text : Answered → List ℕ
-command_text a = codes "> " ++ (a.command.echo ++ (10 ∷ flat_map ended ((talk a.command).lines a.replies)))
+command_text a = codes "> " ++ (a.command.echo ++ (10 ∷ flat_map line_ended ((command_talk a.command).lines a.replies)))
 
 -- a command with its answer has at most so many bytes: those of its words, of the longest answer, and three beside them
 abbrev pub room_of : CommandView → ℕ
-room_of c = length c.echo + ((talk c).most + 3)
+room_of c = length c.echo + ((command_talk c).most + 3)
 
 -- those at the front that ask for nothing have at most so many
 abbrev pub front_room : List CommandView → ℕ

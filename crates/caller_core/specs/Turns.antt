@@ -4,12 +4,12 @@ use Rattle.std.specs.List.{fold, sum_by}
 use Rattle.i2c_base.specs.Transfer.{TransferView}
 use Rattle.i2c_base.specs.declared.reply.Reply.{Reply}
 use Rattle.tools.specs.Dialogues.{Dialogue, AreReplies, place_after, is_over, sum_behind}
-use Rattle.caller_core.specs.Runs.{dialogue_of}
+use Rattle.caller_core.specs.Runs.{command_dialogue}
 use Rattle.caller_core.specs.View.{CommandView}
 
 -- what a command says to the bus
-abbrev pub talk : CommandView → Dialogue
-talk c = dialogue_of c.run
+abbrev pub command_talk : CommandView → Dialogue
+command_talk c = command_dialogue c.run
 
 -- a command with the replies that it took
 pub record Answered : Type 0 where
@@ -25,7 +25,7 @@ pub record Progress : Type 0 where
 -- so many commands at the front ask for nothing: they are over as soon as it is their turn
 abbrev pub quiet_front : List CommandView → ℕ
 quiet_front [] = 0
-quiet_front (c ∷ cs) = if (talk c).places == 0 then quiet_front cs + 1 else 0
+quiet_front (c ∷ cs) = if (command_talk c).places == 0 then quiet_front cs + 1 else 0
 
 abbrev pub quiet : CommandView → Answered
 quiet c = record { command = c; replies = [] }
@@ -40,7 +40,7 @@ over_with p c own = p.over ++ record { command = c; replies = own } ∷ []
 abbrev pub replied_to : Progress → List CommandView → Reply → Progress
 replied_to p [] r = p
 replied_to p (c ∷ cs) r =
-    if is_over (talk c) (place_after (talk c) (p.own ++ r ∷ [])) then turn_to (over_with p c (p.own ++ r ∷ [])) cs
+    if is_over (command_talk c) (place_after (command_talk c) (p.own ++ r ∷ [])) then turn_to (over_with p c (p.own ++ r ∷ [])) cs
     else record p { own = p.own ++ r ∷ [] }
 
 abbrev pub replied : Progress → Reply → Progress
@@ -52,18 +52,18 @@ progress cs rs = fold replied (turn_to [] cs) rs
 -- what is asked for next: the transfer at the place to which the first command left has come
 abbrev pub next_of : List CommandView → List Reply → Option TransferView
 next_of [] own = None
-next_of (c ∷ cs) own = if is_over (talk c) (place_after (talk c) own) then None else Some ((talk c).at (place_after (talk c) own))
+next_of (c ∷ cs) own = if is_over (command_talk c) (place_after (command_talk c) own) then None else Some ((command_talk c).at (place_after (command_talk c) own))
 
 abbrev pub asked_at : Progress → Option TransferView
 asked_at p = next_of p.left p.own
 
 -- a sum over the transfers of a command, and over all that are still to come, where none is passed over
 abbrev pub sum_of : (TransferView → ℕ) → CommandView → ℕ
-sum_of f c = sum_behind f (talk c) 0
+sum_of f c = sum_behind f (command_talk c) 0
 
 abbrev pub sum_from : (TransferView → ℕ) → List CommandView → List Reply → ℕ
 sum_from f [] own = 0
-sum_from f (c ∷ cs) own = sum_behind f (talk c) (place_after (talk c) own) + sum_by (sum_of f) cs
+sum_from f (c ∷ cs) own = sum_behind f (command_talk c) (place_after (command_talk c) own) + sum_by (sum_of f) cs
 
 abbrev pub sum_left : (TransferView → ℕ) → Progress → ℕ
 sum_left f p = sum_from f p.left p.own
@@ -74,6 +74,6 @@ pub record IsAt (cs : List CommandView) (rs : List Reply) (turn from place : ℕ
   pub from_within : from ≤ length rs
   pub left : (progress cs rs).left ≡ drop turn cs
   pub own : (progress cs rs).own ≡ drop from rs
-  pub here : (c : CommandView) → slice_get cs turn ≡ Some c → place ≡ place_after (talk c) (drop from rs)
-  pub more : (c : CommandView) → slice_get cs turn ≡ Some c → place < (talk c).places
-  pub fit : (c : CommandView) → slice_get cs turn ≡ Some c → AreReplies (talk c) 0 (drop from rs)
+  pub here : (c : CommandView) → slice_get cs turn ≡ Some c → place ≡ place_after (command_talk c) (drop from rs)
+  pub more : (c : CommandView) → slice_get cs turn ≡ Some c → place < (command_talk c).places
+  pub fit : (c : CommandView) → slice_get cs turn ≡ Some c → AreReplies (command_talk c) 0 (drop from rs)

@@ -2,7 +2,7 @@
 
 ghost use Rattle.std.specs.Prelude.{◌≡◌, ◌+◌, ◌≤◌, ◌^◌, ◌++◌, [], length, drop, Ok, IfSome, IsSome, IfOk, IfErr, OnOk};
 ghost use Rattle.tools.specs.Dialogues.{AreReplies};
-ghost use Rattle.caller_core.specs.Runs.{dialogue_of};
+ghost use Rattle.caller_core.specs.Runs.{command_dialogue};
 ghost use Rattle.caller_core.specs.Callers.{IsOpened, ScriptsAreFair};
 ghost use Rattle.caller_core.specs.Reach.{IsReachOf};
 ghost use Rattle.caller_core.specs.Roots.{HasRoots};
@@ -157,7 +157,7 @@ fn make_room(bytes: Option<usize>, out: &mut Text) -> Result<(), NoMemory>
 // Prints a command with these words, which is over, and its answer.
 #[inline(always)]
 fn push_command(out: &mut Text, echo: &[u8], run: &CommandRun, replies: Window<'_>)
-    requires replies { AreReplies (dialogue_of run.now) 0 replies }
+    requires replies { AreReplies (command_dialogue run.now) 0 replies }
     requires room { room_of (record { echo = echo.now; run = run.now }) ≤ out.old.room }
     ensures bytes { out.new.bytes ≡ out.old.bytes ++ command_text (record { command = record { echo = echo.now; run = run.now }; replies = replies.entry }) }
     ensures room { out.old.room ≤ out.new.room + room_of (record { echo = echo.now; run = run.now }) }

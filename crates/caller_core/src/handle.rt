@@ -5,7 +5,7 @@ ghost use Rattle.bus_journal.specs.Reports.{IsLine};
 ghost use Rattle.dev_handle.specs.Handles.{AreOnBoard, MOST_HANDLES, open_answer, opened};
 ghost use Rattle.tools.specs.Combined.{AreMessages, IsOpInRange};
 ghost use Rattle.tools.specs.HandleLines.{IsHandleInRange};
-ghost use Rattle.caller_core.specs.HandleRuns.{by_answer, call_to, done_text, fault_text, handle_run, handles_after, message_to, messages_at, number_text, says_line};
+ghost use Rattle.caller_core.specs.HandleRuns.{run_by_answer, call_by_handle, done_text, fault_text, handle_run, handles_after, message_by_handle, messages_at, number_text, says_line};
 
 use bus_journal::{errno_name, push_bytes, push_number};
 use dev_handle::{HandleFault, Handles, Slave};
@@ -85,7 +85,7 @@ fn sends(
     messages: Descs,
 ) -> Result<ToolRun, NoMemory>
     requires { AreMessages messages }
-    ensures { IfOk result (λ r. r ≡ by_answer (messages_at messages) place) }
+    ensures { IfOk result (λ r. r ≡ run_by_answer (messages_at messages) place) }
 {
     match place {
         Ok((bus, force)) => Ok(ToolRun::Transfers(Messages::new(Combined {
@@ -104,7 +104,7 @@ fn sends_one(
     op: DescOp,
 ) -> Result<ToolRun, NoMemory>
     requires { IsOpInRange op }
-    ensures { IfOk result (λ r. r ≡ by_answer (message_to op) target) }
+    ensures { IfOk result (λ r. r ≡ run_by_answer (message_by_handle op) target) }
 {
     match target {
         Ok(
@@ -125,7 +125,7 @@ fn sends_one(
 
 // Makes a call to whom a handle reaches.
 fn calls(alloc: Global, target: Result<Slave, HandleFault>, op: HeldOp) -> Result<ToolRun, NoMemory>
-    ensures { IfOk result (λ r. r ≡ by_answer (call_to op) target) }
+    ensures { IfOk result (λ r. r ≡ run_by_answer (call_by_handle op) target) }
 {
     match target {
         Ok(slave) => {

@@ -2,12 +2,12 @@
 
 ghost use Rattle.std.specs.Prelude.{◌≡◌, ℕ, true, List, ◌+◌, ◌-◌, ◌<◌, ◌≤◌, ◌++◌, length, IfOk, OnOk};
 ghost use Rattle.std.specs.List.{flat_map};
-ghost use Rattle.bus_journal.specs.Reports.{ended};
+ghost use Rattle.bus_journal.specs.Reports.{line_ended};
 ghost use Rattle.i2c_base.specs.Replies.{reply_by};
 ghost use Rattle.dev_handle.specs.Handles.{AreOnBoard, MOST_HANDLES};
 ghost use Rattle.tools.specs.Commands.{IsInRange};
-ghost use Rattle.tools.specs.Dialogues.{MOST_PLACES, AreAlike, AreReplies, behind};
-ghost use Rattle.caller_core.specs.Runs.{dialogue_of, handles_behind, run_of};
+ghost use Rattle.tools.specs.Dialogues.{MOST_PLACES, AreAlike, AreReplies, next_place};
+ghost use Rattle.caller_core.specs.Runs.{command_dialogue, handles_behind, command_run};
 
 use crate::handle::open_handle;
 use dev_handle::Handles;
@@ -37,7 +37,7 @@ impl CommandRun {
         requires range { (limit : ℕ) × IsInRange limit cmd }
         requires few { length handles.old < MOST_HANDLES }
         requires on_board { AreOnBoard board.now handles.old }
-        ensures run { IfOk result (λ r. r ≡ run_of board.now handles.old cmd) }
+        ensures run { IfOk result (λ r. r ≡ command_run board.now handles.old cmd) }
         ensures handles { OnOk result (handles.new ≡ handles_behind board.now handles.old cmd) }
         ensures count { length handles.new ≤ length handles.old + 1 }
         ensures on_board { AreOnBoard board.now handles.new }
@@ -56,7 +56,7 @@ impl CommandRun {
     /// How many places it has.
     #[inline(always)]
     pub fn places(&self) -> u16
-        ensures value { result ≡ (dialogue_of self.now).places }
+        ensures value { result ≡ (command_dialogue self.now).places }
         ensures few { result ≤ MOST_PLACES }
     {
         match self {
@@ -68,8 +68,8 @@ impl CommandRun {
     /// Puts the transfer at a place in place of another.
     #[inline(always)]
     pub fn put(&self, place: u16, transfer: &mut Transfer)
-        requires { place < (dialogue_of self.now).places }
-        ensures { transfer.new ≡ (dialogue_of self.now).at place }
+        requires { place < (command_dialogue self.now).places }
+        ensures { transfer.new ≡ (command_dialogue self.now).at place }
     {
         match self {
             CommandRun::Tool(run) => run.put(place, transfer),
@@ -81,8 +81,8 @@ impl CommandRun {
     /// said to.
     #[inline(always)]
     pub fn repeats(&self, place: u16) -> bool
-        ensures behind { result ≡ true → 0 < place }
-        ensures alike { result ≡ true → AreAlike ((dialogue_of self.now).at (place - 1)) ((dialogue_of self.now).at place) }
+        ensures next_place { result ≡ true → 0 < place }
+        ensures alike { result ≡ true → AreAlike ((command_dialogue self.now).at (place - 1)) ((command_dialogue self.now).at place) }
     {
         match self {
             CommandRun::Tool(run) => run.repeats(place),
@@ -93,8 +93,8 @@ impl CommandRun {
     /// The place behind a reply, whatever bytes it brings.
     #[inline(always)]
     pub fn behind(&self, place: u16, head: ReplyHead) -> u16
-        requires { place < (dialogue_of self.now).places }
-        ensures { (bytes : List ℕ) → result ≡ behind (dialogue_of self.now) place (reply_by head bytes) }
+        requires { place < (command_dialogue self.now).places }
+        ensures { (bytes : List ℕ) → result ≡ next_place (command_dialogue self.now) place (reply_by head bytes) }
     {
         match self {
             CommandRun::Tool(run) => run.behind(place, head),
@@ -104,10 +104,10 @@ impl CommandRun {
 
     /// Prints its lines.
     pub fn print(&self, replies: Window<'_>, out: &mut Text)
-        requires fit { AreReplies (dialogue_of self.now) 0 replies }
-        requires room { (dialogue_of self.now).most ≤ out.old.room }
-        ensures bytes { out.new.bytes ≡ out.old.bytes ++ flat_map ended ((dialogue_of self.now).lines replies.entry) }
-        ensures room { out.old.room ≤ out.new.room + (dialogue_of self.now).most }
+        requires fit { AreReplies (command_dialogue self.now) 0 replies }
+        requires room { (command_dialogue self.now).most ≤ out.old.room }
+        ensures bytes { out.new.bytes ≡ out.old.bytes ++ flat_map line_ended ((command_dialogue self.now).lines replies.entry) }
+        ensures room { out.old.room ≤ out.new.room + (command_dialogue self.now).most }
     {
         match self {
             CommandRun::Tool(run) => run.print(replies, out),
@@ -118,7 +118,7 @@ impl CommandRun {
     /// The most bytes that it prints.
     #[inline(always)]
     pub fn most(&self) -> usize
-        ensures { result ≡ (dialogue_of self.now).most }
+        ensures { result ≡ (command_dialogue self.now).most }
     {
         match self {
             CommandRun::Tool(run) => run.most(),

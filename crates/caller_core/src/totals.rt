@@ -8,7 +8,7 @@ ghost use Rattle.i2c_spec.specs.Cost.{cost_of};
 ghost use Rattle.tools.specs.Replies.{most_brought};
 ghost use Rattle.i2c_board.specs.Bills.{IsBill};
 ghost use Rattle.tools.specs.Dialogues.{MOST_PLACES, transfers_of};
-ghost use Rattle.caller_core.specs.Runs.{dialogue_of};
+ghost use Rattle.caller_core.specs.Runs.{command_dialogue};
 ghost use Rattle.caller_core.specs.Turns.{sum_of};
 ghost use Rattle.caller_core.specs.Roots.{HasBits, HasRoots, names_root};
 ghost use Rattle.caller_core.specs.Scripts.{front_room, room_of};
@@ -70,13 +70,13 @@ fn totals_of_command(
 ) -> Totals
     requires { IsBill board.now bill.old }
     ensures bill { IsBill board.now bill.new }
-    ensures cost { result.cost ≡ sum_by (cost_of board.now) (transfers_of (dialogue_of run.now)) }
+    ensures cost { result.cost ≡ sum_by (cost_of board.now) (transfers_of (command_dialogue run.now)) }
     ensures small { result.cost ≤ 2 ^ 32 * MOST_PLACES }
-    ensures replies { result.replies ≡ sum_by (λ t. 1) (transfers_of (dialogue_of run.now)) }
+    ensures replies { result.replies ≡ sum_by (λ t. 1) (transfers_of (command_dialogue run.now)) }
     ensures few { result.replies ≤ MOST_PLACES }
-    ensures bytes { result.bytes ≡ sum_by most_brought (transfers_of (dialogue_of run.now)) }
+    ensures bytes { result.bytes ≡ sum_by most_brought (transfers_of (command_dialogue run.now)) }
     ensures few_bytes { result.bytes ≤ MOST_BYTES * MOST_PLACES }
-    ensures roots { HasBits (names_root board.now) (transfers_of (dialogue_of run.now)) result.roots }
+    ensures roots { HasBits (names_root board.now) (transfers_of (command_dialogue run.now)) result.roots }
 {
     let mut totals = Totals::NONE;
     let mut one = Totals::NONE;

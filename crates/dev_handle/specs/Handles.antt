@@ -35,8 +35,8 @@ abbrev pub if_open : {B : Type 0} → Option OpenHandle → (OpenHandle → Resu
 if_open None f = Err (Errno Ebadf)
 if_open (Some h) f = f h
 
-abbrev pub answer_of : {B : Type 0} → HandlesView → ℕ → (OpenHandle → Result B HandleFault) → Result B HandleFault
-answer_of v n f = if_open (handle_at v n) f
+abbrev pub answer_by_handle : {B : Type 0} → HandlesView → ℕ → (OpenHandle → Result B HandleFault) → Result B HandleFault
+answer_by_handle v n f = if_open (handle_at v n) f
 
 -- only what stands under that number is another, and only where it is open
 abbrev pub changed_if : HandlesView → ℕ → (OpenHandle → Option OpenHandle) → Option OpenHandle → HandlesView
@@ -88,5 +88,5 @@ abbrev pub target_of : OpenHandle → Result Slave HandleFault
 target_of h = target_at h h.addr
 
 -- its bus and its force
-abbrev pub place_of : OpenHandle → Result (ℕ × Bool) HandleFault
-place_of h = Ok (h.bus, h.force)
+abbrev pub bus_and_force : OpenHandle → Result (ℕ × Bool) HandleFault
+bus_and_force h = Ok (h.bus, h.force)

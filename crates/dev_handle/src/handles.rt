@@ -4,8 +4,8 @@ ghost use Rattle.std.specs.Prelude.{◌≡◌, ⊤, ◌<◌, ◌≤◌, [], Ok, 
 ghost use Rattle.i2c_base.specs.Board.{BoardView};
 ghost use Rattle.i2c_base.specs.declared.errno.Errno.TheVariants.{Ebadf, Enodev};
 ghost use Rattle.i2c_spec.specs.Tree.{buses};
-ghost use Rattle.dev_handle.specs.Handles.{AreOnBoard, IsOpen, MOST_HANDLES, UnlessNoMemory, answer_of, changed, handle_at};
-ghost use Rattle.dev_handle.specs.Handles.{open_answer, opened, place_of, slave_answer, slaved, target_of, with_pec};
+ghost use Rattle.dev_handle.specs.Handles.{AreOnBoard, IsOpen, MOST_HANDLES, UnlessNoMemory, answer_by_handle, changed, handle_at};
+ghost use Rattle.dev_handle.specs.Handles.{open_answer, opened, bus_and_force, slave_answer, slaved, target_of, with_pec};
 ghost use Rattle.dev_handle.specs.declared.fault.HandleFault.TheVariants as fault;
 
 use crate::stored::{Numbered, handle_at, write_at};
@@ -85,7 +85,7 @@ impl Handles {
         force: bool,
     ) -> Result<(), HandleFault>
         requires { AreOnBoard board.now self.old }
-        ensures answer { result ≡ answer_of self.old handle (slave_answer board.now addr force) }
+        ensures answer { result ≡ answer_by_handle self.old handle (slave_answer board.now addr force) }
         ensures after { self.new ≡ changed self.old handle (slaved board.now addr force) }
         ensures err { OnErr result (self.new ≡ self.old) }
         ensures count { length self.new ≡ length self.old }
@@ -108,7 +108,7 @@ impl Handles {
 
     /// Turns the error codes of a handle on or off (i2c-dev: `I2C_PEC`). EBADF says that no open handle has this number.
     pub fn set_pec(&mut self, handle: u32, on: bool) -> Result<(), HandleFault>
-        ensures answer { result ≡ answer_of self.old handle (λ h. Ok tt) }
+        ensures answer { result ≡ answer_by_handle self.old handle (λ h. Ok tt) }
         ensures after { self.new ≡ changed self.old handle (with_pec on) }
         ensures err { OnErr result (self.new ≡ self.old) }
         ensures count { length self.new ≡ length self.old }
@@ -121,7 +121,7 @@ impl Handles {
 
     /// Whom a handle reaches. EBADF says that no open handle has this number, EINVAL that no address was set.
     pub fn target(&self, handle: u32) -> Result<Slave, HandleFault>
-        ensures { result ≡ answer_of self.now handle target_of }
+        ensures { result ≡ answer_by_handle self.now handle target_of }
     {
         let found = self.find(handle)?;
         let Some(addr) = found.addr else {
@@ -138,7 +138,7 @@ impl Handles {
     /// The bus of a handle, and its force: that of the last `slave` that set its address. EBADF says that no open handle
     /// has this number.
     pub fn place(&self, handle: u32) -> Result<(u16, bool), HandleFault>
-        ensures { result ≡ answer_of self.now handle place_of }
+        ensures { result ≡ answer_by_handle self.now handle bus_and_force }
     {
         let found = self.find(handle)?;
         Ok((found.bus, found.force))
@@ -146,7 +146,7 @@ impl Handles {
 
     /// Closes a handle. Its number never comes again. EBADF says that no open handle has this number.
     pub fn close(&mut self, handle: u32) -> Result<(), HandleFault>
-        ensures answer { result ≡ answer_of self.old handle (λ h. Ok tt) }
+        ensures answer { result ≡ answer_by_handle self.old handle (λ h. Ok tt) }
         ensures after { self.new ≡ changed self.old handle (λ h. None) }
         ensures err { OnErr result (self.new ≡ self.old) }
         ensures count { length self.new ≡ length self.old }

@@ -6,7 +6,7 @@ use Rattle.std.specs.Option.{unwrap_or}
 use Rattle.std.specs.Prelude.{codes, slice_get}
 use Rattle.toml.specs.Data.{Members, get_member}
 use Rattle.i2c_boardtext.specs.Devices.{device_row, memory_of}
-use Rattle.i2c_boardtext.specs.Keys.{bus_rule, every_device, set_rule, set_rules, chip_mux, arbitrator_mux, line_mux, mux_rules, device_rules}
+use Rattle.i2c_boardtext.specs.Keys.{bus_rule, every_device, set_rule, set_rules, chip_mux, arbitrator_mux, gpio_mux_keys, mux_rules, device_rules}
 use Rattle.i2c_boardtext.specs.Rules.{KeyRule, is_there, is_fit, are_listed, fits_if_there, table_fault}
 use Rattle.i2c_boardtext.specs.declared.fault.TableFault.TheVariants as fault
 use Rattle.i2c_base.specs.declared.board.MuxKind.{MuxKind}
@@ -38,9 +38,9 @@ kept rules ms i r none at =
 
 -- the bus of each mux
 each_bus : (buses : ℕ) (by_line asks : Bool) (ms : Members)
-    → table_fault (if by_line then line_mux buses else if asks then arbitrator_mux buses else chip_mux buses) ms ≡ None
+    → table_fault (if by_line then gpio_mux_keys buses else if asks then arbitrator_mux buses else chip_mux buses) ms ≡ None
     → fits_if_there (bus_rule buses).test (get_member (codes "bus") ms) ≡ true
-each_bus buses true asks ms none = kept (line_mux buses) ms 0 (bus_rule buses) none refl
+each_bus buses true asks ms none = kept (gpio_mux_keys buses) ms 0 (bus_rule buses) none refl
 each_bus buses false true ms none = kept (arbitrator_mux buses) ms 0 (bus_rule buses) none refl
 each_bus buses false false ms none = kept (chip_mux buses) ms 0 (bus_rule buses) none refl
 

@@ -13,7 +13,7 @@ use Rattle.i2c_spec.specs.Plain.{IsPlainRun}
 use Rattle.i2c_boardtext.specs.Cuts.{cut_byte, cut_run_of, cut_run, cut_runs_in}
 use Rattle.i2c_boardtext.specs.Items.{items_in, elements, nat_of, number}
 use Rattle.i2c_boardtext.specs.Rules.{is_from_to, is_in, is_run_of, is_run, is_array_of, fits_if_there}
-use Rattle.i2c_boardtext.specs.Values.{run_of, elements_in, runs_in}
+use Rattle.i2c_boardtext.specs.Values.{memory_run, elements_in, runs_in}
 use Rattle.i2c_boardtext.specs.declared.rule.Test.TheVariants.{Runs}
 
 -- a number that passes its test is within its bounds
@@ -61,14 +61,14 @@ told size start bytes h =
       to = leb-true (number start + length bytes) size to;
     }
 
-cut_run_same : (size : ℕ) (ds : List Data) → size ≤ 32768 → is_run_of size ds ≡ true → cut_run_of ds ≡ run_of ds
+cut_run_same : (size : ℕ) (ds : List Data) → size ≤ 32768 → is_run_of size ds ≡ true → cut_run_of ds ≡ memory_run ds
 cut_run_same size [] most h = absurd (false≢true h)
 cut_run_same size (start ∷ bytes) most h =
     let t = told size start bytes h in
     let same : number start % 65536 ≡ number start = mod-eq_of_lt (omega (arith, t.from)) in
     rw (same, cut_bytes bytes t.bytes_fit)
 
-plain_run : (size : ℕ) (ds : List Data) → is_run_of size ds ≡ true → IsPlainRun size (run_of ds)
+plain_run : (size : ℕ) (ds : List Data) → is_run_of size ds ≡ true → IsPlainRun size (memory_run ds)
 plain_run size [] h = absurd (false≢true h)
 plain_run size (start ∷ bytes) h =
     let t = told size start bytes h in
@@ -80,17 +80,17 @@ plain_run size (start ∷ bytes) h =
 
 -- the runs of an array
 cut_runs_same : (size : ℕ) (ds : List Data) → size ≤ 32768 → list_all (is_run size) ds ≡ true
-    → map cut_run ds ≡ map (λ run. run_of (elements run)) ds
+    → map cut_run ds ≡ map (λ run. memory_run (elements run)) ds
 cut_runs_same size [] most h = refl
 cut_runs_same size (d ∷ ds) most h =
     let (here, more) = and_parts (is_run size d) (list_all (is_run size) ds) h in
     rw (cut_run_same size (elements d) most here, cut_runs_same size ds most more)
 
-plain_runs : (size : ℕ) (ds : List Data) → list_all (is_run size) ds ≡ true → All (IsPlainRun size) (map (λ run. run_of (elements run)) ds)
+plain_runs : (size : ℕ) (ds : List Data) → list_all (is_run size) ds ≡ true → All (IsPlainRun size) (map (λ run. memory_run (elements run)) ds)
 plain_runs size [] h = λ k d within. absurd (omega arith)
 plain_runs size (d ∷ ds) h =
     let (here, more) = and_parts (is_run size d) (list_all (is_run size) ds) h in
-    All-cons (IsPlainRun size) (run_of (elements d)) (map (λ run. run_of (elements run)) ds) (plain_run size (elements d) here)
+    All-cons (IsPlainRun size) (memory_run (elements d)) (map (λ run. memory_run (elements run)) ds) (plain_run size (elements d) here)
     (plain_runs size ds more)
 
 -- each element of an array that passes a test of its elements

@@ -29,28 +29,28 @@ abbrev pub ◌>>=◌ : {A B E : Type 0} → Result A E → (A → Result B E) �
 (Err e) >>= f = Err e
 
 -- the value, where there is no fault
-abbrev pub unless : {X E : Type 0} → Option E → X → Result X E
-unless None x = Ok x
-unless (Some e) x = Err e
+abbrev pub unless_fault : {X E : Type 0} → Option E → X → Result X E
+unless_fault None x = Ok x
+unless_fault (Some e) x = Err e
 
 -- what a table of these rules says, or what is wrong with it
 abbrev pub table_of : {X : Type 0} → List KeyRule → (Members → X) → Members → Result X TableFault
-table_of rules value ms = unless (table_fault rules ms) (value ms)
+table_of rules value ms = unless_fault (table_fault rules ms) (value ms)
 
 -- the kind comes before every other key
 abbrev pub kind_in : {X : Type 0} → (List ℕ → Option X) → Option Data → Result X TableFault
 kind_in named None = Err fault.Key
 kind_in named (Some d) = ok_or (named_in named d) fault.Value
 
-abbrev pub root_of : Members → Result RootSpec TableFault
-root_of ms = table_of root_rules root_value ms
+abbrev pub root_in_table : Members → Result RootSpec TableFault
+root_in_table ms = table_of root_rules root_value ms
 
 abbrev pub mux_of : ℕ → Members → Result MuxSpec TableFault
 mux_of buses ms = kind_in mux_named (get_member (codes "kind") ms) >>= λ kind. table_of (mux_rules buses kind) (mux_value kind) ms
 
 -- the kind of a device with nothing wrong with its table
 abbrev pub tested_device : ℕ → Members → Result DeviceName TableFault
-tested_device buses ms = kind_in device_named (get_member (codes "kind") ms) >>= λ name. unless
+tested_device buses ms = kind_in device_named (get_member (codes "kind") ms) >>= λ name. unless_fault
     (table_fault (device_rules buses name) ms) name
 
 abbrev pub device_of : ℕ → Members → Result DeviceView TableFault
@@ -79,11 +79,11 @@ limit_fault roots muxes devices =
     else None
 
 abbrev pub top_of : Members → Result TopView BoardFault
-top_of ms = placed Top 0 (table_of top_rules top_value ms) >>= λ t. unless
+top_of ms = placed Top 0 (table_of top_rules top_value ms) >>= λ t. unless_fault
     (limit_fault (length t.roots) (length t.muxes) (length t.devices)) t
 
 abbrev pub roots_of : List Members → Result (List RootSpec) BoardFault
-roots_of ts = each Root (λ before. root_of) [] ts
+roots_of ts = each Root (λ before. root_in_table) [] ts
 
 -- a mux stands on one of the buses before its own channels
 abbrev pub muxes_of : ℕ → List Members → Result (List MuxSpec) BoardFault
@@ -92,8 +92,8 @@ muxes_of roots ts = each Mux (λ before. mux_of (buses_of roots before)) [] ts
 abbrev pub devices_of : ℕ → List Members → Result (List DeviceView) BoardFault
 devices_of buses ts = each Device (λ before. device_of buses) [] ts
 
-abbrev pub parts_of : TopView → Result BoardView BoardFault
-parts_of t =
+abbrev pub board_by_parts : TopView → Result BoardView BoardFault
+board_by_parts t =
     roots_of t.roots >>= λ roots.
     muxes_of (length roots) t.muxes >>= λ muxes.
     devices_of (buses_of (length roots) muxes) t.devices >>= λ devices.
@@ -104,7 +104,7 @@ abbrev pub document_of : List ℕ → Result Members BoardFault
 document_of text = if is_utf8 text then ok_or (parse_document text) board_fault.NotToml else Err board_fault.NotToml
 
 unfoldable pub board_of : List ℕ → Result BoardView BoardFault
-board_of text = document_of text >>= λ ms. top_of ms >>= parts_of
+board_of text = document_of text >>= λ ms. top_of ms >>= board_by_parts
 
 -- what a call answered, seen by view, is what was read, unless memory ran out
 abbrev pub Fails : {Y : Type 0} → BoardFault → Result Y BoardFault → Type 0

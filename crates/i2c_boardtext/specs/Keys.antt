@@ -41,12 +41,12 @@ abbrev pub arbitrator_mux : ℕ → List KeyRule
 arbitrator_mux buses = chip_mux buses ++ may_say foreign_key ∷ []
 
 -- a mux that is switched by a line
-abbrev pub line_mux : ℕ → List KeyRule
-line_mux buses = every_mux buses ++ has_to_say channels_key ∷ []
+abbrev pub gpio_mux_keys : ℕ → List KeyRule
+gpio_mux_keys buses = every_mux buses ++ has_to_say channels_key ∷ []
 
 abbrev pub mux_rules : ℕ → MuxKind → List KeyRule
 mux_rules buses k =
-    if (facts_of k).by_line then line_mux buses
+    if (facts_of k).by_line then gpio_mux_keys buses
     else if (facts_of k).asks then arbitrator_mux buses
     else chip_mux buses
 

@@ -20,9 +20,9 @@ abbrev pub word_or : {X : Type 0} → (List ℕ → Option X) → X → Option D
 word_or named default d = unwrap_or (option_and_then (named_in named) d) default
 
 -- a run: its start, then its bytes
-abbrev pub run_of : List Data → RunView
-run_of [] = record { start = 0; bytes = [] }
-run_of (start ∷ bytes) = record { start = number start; bytes = map number bytes }
+abbrev pub memory_run : List Data → RunView
+memory_run [] = record { start = 0; bytes = [] }
+memory_run (start ∷ bytes) = record { start = number start; bytes = map number bytes }
 
 -- the elements of the array at a key, none where it is missing
 abbrev pub elements_in : Option Data → List Data
@@ -30,7 +30,7 @@ elements_in None = []
 elements_in (Some d) = elements d
 
 abbrev pub runs_in : Option Data → List RunView
-runs_in d = map (λ run. run_of (elements run)) (elements_in d)
+runs_in d = map (λ run. memory_run (elements run)) (elements_in d)
 
 abbrev pub tables_in : Option Data → List Members
 tables_in d = map members_in (elements_in d)

@@ -2,7 +2,7 @@
 ghost use Rattle.std.specs.Prelude.{◌≡◌, ◌≤◌};
 ghost use Rattle.toml.specs.View.{table_view};
 ghost use Rattle.i2c_base.specs.Limits.{MOST_BUSES};
-ghost use Rattle.i2c_boardtext.specs.BoardText.{Gives, document_of, parts_of, board_of};
+ghost use Rattle.i2c_boardtext.specs.BoardText.{Gives, document_of, board_by_parts, board_of};
 ghost use Rattle.i2c_spec.specs.Tree.{buses_of};
 ghost use Rattle.i2c_boardtext.specs.Rows.{IsWithinLimits, top_view};
 
@@ -47,7 +47,7 @@ fn count_buses(roots: u16, muxes: &[MuxSpec]) -> u16
 // The roots, then the muxes, then the devices.
 fn parts_of(alloc: Global, top: &Top) -> Result<Board, BoardFault>
     requires within { IsWithinLimits top.now }
-    ensures { Gives (λ b. b) result (parts_of (top_view top.now)) }
+    ensures { Gives (λ b. b) result (board_by_parts (top_view top.now)) }
 {
     let roots = roots_of(alloc, top.roots)?;
     let root_count = roots.len() as u16;

@@ -2,7 +2,7 @@
 ghost use Rattle.std.specs.Prelude.{◌≡◌, ◌≤◌, IfOk, length};
 ghost use Rattle.toml.specs.View.{table_view};
 ghost use Rattle.i2c_base.specs.Limits.{MOST_ROOTS};
-ghost use Rattle.i2c_boardtext.specs.BoardText.{Gives, placed, root_of, roots_of};
+ghost use Rattle.i2c_boardtext.specs.BoardText.{Gives, placed, root_in_table, roots_of};
 ghost use Rattle.i2c_boardtext.specs.Rows.{IsTable, AreTables, row_of, rows_of};
 ghost use Rattle.i2c_boardtext.specs.declared.fault.TableName.TheVariants.{Root};
 
@@ -15,7 +15,7 @@ use std::alloc::Global;
 use toml::{Table, Value};
 
 fn root_of(table: &Table) -> Result<RootSpec, TableFault>
-    ensures { result ≡ root_of (table_view table.now) }
+    ensures { result ≡ root_in_table (table_view table.now) }
 {
     match root_fault(table) {
         Some(fault) => Err(fault),
@@ -27,7 +27,7 @@ fn root_of(table: &Table) -> Result<RootSpec, TableFault>
 
 fn root_at(value: &Value, index: u16) -> Result<RootSpec, BoardFault>
     requires table { IsTable value.now }
-    ensures { result ≡ placed Root index (root_of (row_of value.now)) }
+    ensures { result ≡ placed Root index (root_in_table (row_of value.now)) }
 {
     match root_of(row(value)) {
         Ok(root) => Ok(root),

@@ -30,13 +30,13 @@ use Rattle.tools.specs.declared.command.driver.DriverCmd.TheVariants as driver
 use Rattle.tools.proofs.TableLemmas.{rows_section}
 use Rattle.tools.proofs.TransferLemmas.{IsAsk, call_asks, short_byte, short_bytes, word_bytes}
 use Rattle.tools.proofs.ValueLemmas.{others, result_line}
-use Rattle.i2c_drivers.specs.At24.{failure_of, read_by, read_run, unless_failed, write_by, write_run}
+use Rattle.i2c_drivers.specs.At24.{failure_of, eeprom_read_by, read_run, unless_failed, write_by, eeprom_write_run}
 use Rattle.i2c_drivers.specs.Bound.{eeprom_at, sensor_at}
-use Rattle.i2c_drivers.specs.Lm75.{milli_of, outcome_text, pointer_of, raw_of, read_call, reading_text, sensor_read_run, sensor_write_run, swapped, value_text, write_call, written_text}
+use Rattle.i2c_drivers.specs.Lm75.{milli_of, outcome_text, pointer_of, raw_of, read_call, reading_text, sensor_read_run, sensor_write_run, swapped, degrees_text, write_call, written_text}
 use Rattle.i2c_drivers.specs.Laws.{IsInRange, AsksWithinLimits, NoLineIsJournal}
 use Rattle.i2c_drivers.specs.Pages.{PageReadView, PageWriteView}
-use Rattle.i2c_drivers.specs.Rows.{byte_lines, bytes_read}
-use Rattle.i2c_drivers.specs.Runs.{dialogue_of, driver_run}
+use Rattle.i2c_drivers.specs.Rows.{byte_lines, all_bytes_read}
+use Rattle.i2c_drivers.specs.Runs.{driver_dialogue, driver_run}
 use Rattle.i2c_drivers.specs.Sensors.{line_of, sensor_line, sensor_name, sensor_transfer}
 use Rattle.i2c_drivers.specs.declared.at24.At24Run.TheVariants as at24
 use Rattle.i2c_drivers.specs.declared.bound.Sensor.{Sensor}
@@ -49,11 +49,11 @@ use Rattle.i2c_drivers.proofs.PageLemmas.{read_asks, write_asks}
 
 -- each of its transfers is within the limits
 abbrev pub AsksWithin : DriverRun → Type 0
-AsksWithin r = (k : ℕ) → k < (dialogue_of r).places → IsAsk ((dialogue_of r).at k)
+AsksWithin r = (k : ℕ) → k < (driver_dialogue r).places → IsAsk ((driver_dialogue r).at k)
 
 -- whatever the replies, what it prints is lines, of which none is `journal`
 abbrev pub HasSectionLines : DriverRun → Type 0
-HasSectionLines r = (replies : List Reply) → All IsSectionLine ((dialogue_of r).lines replies)
+HasSectionLines r = (replies : List Reply) → All IsSectionLine ((driver_dialogue r).lines replies)
 
 -- ---- its transfers
 
@@ -129,7 +129,7 @@ signed_low : (z : ℤ) → IsLow (signed_decimal z)
 signed_low (pos n) = decimal_low n
 signed_low (negsuc n) = omega arith
 
-value_line : (v : ValueView) → IsSectionLine (value_text v)
+value_line : (v : ValueView) → IsSectionLine (degrees_text v)
 value_line value.done = low_section [] refl (omega arith)
 value_line (value.byte b) = low_section [] refl (omega arith)
 value_line (value.word w) =
@@ -198,7 +198,7 @@ unless_section (Some e) lines are = one_line (errno_text e) (errno_line e)
 
 pub answers : (r : DriverRun) → HasSectionLines r
 answers (run.At24 (at24.Refused e)) rs = one_line (errno_text e) (errno_line e)
-answers (run.At24 (at24.Reads r)) rs = unless_section (failure_of rs) (byte_lines (bytes_read rs)) (byte_sections (bytes_read rs))
+answers (run.At24 (at24.Reads r)) rs = unless_section (failure_of rs) (byte_lines (all_bytes_read rs)) (byte_sections (all_bytes_read rs))
 answers (run.At24 (at24.Writes w)) rs = unless_section (failure_of rs) (codes "ok" ∷ []) (one_line (codes "ok") done_line)
 answers (run.Lm75 (lm75.Refused e)) rs = one_line (errno_text e) (errno_line e)
 answers (run.Lm75 (lm75.Reads s which)) rs =
@@ -218,7 +218,7 @@ no_journal r replies = answers r replies
 
 -- ---- what is opened over a board is in range
 
-read_range : (o : Option Size) (bus addr offset count : ℕ) → 1 ≤ count → IsInRange (run.At24 (read_by o bus addr offset count))
+read_range : (o : Option Size) (bus addr offset count : ℕ) → 1 ≤ count → IsInRange (run.At24 (eeprom_read_by o bus addr offset count))
 read_range None bus addr offset count some = tt
 read_range (Some size) bus addr offset count some =
     let r : PageReadView = record { of = record { bus = bus; addr = addr; size = size }; offset = offset; count = count } in
@@ -243,7 +243,7 @@ write_range (Some size) bus addr offset bytes some few each =
     ]
 
 pub write_opened : (b : BoardView) (bus addr offset : ℕ) (bytes : List ℕ) → 1 ≤ length bytes → length bytes ≤ 64 → AreBytes bytes
-    → IsInRange (run.At24 (write_run b bus addr offset bytes))
+    → IsInRange (run.At24 (eeprom_write_run b bus addr offset bytes))
 write_opened b bus addr offset bytes some few each = write_range (eeprom_at b bus addr) bus addr offset bytes some few each
 
 pub sensor_read_opened : (b : BoardView) (bus addr : ℕ) (which : RegName)

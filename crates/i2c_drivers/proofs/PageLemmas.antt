@@ -10,11 +10,11 @@ use Rattle.i2c_base.specs.declared.board.Size.TheVariants.{C02, C32, C256}
 use Rattle.i2c_base.specs.declared.reply.Reply.{Reply}
 use Rattle.i2c_base.specs.declared.reply.Reply.TheVariants as reply
 use Rattle.i2c_spec.specs.Eeprom.{size_of_eeprom, page_of_eeprom, is_wide}
-use Rattle.tools.specs.Dialogues.{AreReplies, behind}
+use Rattle.tools.specs.Dialogues.{AreReplies, next_place}
 use Rattle.tools.proofs.TransferLemmas.{IsAsk}
 use Rattle.i2c_drivers.specs.At24.{page_reads, page_writes, place_bytes, read_begin, read_size, write_begin, write_bytes, write_end}
 use Rattle.i2c_drivers.specs.Pages.{IsPageRead, IsPageWrite, PageReadView, PageWriteView}
-use Rattle.i2c_drivers.specs.Rows.{bytes_read}
+use Rattle.i2c_drivers.specs.Rows.{all_bytes_read}
 
 -- ---- what is read. The induction goes over the replies
 
@@ -22,20 +22,20 @@ no_more : (n : ℕ) (bytes : List ℕ) → drop n bytes ≡ [] → length bytes 
 no_more n bytes none = omega (arith, ap length none, length-drop n bytes)
 
 module _ (r : PageReadView) where
-  pub few_behind : (rs : List Reply) (k : ℕ) → AreReplies (page_reads r) k rs → length (bytes_read rs) ≤ r.count - 128 * (k / 8)
+  pub few_behind : (rs : List Reply) (k : ℕ) → AreReplies (page_reads r) k rs → length (all_bytes_read rs) ≤ r.count - 128 * (k / 8)
   few_behind [] k are = omega arith
   few_behind (reply.Done ∷ rs) k are =
-      let rest = few_behind rs (behind (page_reads r) k reply.Done) are.1 in
+      let rest = few_behind rs (next_place (page_reads r) k reply.Done) are.1 in
       omega (arith, rest)
   few_behind (reply.Read bytes ∷ rs) k are =
-      let rest = few_behind rs (behind (page_reads r) k (reply.Read bytes)) are.1 in
+      let rest = few_behind rs (next_place (page_reads r) k (reply.Read bytes)) are.1 in
       let own : length bytes ≤ min 128 (r.count - 128 * (k / 8)) = no_more (read_size r (k / 8)) bytes are.0.1.1 in
-      omega (arith, rest, own, length-append bytes (bytes_read rs))
+      omega (arith, rest, own, length-append bytes (all_bytes_read rs))
   few_behind (reply.Err e ∷ rs) k are =
-      let rest = few_behind rs (behind (page_reads r) k (reply.Err e)) are.1 in
+      let rest = few_behind rs (next_place (page_reads r) k (reply.Err e)) are.1 in
       omega (arith, rest)
 
-  pub few_read : (rs : List Reply) → AreReplies (page_reads r) 0 rs → length (bytes_read rs) ≤ r.count
+  pub few_read : (rs : List Reply) → AreReplies (page_reads r) 0 rs → length (all_bytes_read rs) ≤ r.count
   few_read rs are = omega (arith, few_behind rs 0 are)
 
 -- ---- their transfers
@@ -68,7 +68,7 @@ is_plain_read : (addr n : ℕ) → 1 ≤ n → n ≤ 512 → IsMessage (plain_re
 is_plain_read addr n some few = (few, λ e. cc, λ e. some)
 
 module _ (r : PageReadView) (is : IsPageRead r) where
-  pub few_fit : (rs : List Reply) → AreReplies (page_reads r) 0 rs → length (bytes_read rs) ≤ 32768
+  pub few_fit : (rs : List Reply) → AreReplies (page_reads r) 0 rs → length (all_bytes_read rs) ≤ 32768
   few_fit rs are = omega (arith, few_read r rs are, is.within, small_size r.of.size)
 
   pub read_asks : (k : ℕ) → k < (page_reads r).places → IsAsk ((page_reads r).at k)

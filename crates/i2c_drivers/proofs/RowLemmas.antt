@@ -6,11 +6,11 @@ use Rattle.std.proofs.Math.Seq.{take-add}
 use Rattle.std.proofs.lemmas.Bool.Decides.{nat_tests}
 use Rattle.std.proofs.lemmas.List.{take_all}
 use Rattle.std.proofs.lemmas.List.Concat.{flat_map-append}
-use Rattle.bus_journal.specs.Reports.{ended}
+use Rattle.bus_journal.specs.Reports.{line_ended}
 use Rattle.bus_spec.specs.Lines.{joined, spaced, spaced_digits, two_digits}
 use Rattle.i2c_base.specs.declared.reply.Reply.{Reply}
 use Rattle.tools.specs.Tables.{parts}
-use Rattle.i2c_drivers.specs.Rows.{before_cell, byte_line, byte_lines, bytes_at, bytes_read, cells}
+use Rattle.i2c_drivers.specs.Rows.{before_cell, hex_line, byte_lines, bytes_at, all_bytes_read, cells}
 
 -- ---- byte by byte
 
@@ -51,12 +51,12 @@ line_cells n r (x ∷ xs) at some few =
 
 module _ (bytes : List ℕ) where
   abbrev text_of : ℕ → List ℕ
-  text_of n = flat_map ended (parts (byte_line bytes) n)
+  text_of n = flat_map line_ended (parts (hex_line bytes) n)
 
   text_next : (r : ℕ) → text_of (suc r) ≡ text_of r ++ (joined (take 16 (drop (16 * r) bytes)) ++ 10 ∷ [])
   unfolding parts
   text_next r =
-      flat_map-append ended (parts (byte_line bytes) r) (byte_line bytes r)
+      flat_map-append line_ended (parts (hex_line bytes) r) (hex_line bytes r)
       ∙ ap (λ t. text_of r ++ t) (append-nil (joined (take 16 (drop (16 * r) bytes)) ++ 10 ∷ []))
 
   text_none : text_of 0 ≡ []
@@ -91,35 +91,35 @@ module _ (bytes : List ℕ) where
       ∙ ap (λ t. t ++ joined (row (suc r))) (front_lines r (omega (arith, h))))
       ∙ append_assoc (text_of (suc r)) (joined (row (suc r))) (10 ∷ []) ∙ sym (text_next (suc r))
 
-  all_lines : (r n : ℕ) → n ≡ length bytes → 16 * r < n → n ≤ 16 * suc r → cells 0 bytes ++ 10 ∷ [] ≡ flat_map ended (byte_lines bytes)
+  all_lines : (r n : ℕ) → n ≡ length bytes → 16 * r < n → n ≤ 16 * suc r → cells 0 bytes ++ 10 ∷ [] ≡ flat_map line_ended (byte_lines bytes)
   all_lines r n is above below =
       let count : suc r ≡ (length bytes + 15) / 16 = omega (arith, is, above, below) in
       ap (λ xs. cells 0 xs ++ 10 ∷ []) (sym (take_all (16 * suc r) bytes (omega (arith, is, below))))
       ∙ front_lines r (omega (arith, is, above)) ∙ ap text_of count
 
-  pub lines_ended : 0 < length bytes → cells 0 bytes ++ 10 ∷ [] ≡ flat_map ended (byte_lines bytes)
+  pub lines_ended : 0 < length bytes → cells 0 bytes ++ 10 ∷ [] ≡ flat_map line_ended (byte_lines bytes)
   lines_ended some = all_lines ((length bytes - 1) / 16) (length bytes) refl (omega (arith, some)) (omega (arith, some))
 
-pub no_lines : (bytes : List ℕ) → length bytes ≡ 0 → flat_map ended (byte_lines bytes) ≡ cells 0 bytes
+pub no_lines : (bytes : List ℕ) → length bytes ≡ 0 → flat_map line_ended (byte_lines bytes) ≡ cells 0 bytes
 no_lines [] none = text_none []
 no_lines (b ∷ bytes) none = absurd (omega (arith, none))
 
 -- ---- replies
 
-pub read_next : (rs : List Reply) (k : ℕ) → bytes_read (drop k rs) ≡ bytes_at rs k ++ bytes_read (drop (suc k) rs)
+pub read_next : (rs : List Reply) (k : ℕ) → all_bytes_read (drop k rs) ≡ bytes_at rs k ++ all_bytes_read (drop (suc k) rs)
 read_next [] zero = refl
 read_next [] (suc k) = refl
 read_next (r ∷ rs) zero = refl
 read_next (r ∷ rs) (suc k) = read_next rs k
 
-pub read_more : (rs : List Reply) (k : ℕ) → bytes_read (drop k rs) ≡ bytes_at rs k ++ bytes_read (drop (k + 1) rs)
+pub read_more : (rs : List Reply) (k : ℕ) → all_bytes_read (drop k rs) ≡ bytes_at rs k ++ all_bytes_read (drop (k + 1) rs)
 read_more rs k = rw (add-one k) (read_next rs k)
 
 pub lengths_more : (rs : List Reply) (k : ℕ)
-    → length (bytes_read (drop k rs)) ≡ length (bytes_at rs k) + length (bytes_read (drop (k + 1) rs))
-lengths_more rs k = ap length (read_more rs k) ∙ length-append (bytes_at rs k) (bytes_read (drop (k + 1) rs))
+    → length (all_bytes_read (drop k rs)) ≡ length (bytes_at rs k) + length (all_bytes_read (drop (k + 1) rs))
+lengths_more rs k = ap length (read_more rs k) ∙ length-append (bytes_at rs k) (all_bytes_read (drop (k + 1) rs))
 
-pub none_left : (rs : List Reply) (k : ℕ) → length rs ≤ k → bytes_read (drop k rs) ≡ []
+pub none_left : (rs : List Reply) (k : ℕ) → length rs ≤ k → all_bytes_read (drop k rs) ≡ []
 none_left [] zero h = refl
 none_left [] (suc k) h = refl
 none_left (r ∷ rs) zero h = absurd (omega (arith, h))
@@ -130,38 +130,38 @@ none_left (r ∷ rs) (suc k) h = none_left rs k (omega (arith, h))
 module _ (rs : List Reply) (o : List ℕ) where
   -- the text so far, with what is still to be printed, is the whole text
   pub same_next : (k n m : ℕ) (xs a b : List ℕ) → xs ≡ bytes_at rs k → m ≡ n + length xs → b ≡ a ++ cells n xs
-      → a ++ cells n (bytes_read (drop k rs)) ≡ o ++ cells 0 (bytes_read rs)
-      → b ++ cells m (bytes_read (drop (k + 1) rs)) ≡ o ++ cells 0 (bytes_read rs)
+      → a ++ cells n (all_bytes_read (drop k rs)) ≡ o ++ cells 0 (all_bytes_read rs)
+      → b ++ cells m (all_bytes_read (drop (k + 1) rs)) ≡ o ++ cells 0 (all_bytes_read rs)
   same_next k n m xs a b is more new same =
-      let rest : List ℕ = bytes_read (drop (k + 1) rs) in
-      let whole : bytes_read (drop k rs) ≡ xs ++ rest = read_more rs k ∙ ap (λ t. t ++ rest) (sym is) in
+      let rest : List ℕ = all_bytes_read (drop (k + 1) rs) in
+      let whole : all_bytes_read (drop k rs) ≡ xs ++ rest = read_more rs k ∙ ap (λ t. t ++ rest) (sym is) in
       ap (λ t. t ++ cells m rest) new ∙ append_assoc a (cells n xs) (cells m rest)
       ∙ ap (λ t. a ++ (cells n xs ++ cells t rest)) more ∙ ap (λ t. a ++ t) (sym (cells-append n xs rest))
       ∙ ap (λ t. a ++ cells n t) (sym whole) ∙ same
 
   pub many_next : (k n m : ℕ) (xs : List ℕ) → xs ≡ bytes_at rs k → m ≡ n + length xs
-      → n + length (bytes_read (drop k rs)) ≡ length (bytes_read rs) → m + length (bytes_read (drop (k + 1) rs)) ≡ length (bytes_read rs)
+      → n + length (all_bytes_read (drop k rs)) ≡ length (all_bytes_read rs) → m + length (all_bytes_read (drop (k + 1) rs)) ≡ length (all_bytes_read rs)
   many_next k n m xs is more many =
       let here : length xs ≡ length (bytes_at rs k) = ap length is in
       omega (arith, here, more, many, lengths_more rs k)
 
-  same_end : (k n : ℕ) (a : List ℕ) → length rs ≤ k → a ++ cells n (bytes_read (drop k rs)) ≡ o ++ cells 0 (bytes_read rs)
-      → a ≡ o ++ cells 0 (bytes_read rs)
+  same_end : (k n : ℕ) (a : List ℕ) → length rs ≤ k → a ++ cells n (all_bytes_read (drop k rs)) ≡ o ++ cells 0 (all_bytes_read rs)
+      → a ≡ o ++ cells 0 (all_bytes_read rs)
   same_end k n a past same = sym (append-nil a) ∙ ap (λ t. a ++ cells n t) (sym (none_left rs k past)) ∙ same
 
-  pub many_end : (k n : ℕ) → length rs ≤ k → n + length (bytes_read (drop k rs)) ≡ length (bytes_read rs) → n ≡ length (bytes_read rs)
-  many_end k n past many = let none : length (bytes_read (drop k rs)) ≡ 0 = ap length (none_left rs k past) in omega (arith, none, many)
+  pub many_end : (k n : ℕ) → length rs ≤ k → n + length (all_bytes_read (drop k rs)) ≡ length (all_bytes_read rs) → n ≡ length (all_bytes_read rs)
+  many_end k n past many = let none : length (all_bytes_read (drop k rs)) ≡ 0 = ap length (none_left rs k past) in omega (arith, none, many)
 
-  pub some_ended : (k n : ℕ) (a b : List ℕ) → length rs ≤ k → n + length (bytes_read (drop k rs)) ≡ length (bytes_read rs) → 0 < n
-      → a ++ cells n (bytes_read (drop k rs)) ≡ o ++ cells 0 (bytes_read rs) → b ≡ a ++ 10 ∷ []
-      → b ≡ o ++ flat_map ended (byte_lines (bytes_read rs))
+  pub some_ended : (k n : ℕ) (a b : List ℕ) → length rs ≤ k → n + length (all_bytes_read (drop k rs)) ≡ length (all_bytes_read rs) → 0 < n
+      → a ++ cells n (all_bytes_read (drop k rs)) ≡ o ++ cells 0 (all_bytes_read rs) → b ≡ a ++ 10 ∷ []
+      → b ≡ o ++ flat_map line_ended (byte_lines (all_bytes_read rs))
   some_ended k n a b past many some same new =
-      let all : n ≡ length (bytes_read rs) = many_end k n past many in
-      new ∙ ap (λ t. t ++ 10 ∷ []) (same_end k n a past same) ∙ append_assoc o (cells 0 (bytes_read rs)) (10 ∷ [])
-      ∙ ap (λ t. o ++ t) (lines_ended (bytes_read rs) (omega (arith, all, some)))
+      let all : n ≡ length (all_bytes_read rs) = many_end k n past many in
+      new ∙ ap (λ t. t ++ 10 ∷ []) (same_end k n a past same) ∙ append_assoc o (cells 0 (all_bytes_read rs)) (10 ∷ [])
+      ∙ ap (λ t. o ++ t) (lines_ended (all_bytes_read rs) (omega (arith, all, some)))
 
-  pub none_ended : (k n : ℕ) (a : List ℕ) → length rs ≤ k → n + length (bytes_read (drop k rs)) ≡ length (bytes_read rs) → n ≤ 0
-      → a ++ cells n (bytes_read (drop k rs)) ≡ o ++ cells 0 (bytes_read rs) → a ≡ o ++ flat_map ended (byte_lines (bytes_read rs))
+  pub none_ended : (k n : ℕ) (a : List ℕ) → length rs ≤ k → n + length (all_bytes_read (drop k rs)) ≡ length (all_bytes_read rs) → n ≤ 0
+      → a ++ cells n (all_bytes_read (drop k rs)) ≡ o ++ cells 0 (all_bytes_read rs) → a ≡ o ++ flat_map line_ended (byte_lines (all_bytes_read rs))
   none_ended k n a past many none same =
-      let all : n ≡ length (bytes_read rs) = many_end k n past many in
-      same_end k n a past same ∙ ap (λ t. o ++ t) (sym (no_lines (bytes_read rs) (omega (arith, all, none))))
+      let all : n ≡ length (all_bytes_read rs) = many_end k n past many in
+      same_end k n a past same ∙ ap (λ t. o ++ t) (sym (no_lines (all_bytes_read rs) (omega (arith, all, none))))

@@ -3,7 +3,7 @@ use Rattle.std.proofs.Common.{◌≡◌, ℕ, zero, suc, ◌+◌, ◌<◌, List,
 use Rattle.std.specs.Prelude.{slice_get}
 use Rattle.std.specs.List.{flat_map}
 use Rattle.std.proofs.lemmas.Option.{slice_get-get_or}
-use Rattle.bus_journal.specs.Reports.{ended}
+use Rattle.bus_journal.specs.Reports.{line_ended}
 use Rattle.i2c_base.specs.Fitting.{Fits}
 use Rattle.i2c_base.specs.declared.reply.Reply.{Reply}
 use Rattle.smb_emul.specs.Calls.{messages_of_call}
@@ -44,18 +44,18 @@ fits_at ss rs k s r are within at is = sensor_fits ss rs k s r are (there_at ss 
 -- ---- lines
 
 abbrev lines_from : List Sensor → List Reply → ℕ → List ℕ
-lines_from ss rs k = flat_map ended (map line_of (zip (drop k ss) (drop k rs)))
+lines_from ss rs k = flat_map line_ended (map line_of (zip (drop k ss) (drop k rs)))
 
 line_there : (ss : List Sensor) (rs : List Reply) (k : ℕ) (s : Sensor) (r : Reply) → slice_get ss k ≡ Some s → slice_get rs k ≡ Some r
-    → lines_from ss rs k ≡ ended (sensor_line s r) ++ lines_from ss rs (suc k)
+    → lines_from ss rs k ≡ line_ended (sensor_line s r) ++ lines_from ss rs (suc k)
 line_there [] rs zero s r there is = absurd cc
 line_there [] rs (suc k) s r there is = absurd cc
 line_there (y ∷ ss) [] zero s r there is = absurd cc
 line_there (y ∷ ss) [] (suc k) s r there is = absurd cc
 line_there (y ∷ ss) (x ∷ rs) zero s r there is =
     let same : y ≡ s = cc in
-    ap (λ t. ended (sensor_line y t) ++ lines_from (y ∷ ss) (x ∷ rs) 1) (some_same x r is)
-    ∙ ap (λ t. ended (sensor_line t r) ++ lines_from (y ∷ ss) (x ∷ rs) 1) same
+    ap (λ t. line_ended (sensor_line y t) ++ lines_from (y ∷ ss) (x ∷ rs) 1) (some_same x r is)
+    ∙ ap (λ t. line_ended (sensor_line t r) ++ lines_from (y ∷ ss) (x ∷ rs) 1) same
 line_there (y ∷ ss) (x ∷ rs) (suc k) s r there is = line_there ss rs k s r there is
 
 zip_none : (ss : List Sensor) → zip {X = Reply} ss [] ≡ []
@@ -63,8 +63,8 @@ zip_none [] = refl
 zip_none (s ∷ ss) = refl
 
 no_line : (ss : List Sensor) (rs : List Reply) (k : ℕ) → slice_get rs k ≡ None → lines_from ss rs k ≡ []
-no_line ss [] zero none = ap (λ l. flat_map ended (map line_of l)) (zip_none ss)
-no_line ss [] (suc k) none = ap (λ l. flat_map ended (map line_of l)) (zip_none (drop (suc k) ss))
+no_line ss [] zero none = ap (λ l. flat_map line_ended (map line_of l)) (zip_none ss)
+no_line ss [] (suc k) none = ap (λ l. flat_map line_ended (map line_of l)) (zip_none (drop (suc k) ss))
 no_line ss (r ∷ rs) zero none = absurd cc
 no_line [] (r ∷ rs) (suc k) none = refl
 no_line (s ∷ ss) (r ∷ rs) (suc k) none = no_line ss rs k none
@@ -73,11 +73,11 @@ no_line (s ∷ ss) (r ∷ rs) (suc k) none = no_line ss rs k none
 
 module _ (ss : List Sensor) (rs : List Reply) (k : ℕ) where
   pub line_next : (o a b : List ℕ) (s : Sensor) (r : Reply) → k < length ss → s ≡ get_or ss k s → slice_get rs k ≡ Some r
-      → b ≡ a ++ ended (sensor_line s r) → a ++ lines_from ss rs k ≡ o → b ++ lines_from ss rs (k + 1) ≡ o
+      → b ≡ a ++ line_ended (sensor_line s r) → a ++ lines_from ss rs k ≡ o → b ++ lines_from ss rs (k + 1) ≡ o
   line_next o a b s r within at is new same =
-      let whole : lines_from ss rs k ≡ ended (sensor_line s r) ++ lines_from ss rs (k + 1) =
+      let whole : lines_from ss rs k ≡ line_ended (sensor_line s r) ++ lines_from ss rs (k + 1) =
       rw (add-one k) (line_there ss rs k s r (there_at ss k s within at) is) in
-      ap (λ t. t ++ lines_from ss rs (k + 1)) new ∙ append_assoc a (ended (sensor_line s r)) (lines_from ss rs (k + 1))
+      ap (λ t. t ++ lines_from ss rs (k + 1)) new ∙ append_assoc a (line_ended (sensor_line s r)) (lines_from ss rs (k + 1))
       ∙ ap (λ t. a ++ t) (sym whole) ∙ same
 
   pub lines_done : (o a : List ℕ) → slice_get rs k ≡ None → a ++ lines_from ss rs k ≡ o → a ≡ o

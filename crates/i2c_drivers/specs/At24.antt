@@ -19,7 +19,7 @@ use Rattle.i2c_drivers.specs.declared.at24.At24Run.{At24Run}
 use Rattle.i2c_drivers.specs.declared.at24.At24Run.TheVariants as run
 use Rattle.i2c_drivers.specs.Pages.{PageReadView, PageWriteView, fits_in}
 use Rattle.i2c_drivers.specs.Refusals.{refused}
-use Rattle.i2c_drivers.specs.Rows.{byte_lines, bytes_read, last_reply}
+use Rattle.i2c_drivers.specs.Rows.{byte_lines, all_bytes_read, last_reply}
 
 -- the bytes that tell a place, the high one first
 abbrev pub place_bytes : Size → ℕ → List ℕ
@@ -125,7 +125,7 @@ page_reads r =
       places = TRIES * read_pieces r;
       at = λ k. read_piece r (k / TRIES);
       skips = λ k reply. tries_skipped (TRIES * read_pieces r) (k % TRIES) reply;
-      lines = λ rs. unless_failed (failure_of rs) (byte_lines (bytes_read rs));
+      lines = λ rs. unless_failed (failure_of rs) (byte_lines (all_bytes_read rs));
       most = 3 * r.count + 11;
     }
 
@@ -141,15 +141,15 @@ page_writes w =
 
 -- ---- how they begin over a board: no bound EEPROM stands there; else it passes the size
 
-abbrev pub read_by : Option Size → (bus addr offset count : ℕ) → At24Run
-read_by None bus addr offset count = run.Refused errno.Enodev
-read_by (Some size) bus addr offset count =
+abbrev pub eeprom_read_by : Option Size → (bus addr offset count : ℕ) → At24Run
+eeprom_read_by None bus addr offset count = run.Refused errno.Enodev
+eeprom_read_by (Some size) bus addr offset count =
     if fits_in size offset count then
     run.Reads (record { of = record { bus = bus; addr = addr; size = size }; offset = offset; count = count })
     else run.Refused errno.Einval
 
 abbrev pub read_run : BoardView → (bus addr offset count : ℕ) → At24Run
-read_run b bus addr offset count = read_by (eeprom_at b bus addr) bus addr offset count
+read_run b bus addr offset count = eeprom_read_by (eeprom_at b bus addr) bus addr offset count
 
 abbrev pub write_by : Option Size → (bus addr offset : ℕ) → List ℕ → At24Run
 write_by None bus addr offset bytes = run.Refused errno.Enodev
@@ -158,8 +158,8 @@ write_by (Some size) bus addr offset bytes =
     run.Writes (record { of = record { bus = bus; addr = addr; size = size }; offset = offset; bytes = bytes })
     else run.Refused errno.Einval
 
-abbrev pub write_run : BoardView → (bus addr offset : ℕ) → List ℕ → At24Run
-write_run b bus addr offset bytes = write_by (eeprom_at b bus addr) bus addr offset bytes
+abbrev pub eeprom_write_run : BoardView → (bus addr offset : ℕ) → List ℕ → At24Run
+eeprom_write_run b bus addr offset bytes = write_by (eeprom_at b bus addr) bus addr offset bytes
 
 abbrev pub at24_dialogue : At24Run → Dialogue
 at24_dialogue (run.Refused e) = refused e

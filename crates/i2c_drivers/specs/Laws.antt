@@ -8,7 +8,7 @@ use Rattle.i2c_spec.specs.Eeprom.{page_of_eeprom}
 use Rattle.tools.specs.Tables.{parts}
 use Rattle.i2c_drivers.specs.At24.{read_begin, read_pieces, read_size, write_begin, write_bytes, write_end, write_pieces}
 use Rattle.i2c_drivers.specs.Pages.{IsPageRead, IsPageWrite, PageReadView, PageWriteView}
-use Rattle.i2c_drivers.specs.Runs.{dialogue_of}
+use Rattle.i2c_drivers.specs.Runs.{driver_dialogue}
 use Rattle.i2c_drivers.specs.declared.at24.At24Run.TheVariants as at24
 use Rattle.i2c_drivers.specs.declared.lm75.Lm75Run.TheVariants as lm75
 use Rattle.i2c_drivers.specs.declared.run.DriverRun.{DriverRun}
@@ -48,9 +48,9 @@ IsInRange (run.Sensors ss) = ⊤
 
 -- each of its transfers is within the limits
 abbrev pub AsksWithinLimits : Type 0
-AsksWithinLimits = (r : DriverRun) → IsInRange r → (k : ℕ) → k < (dialogue_of r).places
-    → IsTransfer ((dialogue_of r).at k).msgs ((dialogue_of r).at k).out
+AsksWithinLimits = (r : DriverRun) → IsInRange r → (k : ℕ) → k < (driver_dialogue r).places
+    → IsTransfer ((driver_dialogue r).at k).msgs ((driver_dialogue r).at k).out
 
 -- what it prints is lines of a section, so that none is `journal`
 abbrev pub NoLineIsJournal : Type 0
-NoLineIsJournal = (r : DriverRun) (replies : List Reply) → All IsSectionLine ((dialogue_of r).lines replies)
+NoLineIsJournal = (r : DriverRun) (replies : List Reply) → All IsSectionLine ((driver_dialogue r).lines replies)

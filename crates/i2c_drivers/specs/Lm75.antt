@@ -47,26 +47,26 @@ pointer_of Hyst = 2
 pointer_of Max = 3
 
 -- a call to a sensor, whose driver makes it
-abbrev pub call_to : Sensor → SmbOp → SmbCall
-call_to s o = record { bus = s.bus; addr = s.addr; force = true; pec = false; op = o }
+abbrev pub sensor_call : Sensor → SmbOp → SmbCall
+sensor_call s o = record { bus = s.bus; addr = s.addr; force = true; pec = false; op = o }
 
 abbrev pub read_call : Sensor → RegName → SmbCall
-read_call s which = call_to s (op.ReadWord (pointer_of which))
+read_call s which = sensor_call s (op.ReadWord (pointer_of which))
 
 abbrev pub write_call : Sensor → RegName → (word : ℕ) → SmbCall
-write_call s which word = call_to s (op.WriteWord (pointer_of which) word)
+write_call s which word = sensor_call s (op.WriteWord (pointer_of which) word)
 
 -- ---- texts
 
 -- what was read in thousandths of a degree, or why it wasn't
-abbrev pub value_text : ValueView → List ℕ
-value_text value.done = []
-value_text (value.byte b) = []
-value_text (value.word w) = signed_decimal (milli_of (swapped w))
-value_text (value.block bytes) = []
+abbrev pub degrees_text : ValueView → List ℕ
+degrees_text value.done = []
+degrees_text (value.byte b) = []
+degrees_text (value.word w) = signed_decimal (milli_of (swapped w))
+degrees_text (value.block bytes) = []
 
 abbrev pub outcome_text : Result ValueView SmbFail → List ℕ
-outcome_text (Ok v) = value_text v
+outcome_text (Ok v) = degrees_text v
 outcome_text (Err (fail.Errno e)) = errno_text e
 outcome_text (Err (fail.Pec got want)) = errno_text errno.Ebadmsg
 

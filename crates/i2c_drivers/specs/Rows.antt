@@ -9,11 +9,11 @@ use Rattle.tools.specs.Tables.{parts}
 -- ---- lines of bytes
 
 -- line `row` has the bytes from 16 * row on, each as two digits, with a space between each two
-abbrev pub byte_line : List ℕ → ℕ → List (List ℕ)
-byte_line bytes row = joined (take 16 (drop (16 * row) bytes)) ∷ []
+abbrev pub hex_line : List ℕ → ℕ → List (List ℕ)
+hex_line bytes row = joined (take 16 (drop (16 * row) bytes)) ∷ []
 
 abbrev pub byte_lines : List ℕ → List (List ℕ)
-byte_lines bytes = parts (byte_line bytes) ((length bytes + 15) / 16)
+byte_lines bytes = parts (hex_line bytes) ((length bytes + 15) / 16)
 
 -- the same byte by byte: before byte n stands a space, or the end of the line before
 abbrev pub before_cell : ℕ → List ℕ
@@ -29,8 +29,8 @@ abbrev pub last_reply : List Reply → Option Reply
 last_reply rs = slice_get rs (length rs - 1)
 
 -- the bytes that all replies bring, one after the other
-abbrev pub bytes_read : List Reply → List ℕ
-bytes_read rs = flat_map bytes_given rs
+abbrev pub all_bytes_read : List Reply → List ℕ
+all_bytes_read rs = flat_map bytes_given rs
 
 -- those of the reply at a place, if there is one
 abbrev pub bytes_in : Option Reply → List ℕ

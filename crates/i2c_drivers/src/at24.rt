@@ -2,12 +2,12 @@
 
 ghost use Rattle.std.specs.Prelude.{◌≡◌, ℕ, ◌+◌, ◌-◌, ◌*◌, ◌/◌, ◌<◌, ◌≤◌, ◌++◌, true, List, length};
 ghost use Rattle.std.specs.List.{flat_map};
-ghost use Rattle.bus_journal.specs.Reports.{ended};
+ghost use Rattle.bus_journal.specs.Reports.{line_ended};
 ghost use Rattle.i2c_base.specs.Replies.{reply_by};
-ghost use Rattle.i2c_drivers.specs.At24.{at24_dialogue, at24_repeats, failure_of, is_repeated, told_as, is_tried_again, page_reads, page_writes, place_bytes, read_pieces, read_run, tries_skipped, write_begin, write_bytes, write_end, write_pieces, write_run};
+ghost use Rattle.i2c_drivers.specs.At24.{at24_dialogue, at24_repeats, failure_of, is_repeated, told_as, is_tried_again, page_reads, page_writes, place_bytes, read_pieces, read_run, tries_skipped, write_begin, write_bytes, write_end, write_pieces, eeprom_write_run};
 ghost use Rattle.i2c_drivers.specs.Pages.{fits_in};
 ghost use Rattle.tools.specs.At24Lines.{MOST_READ, MOST_WRITTEN};
-ghost use Rattle.tools.specs.Dialogues.{MOST_PLACES, AreAlike, AreReplies, behind};
+ghost use Rattle.tools.specs.Dialogues.{MOST_PLACES, AreAlike, AreReplies, next_place};
 
 use crate::bound::bound_eeprom;
 use crate::rows::{count, push_byte_lines};
@@ -139,7 +139,7 @@ fn failure(replies: &Window<'_>) -> Option<Errno>
 // The transfer at a place is that of the place before: it isn't the first try of a piece.
 fn is_repeated(place: u16) -> bool
     ensures value { result ≡ is_repeated place }
-    ensures behind { result ≡ true → 0 < place }
+    ensures next_place { result ≡ true → 0 < place }
     ensures piece { result ≡ true → (place - 1) / 8 ≡ place / 8 }
 {
     place % TRIES != 0
@@ -181,7 +181,7 @@ impl PageRead {
     pub fn print(&self, replies: &Window<'_>, out: &mut Text)
         requires fit { AreReplies (page_reads self.now) 0 replies.now }
         requires room { (page_reads self.now).most ≤ out.old.room }
-        ensures bytes { out.new.bytes ≡ out.old.bytes ++ flat_map ended ((page_reads self.now).lines replies.now) }
+        ensures bytes { out.new.bytes ≡ out.old.bytes ++ flat_map line_ended ((page_reads self.now).lines replies.now) }
         ensures room { out.old.room ≤ out.new.room + (page_reads self.now).most }
     {
         let _ = &self.of;
@@ -201,7 +201,7 @@ impl PageRead {
     /// The place behind a reply.
     pub fn behind(&self, place: u16, head: ReplyHead) -> u16
         requires { place < (page_reads self.now).places }
-        ensures { (bytes : List ℕ) → result ≡ behind (page_reads self.now) place (reply_by head bytes) }
+        ensures { (bytes : List ℕ) → result ≡ next_place (page_reads self.now) place (reply_by head bytes) }
     {
         let places = self.places();
         place + 1 + tries_skipped(places, place % TRIES, head)
@@ -256,7 +256,7 @@ impl PageWrite {
     /// Prints that all was written, or why it failed.
     pub fn print(&self, replies: &Window<'_>, out: &mut Text)
         requires { (page_writes self.now).most ≤ out.old.room }
-        ensures bytes { out.new.bytes ≡ out.old.bytes ++ flat_map ended ((page_writes self.now).lines replies.now) }
+        ensures bytes { out.new.bytes ≡ out.old.bytes ++ flat_map line_ended ((page_writes self.now).lines replies.now) }
         ensures room { out.old.room ≤ out.new.room + (page_writes self.now).most }
     {
         match failure(replies) {
@@ -268,7 +268,7 @@ impl PageWrite {
     /// The place behind a reply.
     pub fn behind(&self, place: u16, head: ReplyHead) -> u16
         requires { place < (page_writes self.now).places }
-        ensures { (bytes : List ℕ) → result ≡ behind (page_writes self.now) place (reply_by head bytes) }
+        ensures { (bytes : List ℕ) → result ≡ next_place (page_writes self.now) place (reply_by head bytes) }
     {
         let places = self.places();
         place + 1 + tries_skipped(places, place % TRIES, head)
@@ -309,7 +309,7 @@ impl At24Run {
     /// A write of these bytes from a place on. It is refused as a read of so many is.
     pub fn open_write(board: &Board, bus: u16, addr: Addr, offset: u16, bytes: Octets) -> Self
         requires { (1 ≤ length bytes) × (length bytes ≤ MOST_WRITTEN) }
-        ensures { result ≡ write_run board.now bus addr offset bytes }
+        ensures { result ≡ eeprom_write_run board.now bus addr offset bytes }
     {
         match bound_eeprom(board, bus, addr) {
             None => At24Run::Refused(Errno::Enodev),
@@ -354,7 +354,7 @@ impl At24Run {
     /// The transfer at a place is that of the place before, as it is at each try of a piece but the first.
     pub fn repeats(&self, place: u16) -> bool
         ensures value { result ≡ at24_repeats self.now place }
-        ensures behind { result ≡ true → 0 < place }
+        ensures next_place { result ≡ true → 0 < place }
         ensures alike { result ≡ true → AreAlike ((at24_dialogue self.now).at (place - 1)) ((at24_dialogue self.now).at place) }
     {
         match self {
@@ -367,7 +367,7 @@ impl At24Run {
     /// The place behind a reply, whatever bytes it brings.
     pub fn behind(&self, place: u16, head: ReplyHead) -> u16
         requires { place < (at24_dialogue self.now).places }
-        ensures { (bytes : List ℕ) → result ≡ behind (at24_dialogue self.now) place (reply_by head bytes) }
+        ensures { (bytes : List ℕ) → result ≡ next_place (at24_dialogue self.now) place (reply_by head bytes) }
     {
         match self {
             At24Run::Refused(_) => place + 1,
@@ -380,7 +380,7 @@ impl At24Run {
     pub fn print(&self, replies: Window<'_>, out: &mut Text)
         requires fit { AreReplies (at24_dialogue self.now) 0 replies }
         requires room { (at24_dialogue self.now).most ≤ out.old.room }
-        ensures bytes { out.new.bytes ≡ out.old.bytes ++ flat_map ended ((at24_dialogue self.now).lines replies.entry) }
+        ensures bytes { out.new.bytes ≡ out.old.bytes ++ flat_map line_ended ((at24_dialogue self.now).lines replies.entry) }
         ensures room { out.old.room ≤ out.new.room + (at24_dialogue self.now).most }
     {
         match self {

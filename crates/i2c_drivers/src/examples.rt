@@ -8,7 +8,7 @@ ghost use Rattle.i2c_base.specs.declared.reply.Reply.TheVariants.{Done, Read, Er
 ghost use Rattle.i2c_base.specs.declared.transfer.Kind.TheVariants.{Plain, Smbus};
 ghost use Rattle.smb_emul.specs.Calls.{messages_of_call};
 ghost use Rattle.tools.specs.Dialogues.{place_after, is_over};
-ghost use Rattle.i2c_drivers.specs.At24.{read_run, write_run};
+ghost use Rattle.i2c_drivers.specs.At24.{read_run, eeprom_write_run};
 ghost use Rattle.i2c_drivers.specs.Bound.{eeprom_at, sensor_at, sensors_of};
 ghost use Rattle.i2c_drivers.specs.Examples as example;
 ghost use Rattle.i2c_drivers.specs.Lm75.{milli_of, raw_of, register_reads, sensor_read_run, sensor_write_run, swapped, write_call};
@@ -46,7 +46,7 @@ pub fn a_read_ends_with_the_chip()
     ensures last { read_run example.two_buses 0 0x50 255 1
         ≡ Reads (record { of = record { bus = 0; addr = 0x50; size = C02 }; offset = 255; count = 1 }) }
     ensures past { read_run example.two_buses 0 0x50 255 2 ≡ Refused Einval }
-    ensures behind { write_run example.two_buses 0 0x50 256 (7 ∷ []) ≡ Refused Einval }
+    ensures behind { eeprom_write_run example.two_buses 0 0x50 256 (7 ∷ []) ≡ Refused Einval }
     ensures nobody { read_run example.two_buses 0 0x52 255 2 ≡ Refused Enodev }
 {}
 

@@ -2,14 +2,14 @@
 
 ghost use Rattle.std.specs.Prelude.{◌≡◌, ℕ, ◌+◌, ◌-◌, ◌<◌, ◌≤◌, ◌++◌, true, List};
 ghost use Rattle.std.specs.List.{flat_map};
-ghost use Rattle.bus_journal.specs.Reports.{ended};
+ghost use Rattle.bus_journal.specs.Reports.{line_ended};
 ghost use Rattle.i2c_base.specs.Fitting.{Fits};
 ghost use Rattle.i2c_base.specs.Replies.{reply_by};
 ghost use Rattle.smb_emul.specs.Calls.{messages_of_call};
 ghost use Rattle.smb_emul.specs.Value.{outcome_seen};
 ghost use Rattle.tools.specs.Lm75Lines.{IsMilli};
-ghost use Rattle.i2c_drivers.specs.Lm75.{call_to, lm75_dialogue, milli_of, outcome_text, pointer_of, raw_of, read_call, reading_text, register_reads, register_writes, sensor_read_run, sensor_write_run, swapped, write_call, written_text};
-ghost use Rattle.tools.specs.Dialogues.{MOST_PLACES, AreAlike, AreReplies, behind};
+ghost use Rattle.i2c_drivers.specs.Lm75.{sensor_call, lm75_dialogue, milli_of, outcome_text, pointer_of, raw_of, read_call, reading_text, register_reads, register_writes, sensor_read_run, sensor_write_run, swapped, write_call, written_text};
+ghost use Rattle.tools.specs.Dialogues.{MOST_PLACES, AreAlike, AreReplies, next_place};
 
 use crate::bound::{Sensor, bound_sensor};
 use crate::text::{MOST_OF_ERRNO, push_errno, push_milli, push_refusal, refusal_size};
@@ -65,7 +65,7 @@ fn pointer_of(which: RegName) -> u8
 impl Sensor {
     // A call to it.
     fn call(&self, op: SmbOp<'static>) -> SmbCall<'static>
-        ensures { result ≡ call_to self.now op.entry }
+        ensures { result ≡ sensor_call self.now op.entry }
     {
         SmbCall {
             bus: self.bus,
@@ -187,7 +187,7 @@ impl Lm75Run {
     /// The place behind a reply, whatever bytes it brings.
     pub fn behind(&self, place: u16, head: ReplyHead) -> u16
         requires { place < (lm75_dialogue self.now).places }
-        ensures { (bytes : List ℕ) → result ≡ behind (lm75_dialogue self.now) place (reply_by head bytes) }
+        ensures { (bytes : List ℕ) → result ≡ next_place (lm75_dialogue self.now) place (reply_by head bytes) }
     {
         match self {
             Lm75Run::Refused(_) => place + 1,
@@ -200,7 +200,7 @@ impl Lm75Run {
     pub fn print(&self, replies: Window<'_>, out: &mut Text)
         requires fit { AreReplies (lm75_dialogue self.now) 0 replies }
         requires room { (lm75_dialogue self.now).most ≤ out.old.room }
-        ensures bytes { out.new.bytes ≡ out.old.bytes ++ flat_map ended ((lm75_dialogue self.now).lines replies.entry) }
+        ensures bytes { out.new.bytes ≡ out.old.bytes ++ flat_map line_ended ((lm75_dialogue self.now).lines replies.entry) }
         ensures room { out.old.room ≤ out.new.room + (lm75_dialogue self.now).most }
     {
         match self {
@@ -228,7 +228,7 @@ impl Lm75Run {
 fn print_read(sensor: &Sensor, which: RegName, replies: &Window<'_>, out: &mut Text)
     requires fit { AreReplies (register_reads sensor.now which) 0 replies.now }
     requires room { 11 ≤ out.old.room }
-    ensures bytes { out.new.bytes ≡ out.old.bytes ++ flat_map ended ((register_reads sensor.now which).lines replies.now) }
+    ensures bytes { out.new.bytes ≡ out.old.bytes ++ flat_map line_ended ((register_reads sensor.now which).lines replies.now) }
     ensures room { out.old.room ≤ out.new.room + 11 }
 {
     if let Some((head, bytes)) = replies.get(0) {
@@ -240,7 +240,7 @@ fn print_read(sensor: &Sensor, which: RegName, replies: &Window<'_>, out: &mut T
 // Prints the line of a write.
 fn print_written(sensor: &Sensor, which: RegName, word: u16, replies: &Window<'_>, out: &mut Text)
     requires { 11 ≤ out.old.room }
-    ensures bytes { out.new.bytes ≡ out.old.bytes ++ flat_map ended ((register_writes sensor.now which word).lines replies.now) }
+    ensures bytes { out.new.bytes ≡ out.old.bytes ++ flat_map line_ended ((register_writes sensor.now which word).lines replies.now) }
     ensures room { out.old.room ≤ out.new.room + 11 }
 {
     match replies.get(0) {

@@ -2,9 +2,9 @@
 
 ghost use Rattle.std.specs.Prelude.{◌≡◌, ◌+◌, ◌*◌, ◌<◌, ◌≤◌, ◌++◌, length};
 ghost use Rattle.std.specs.List.{flat_map};
-ghost use Rattle.bus_journal.specs.Reports.{ended};
+ghost use Rattle.bus_journal.specs.Reports.{line_ended};
 ghost use Rattle.bus_spec.specs.Lines.{two_digits};
-ghost use Rattle.i2c_drivers.specs.Rows.{before_cell, byte_lines, bytes_at, bytes_read, cells};
+ghost use Rattle.i2c_drivers.specs.Rows.{before_cell, byte_lines, bytes_at, all_bytes_read, cells};
 
 use bus_journal::hex_digit;
 use i2c_base::ReplyHead;
@@ -70,10 +70,10 @@ fn push_cells(out: &mut Text, n: usize, bytes: &[u8]) -> usize
 /// Prints all bytes that were read.
 #[tactic(auto, using(crate::proofs::RowLemmas::lengths_more, crate::proofs::RowLemmas::none_left))]
 pub fn push_byte_lines(out: &mut Text, replies: &Window<'_>)
-    requires few { length (bytes_read replies.now) ≤ 32768 }
-    requires room { 3 * length (bytes_read replies.now) < out.old.room }
-    ensures bytes { out.new.bytes ≡ out.old.bytes ++ flat_map ended (byte_lines (bytes_read replies.now)) }
-    ensures room { out.old.room ≤ out.new.room + 3 * length (bytes_read replies.now) + 1 }
+    requires few { length (all_bytes_read replies.now) ≤ 32768 }
+    requires room { 3 * length (all_bytes_read replies.now) < out.old.room }
+    ensures bytes { out.new.bytes ≡ out.old.bytes ++ flat_map line_ended (byte_lines (all_bytes_read replies.now)) }
+    ensures room { out.old.room ≤ out.new.room + 3 * length (all_bytes_read replies.now) + 1 }
 {
     let mut next = 0usize;
     for place in 0..count(replies) {

@@ -2,11 +2,11 @@
 
 ghost use Rattle.std.specs.Prelude.{◌≡◌, ℕ, true, List, ◌+◌, ◌-◌, ◌<◌, ◌≤◌, ◌++◌, IfOk};
 ghost use Rattle.std.specs.List.{flat_map};
-ghost use Rattle.bus_journal.specs.Reports.{ended};
+ghost use Rattle.bus_journal.specs.Reports.{line_ended};
 ghost use Rattle.i2c_base.specs.Replies.{reply_by};
-ghost use Rattle.i2c_drivers.specs.At24.{write_run};
-ghost use Rattle.i2c_drivers.specs.Runs.{dialogue_of, driver_run, repeats};
-ghost use Rattle.tools.specs.Dialogues.{MOST_PLACES, AreAlike, AreReplies, behind};
+ghost use Rattle.i2c_drivers.specs.At24.{eeprom_write_run};
+ghost use Rattle.i2c_drivers.specs.Runs.{driver_dialogue, driver_run, repeats};
+ghost use Rattle.tools.specs.Dialogues.{MOST_PLACES, AreAlike, AreReplies, next_place};
 ghost use Rattle.tools.specs.At24Lines.{IsWriteInRange};
 ghost use Rattle.tools.specs.DriverLines.{IsDriverInRange};
 
@@ -32,7 +32,7 @@ pub enum DriverRun {
 // A write that begins over a board.
 fn open_write(board: &Board, write: At24Write) -> At24Run
     requires { IsWriteInRange write }
-    ensures { result ≡ write_run board.now write.bus write.addr write.offset write.bytes }
+    ensures { result ≡ eeprom_write_run board.now write.bus write.addr write.offset write.bytes }
 {
     let At24Write {
         bus,
@@ -75,7 +75,7 @@ impl DriverRun {
 
     /// How many places it has.
     pub fn places(&self) -> u16
-        ensures value { result ≡ (dialogue_of self.now).places }
+        ensures value { result ≡ (driver_dialogue self.now).places }
         ensures few { result ≤ MOST_PLACES }
     {
         match self {
@@ -87,8 +87,8 @@ impl DriverRun {
 
     /// Puts the transfer at a place in place of another.
     pub fn put(&self, place: u16, transfer: &mut Transfer)
-        requires { place < (dialogue_of self.now).places }
-        ensures { transfer.new ≡ (dialogue_of self.now).at place }
+        requires { place < (driver_dialogue self.now).places }
+        ensures { transfer.new ≡ (driver_dialogue self.now).at place }
     {
         match self {
             DriverRun::At24(run) => run.put(place, transfer),
@@ -101,8 +101,8 @@ impl DriverRun {
     /// again. It is said of each try of a piece but the first, and it may do so where none is said to.
     pub fn repeats(&self, place: u16) -> bool
         ensures value { result ≡ repeats self.now place }
-        ensures behind { result ≡ true → 0 < place }
-        ensures alike { result ≡ true → AreAlike ((dialogue_of self.now).at (place - 1)) ((dialogue_of self.now).at place) }
+        ensures next_place { result ≡ true → 0 < place }
+        ensures alike { result ≡ true → AreAlike ((driver_dialogue self.now).at (place - 1)) ((driver_dialogue self.now).at place) }
     {
         match self {
             DriverRun::At24(run) => run.repeats(place),
@@ -113,8 +113,8 @@ impl DriverRun {
 
     /// The place behind a reply, whatever bytes it brings.
     pub fn behind(&self, place: u16, head: ReplyHead) -> u16
-        requires { place < (dialogue_of self.now).places }
-        ensures { (bytes : List ℕ) → result ≡ behind (dialogue_of self.now) place (reply_by head bytes) }
+        requires { place < (driver_dialogue self.now).places }
+        ensures { (bytes : List ℕ) → result ≡ next_place (driver_dialogue self.now) place (reply_by head bytes) }
     {
         match self {
             DriverRun::At24(run) => run.behind(place, head),
@@ -125,10 +125,10 @@ impl DriverRun {
 
     /// Prints its lines.
     pub fn print(&self, replies: Window<'_>, out: &mut Text)
-        requires fit { AreReplies (dialogue_of self.now) 0 replies }
-        requires room { (dialogue_of self.now).most ≤ out.old.room }
-        ensures bytes { out.new.bytes ≡ out.old.bytes ++ flat_map ended ((dialogue_of self.now).lines replies.entry) }
-        ensures room { out.old.room ≤ out.new.room + (dialogue_of self.now).most }
+        requires fit { AreReplies (driver_dialogue self.now) 0 replies }
+        requires room { (driver_dialogue self.now).most ≤ out.old.room }
+        ensures bytes { out.new.bytes ≡ out.old.bytes ++ flat_map line_ended ((driver_dialogue self.now).lines replies.entry) }
+        ensures room { out.old.room ≤ out.new.room + (driver_dialogue self.now).most }
     {
         match self {
             DriverRun::At24(run) => run.print(replies, out),
@@ -139,7 +139,7 @@ impl DriverRun {
 
     /// The most bytes that it prints.
     pub fn most(&self) -> usize
-        ensures { result ≡ (dialogue_of self.now).most }
+        ensures { result ≡ (driver_dialogue self.now).most }
     {
         match self {
             DriverRun::At24(run) => run.most(),

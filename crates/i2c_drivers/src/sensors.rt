@@ -2,7 +2,7 @@
 
 ghost use Rattle.std.specs.Prelude.{◌≡◌, ℕ, ◌+◌, ◌*◌, ◌<◌, ◌≤◌, ◌++◌, List, map, zip, length, IfOk};
 ghost use Rattle.std.specs.List.{flat_map};
-ghost use Rattle.bus_journal.specs.Reports.{ended};
+ghost use Rattle.bus_journal.specs.Reports.{line_ended};
 ghost use Rattle.i2c_base.specs.Fitting.{Fits};
 ghost use Rattle.i2c_base.specs.Replies.{reply_by};
 ghost use Rattle.smb_emul.specs.Calls.{messages_of_call};
@@ -10,7 +10,7 @@ ghost use Rattle.i2c_drivers.specs.Bound.{sensors_of};
 ghost use Rattle.i2c_drivers.specs.Lm75.{read_call};
 ghost use Rattle.i2c_drivers.specs.Sensors.{line_of, senses, sensor_line, sensor_name};
 ghost use Rattle.tools.specs.declared.command.driver.lm75.RegName.TheVariants.{Temp};
-ghost use Rattle.tools.specs.Dialogues.{MOST_PLACES, AreReplies, behind};
+ghost use Rattle.tools.specs.Dialogues.{MOST_PLACES, AreReplies, next_place};
 
 use crate::bound::{Sensor, bound_sensors};
 use crate::text::push_number;
@@ -82,7 +82,7 @@ impl Sensors {
     pub fn print(&self, replies: Window<'_>, out: &mut Text)
         requires fit { AreReplies (senses self.now) 0 replies }
         requires room { (senses self.now).most ≤ out.old.room }
-        ensures bytes { out.new.bytes ≡ out.old.bytes ++ flat_map ended ((senses self.now).lines replies.entry) }
+        ensures bytes { out.new.bytes ≡ out.old.bytes ++ flat_map line_ended ((senses self.now).lines replies.entry) }
         ensures room { out.old.room ≤ out.new.room + (senses self.now).most }
     {
         push_lines(out, self.list.as_slice(), &replies);
@@ -119,7 +119,7 @@ fn push_name(out: &mut Text, sensor: &Sensor)
 fn push_line(out: &mut Text, sensor: &Sensor, head: ReplyHead, bytes: &[u8])
     requires fits { Fits (messages_of_call (read_call sensor.now Temp)) (reply_by head bytes.now) }
     requires room { 22 ≤ out.old.room }
-    ensures bytes { out.new.bytes ≡ out.old.bytes ++ ended (sensor_line sensor.now (reply_by head bytes.now)) }
+    ensures bytes { out.new.bytes ≡ out.old.bytes ++ line_ended (sensor_line sensor.now (reply_by head bytes.now)) }
     ensures room { out.old.room ≤ out.new.room + 22 }
 {
     push_name(out, sensor);
@@ -131,7 +131,7 @@ fn push_line(out: &mut Text, sensor: &Sensor, head: ReplyHead, bytes: &[u8])
 fn push_lines(out: &mut Text, sensors: &[Sensor], replies: &Window<'_>)
     requires fit { AreReplies (senses sensors.now) 0 replies.now }
     requires room { 22 * length sensors.now ≤ out.old.room }
-    ensures bytes { out.new.bytes ≡ out.old.bytes ++ flat_map ended (map line_of (zip sensors.now replies.now)) }
+    ensures bytes { out.new.bytes ≡ out.old.bytes ++ flat_map line_ended (map line_of (zip sensors.now replies.now)) }
     ensures room { out.old.room ≤ out.new.room + 22 * length sensors.now }
 {
     for (place, sensor) in sensors.iter().enumerate() {

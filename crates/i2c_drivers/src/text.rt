@@ -3,7 +3,7 @@
 ghost use Rattle.std.specs.Prelude.{◌≡◌, pos, neg_ℤ, ◌≤ℤ◌, ◌+◌, ◌≤◌, [], ◌++◌, length};
 ghost use Rattle.std.specs.Fmt.{decimal, signed_decimal};
 ghost use Rattle.std.specs.List.{flat_map};
-ghost use Rattle.bus_journal.specs.Reports.{ended};
+ghost use Rattle.bus_journal.specs.Reports.{line_ended};
 ghost use Rattle.bus_spec.specs.Lines.{errno_text};
 ghost use Rattle.tools.specs.Lm75Lines.{IsMilli};
 ghost use Rattle.i2c_drivers.specs.Refusals.{refused};
@@ -27,7 +27,7 @@ pub fn push_errno(out: &mut Text, errno: Errno)
 /// Prints the name of an error on a line.
 pub fn push_errno_line(out: &mut Text, errno: Errno)
     requires { 11 ≤ out.old.room }
-    ensures bytes { out.new.bytes ≡ out.old.bytes ++ ended (errno_text errno) }
+    ensures bytes { out.new.bytes ≡ out.old.bytes ++ line_ended (errno_text errno) }
     ensures room { out.old.room ≤ out.new.room + 11 }
 {
     out.push(errno_name(errno));
@@ -37,7 +37,7 @@ pub fn push_errno_line(out: &mut Text, errno: Errno)
 /// Prints a refusal: the name of an error alone.
 pub fn push_refusal(out: &mut Text, errno: Errno)
     requires { (refused errno).most ≤ out.old.room }
-    ensures bytes { out.new.bytes ≡ out.old.bytes ++ flat_map ended ((refused errno).lines []) }
+    ensures bytes { out.new.bytes ≡ out.old.bytes ++ flat_map line_ended ((refused errno).lines []) }
     ensures room { out.old.room ≤ out.new.room + (refused errno).most }
 {
     out.push(errno_name(errno));

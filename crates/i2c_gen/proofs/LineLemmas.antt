@@ -8,7 +8,7 @@ use Rattle.std.proofs.lemmas.Bool.Decides.{nat_tests}
 use Rattle.tools.specs.Commands.{grammar, MOST_WORDS}
 use Rattle.tools.specs.Gets.{got, get_len, get_reg, get_bus, get_words, get_mode}
 use Rattle.tools.specs.Grammars.{Class, Grammar, class, maybe, word_or, read_at}
-use Rattle.tools.specs.LineSets.{Word, ended}
+use Rattle.tools.specs.LineSets.{Word, or_refused}
 use Rattle.tools.specs.Lines.{line_read}
 use Rattle.tools.specs.Numbers.{number_in}
 use Rattle.tools.specs.Options.{bus_number, address, byte, force_and_yes}
@@ -47,7 +47,7 @@ pub record AreInRange (bus reg val : ℕ) : Type 0 where
 
 class_read : {A B : Type 0} (c : Class B) (k : B → Grammar A) (ws : List Word) (i : ℕ) (b : B) → of_word c.of (slice_get ws i) ≡ Some b
     → read_at (class c k) ws i ≡ read_at (k b) ws (i + 1)
-class_read c k ws i b e = ap (λ o. ended o i >>= λ x. read_at (k x) ws (i + 1)) e
+class_read c k ws i b e = ap (λ o. or_refused o i >>= λ x. read_at (k x) ws (i + 1)) e
 
 other_read : {A : Type 0} (text : Word) (g h : Grammar A) (ws : List Word) (i : ℕ) → is_at text ws i ≡ false
     → read_at (word_or text g h) ws i ≡ read_at h ws i
@@ -55,8 +55,8 @@ other_read text g h ws i e = ap (λ t. cond t (read_at g ws (i + 1)) (read_at h 
 
 -- a class whose word means this, if anything
 piece_read : {A B : Type 0} (c : Class B) (k : B → Grammar A) (ws : List Word) (i : ℕ) (o : Option B) → of_word c.of (slice_get ws i) ≡ o
-    → read_at (class c k) ws i ≡ (ended o i >>= λ x. read_at (k x) ws (i + 1))
-piece_read c k ws i o e = ap (λ p. ended p i >>= λ x. read_at (k x) ws (i + 1)) e
+    → read_at (class c k) ws i ≡ (or_refused o i >>= λ x. read_at (k x) ws (i + 1))
+piece_read c k ws i o e = ap (λ p. or_refused p i >>= λ x. read_at (k x) ws (i + 1)) e
 
 value_piece : (n : ℕ) (w : Word) → n ≤ 255 → IsNumber n w → mode_or (send_mode w) (number_in 0 65535 w) ≡ mode_or None (Some n)
 value_piece n w small h =

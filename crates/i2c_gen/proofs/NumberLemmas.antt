@@ -12,7 +12,7 @@ use Rattle.std.proofs.lemmas.Str.Parse.{digit_from_value}
 use Rattle.std.specs.Str.Parse.{AllDigits, digits_value_after}
 use Rattle.std.specs.Char.{digit_value}
 use Rattle.i2c_gen.proofs.WordLemmas.{has_no_gap, is_word}
-use Rattle.tools.specs.Numbers.{decimal_digit, digits_on, is_hexadecimal, is_decimal, number_of, number_in, within}
+use Rattle.tools.specs.Numbers.{decimal_digit, digits_on, is_hexadecimal, is_decimal, number_in_word, number_in, within}
 
 -- the byte of a digit
 pub record IsDigitByte (b : ℕ) : Type 0 where
@@ -77,7 +77,7 @@ plain (b ∷ c ∷ cs) d =
 whole : (n : ℕ) (w : List ℕ) → IsNumber n w → is_decimal w ≡ true
 whole n w h = grind (arith, nat_tests, h.some, h.short)
 
-pub number_read : (n : ℕ) (w : List ℕ) → IsNumber n w → number_of w ≡ Some n
+pub number_read : (n : ℕ) (w : List ℕ) → IsNumber n w → number_in_word w ≡ Some n
 number_read n w h =
     ap (λ t. cond t (digits_on true 0 (drop 2 w)) (cond (is_decimal w) (digits_on false 0 w) None)) (plain w h.bytes)
     ∙ ap (λ t. cond t (digits_on false 0 w) None) (whole n w h) ∙ h.value

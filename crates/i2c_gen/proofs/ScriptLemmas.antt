@@ -18,7 +18,7 @@ use Rattle.tools.specs.declared.command.Cmd.{Cmd}
 use Rattle.caller_core.specs.Callers.{IsOpened}
 use Rattle.caller_core.specs.Runs.{handles_behind}
 use Rattle.caller_core.specs.Scripts.{Place, command_of, at_most, behind_commands, behind_line_read, lines_read, text_read, script_read, commands_or_none, cost_of_script}
-use Rattle.caller_core.specs.Turns.{talk, sum_of}
+use Rattle.caller_core.specs.Turns.{command_talk, sum_of}
 use Rattle.caller_core.specs.View.{CommandView, CallerView, script_on}
 use Rattle.i2c_gen.specs.Boards.{bus_of, made_board}
 use Rattle.i2c_gen.specs.Draws.{number_behind, draw}
@@ -137,7 +137,7 @@ module _ (roots root channel : ℕ) (some : 1 ≤ roots) (most : roots ≤ 8) (t
   run_by op reg val line = command_of (made_board roots) [] line (cmd_by op (bus_of roots root channel) reg val)
 
   abbrev asked : (op reg val : ℕ) (line : List ℕ) → TransferView
-  asked op reg val line = (talk (run_by op reg val line)).at 0
+  asked op reg val line = (command_talk (run_by op reg val line)).at 0
 
   command_cost : (op reg val : ℕ) (line : List ℕ) → sum_of (cost_of (made_board roots)) (run_by op reg val line) ≤ 125
   command_cost zero reg val line =

@@ -8,7 +8,7 @@ use Rattle.std.proofs.lemmas.Option.{slice_get-map, slice_get_cases}
 use Rattle.i2c_base.specs.Muxes.{facts_of}
 use Rattle.i2c_base.specs.Board.{BoardView}
 use Rattle.i2c_base.specs.Table.{Table}
-use Rattle.i2c_spec.specs.Chips.{ChipView, chip_table, chip_opening, at_level, stopped, arbitrated, is_free, kept_bits, bit_of}
+use Rattle.i2c_spec.specs.Chips.{ChipView, chip_table, chip_opening, at_level, chip_stopped, arbitrated, is_free, kept_bits, bit_of}
 use Rattle.i2c_spec.specs.Targets.{TargetState, IsQuiet}
 use Rattle.i2c_spec.specs.World.{set_level, opening_world}
 use Rattle.i2c_physics.specs.Reach.{IsReach}
@@ -43,8 +43,8 @@ level_taken true by_line kept c level byte waits same =
 level_taken false true kept c level byte waits same = refl
 level_taken false false kept c level byte waits same = absurd (still c (record c { control = kept; waiting = None }) byte same refl waits)
 
-level_stop : (c : ChipView) (level : ℕ) (waiting : Option ℕ) → c.waiting ≡ waiting → stopped c waiting ≡ c
-    → stopped (at_level c level) waiting ≡ at_level c level
+level_stop : (c : ChipView) (level : ℕ) (waiting : Option ℕ) → c.waiting ≡ waiting → chip_stopped c waiting ≡ c
+    → chip_stopped (at_level c level) waiting ≡ at_level c level
 level_stop c level None waits same = refl
 level_stop c level (Some byte) waits same =
     level_taken (facts_of c.kind).asks (facts_of c.kind).by_line (kept_bits c.kind byte) c level byte waits same

@@ -62,9 +62,9 @@ taken k c byte =
     else if (facts_of k).by_line then c
     else record c { control = kept_bits k byte; waiting = None }
 
-abbrev pub stopped : ChipView → Option ℕ → ChipView
-stopped c None = c
-stopped c (Some byte) = taken c.kind c byte
+abbrev pub chip_stopped : ChipView → Option ℕ → ChipView
+chip_stopped c None = c
+chip_stopped c (Some byte) = taken c.kind c byte
 
 -- a look at an arbitrator: 1 where it is with its other controller, which then is found once less
 abbrev pub is_foreign : ChipView → Bool
@@ -84,7 +84,7 @@ chip_after c (event.Start reading) = c
 chip_after c event.Other = c
 chip_after c (event.Put byte) = record c { waiting = Some byte }
 chip_after c (event.Get ack) = looked c.kind c
-chip_after c event.Stop = stopped c c.waiting
+chip_after c event.Stop = chip_stopped c c.waiting
 
 abbrev pub chip_answer : ChipView → Event → Answer
 chip_answer c (event.Start reading) = answer.Ack

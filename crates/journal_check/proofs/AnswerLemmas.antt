@@ -14,7 +14,7 @@ use Rattle.bus_spec.specs.Report.{ended_line, sections, text_of}
 use Rattle.bus_laws.proofs.Laws.{settled-told}
 use Rattle.journal_laws.specs.Layers.{BelongsTo}
 use Rattle.bus_journal.specs.Ranges.{IsEntry}
-use Rattle.bus_journal.specs.Reports.{IsLine, ended, IsSectionLine, HasNoJournalLine}
+use Rattle.bus_journal.specs.Reports.{IsLine, line_ended, IsSectionLine, HasNoJournalLine}
 use Rattle.bus_journal.specs.Told.{entries_of}
 use Rattle.bus_journal.proofs.LineFeeds.{entry-line}
 use Rattle.bus_journal.proofs.Told.{entries_of-lines}
@@ -78,11 +78,11 @@ section_passed n f line more is offence =
     (not_equal line (codes "journal") is.other) (line_cut Sections n f line more is.one offence)
 
 sections_passed : (ls : List (List ℕ)) (n f : ℕ) (rest : List ℕ) → All IsSectionLine ls
-    → FirstOffence Sections n (lines_of (flat_map ended ls ++ rest)) f → (m : ℕ) × FirstOffence Sections m (lines_of rest) f
+    → FirstOffence Sections n (lines_of (flat_map line_ended ls ++ rest)) f → (m : ℕ) × FirstOffence Sections m (lines_of rest) f
 sections_passed [] n f rest all offence = (n, offence)
 sections_passed (l ∷ ls) n f rest all offence =
     sections_passed ls (n + 1) f rest (All-tail IsSectionLine l ls all)
-    (section_passed n f l (flat_map ended ls ++ rest) (All-head IsSectionLine l ls all)
+    (section_passed n f l (flat_map line_ended ls ++ rest) (All-head IsSectionLine l ls all)
     (subst (λ (xs : List ℕ). FirstOffence Sections n (lines_of xs) f) (section-line l ls rest) offence))
 
 heading_passed : (n f : ℕ) (rest : List ℕ) → FirstOffence Sections n (lines_of (codes "journal\n" ++ rest)) f
@@ -119,9 +119,9 @@ end_passed n f offence =
 
 no-offence : (text front lines : List ℕ) (f : ℕ) → HasForm text front lines → FirstOffence Sections 1 (lines_of text) f → ⊥
 no-offence text front lines f form offence =
-    let parts : text ≡ flat_map ended form.others.lines ++ (codes "journal\n" ++ (flat_map ended_line (entries_of lines) ++ codes "end\n")) =
+    let parts : text ≡ flat_map line_ended form.others.lines ++ (codes "journal\n" ++ (flat_map ended_line (entries_of lines) ++ codes "end\n")) =
     form.parts ∙ ap (λ (xs : List ℕ). xs ++ (codes "journal\n" ++ (lines ++ codes "end\n"))) form.others.text_is
-    ∙ ap (λ (xs : List ℕ). flat_map ended form.others.lines ++ (codes "journal\n" ++ (xs ++ codes "end\n"))) form.entries.lines in
+    ∙ ap (λ (xs : List ℕ). flat_map line_ended form.others.lines ++ (codes "journal\n" ++ (xs ++ codes "end\n"))) form.entries.lines in
     let behind = sections_passed form.others.lines 1 f (codes "journal\n" ++ (flat_map ended_line (entries_of lines) ++ codes "end\n")) form.others.others
     (subst (λ (xs : List ℕ). FirstOffence Sections 1 (lines_of xs) f) parts offence) in
     let last = entries_passed (entries_of lines) (behind.0 + 1) f (codes "end\n") form.entries.in_range

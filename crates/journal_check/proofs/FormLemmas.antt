@@ -13,7 +13,7 @@ use Rattle.i2c_base.specs.declared.entry.Entry.{Entry}
 use Rattle.bus_spec.specs.Lines.{entry_line}
 use Rattle.bus_spec.specs.Report.{ended_line}
 use Rattle.bus_journal.specs.Ranges.{IsEntry}
-use Rattle.bus_journal.specs.Reports.{IsLine, ended, IsSectionLine}
+use Rattle.bus_journal.specs.Reports.{IsLine, line_ended, IsSectionLine}
 use Rattle.bus_journal.specs.Told.{entries_of}
 use Rattle.bus_journal.proofs.Told.{entries_of-lines}
 use Rattle.journal_check.specs.Forms.{Line, lines_from, lines_of, last_line, Stage, Sections, Entries, Over, FirstOffence, IsEntryLine, HeadingAt, EndAt, HasAdded}
@@ -60,7 +60,7 @@ no-line stage n text over is = subst (λ (ls : List Line). FirstOffence stage n 
 -- BEFORE THE HEADING
 pub record IsReading (text rest : List ℕ) (number : ℕ) : Type 0 where
   pub lines : List (List ℕ)
-  pub parts : text ≡ flat_map ended lines ++ rest
+  pub parts : text ≡ flat_map line_ended lines ++ rest
   pub others : All IsSectionLine lines
   pub few : number + length rest ≤ 1 + length text
   pub goes : (f : ℕ) → FirstOffence Sections number (lines_of rest) f → FirstOffence Sections 1 (lines_of text) f
@@ -86,35 +86,35 @@ module _ (text rest line : List ℕ) (number : ℕ) (reads : IsReading text rest
   reads-other other apart =
       record {
         lines = reads.lines ++ line ∷ [];
-        parts = reads.parts ∙ ap (λ (xs : List ℕ). flat_map ended reads.lines ++ xs) cut
-            ∙ sym (ap (λ (xs : List ℕ). xs ++ more) (flat_map-append ended reads.lines (line ∷ []))
-            ∙ append_assoc (flat_map ended reads.lines) (flat_map ended (line ∷ [])) more
-            ∙ ap (λ (xs : List ℕ). flat_map ended reads.lines ++ xs) one);
+        parts = reads.parts ∙ ap (λ (xs : List ℕ). flat_map line_ended reads.lines ++ xs) cut
+            ∙ sym (ap (λ (xs : List ℕ). xs ++ more) (flat_map-append line_ended reads.lines (line ∷ []))
+            ∙ append_assoc (flat_map line_ended reads.lines) (flat_map line_ended (line ∷ [])) more
+            ∙ ap (λ (xs : List ℕ). flat_map line_ended reads.lines ++ xs) one);
         others = All-append IsSectionLine reads.lines (line ∷ []) reads.others (All-cons IsSectionLine line [] (record { one = is; other = apart }) (All-nil IsSectionLine));
         few = (let low = shorter in let before = reads.few in omega (arith, low, before));
         goes = λ f first. reads.goes f (subst (λ (ls : List Line). FirstOffence Sections number ls f) (sym cut_lines)
             (subst (λ (t : Bool). MatchBool t (FirstOffence Entries (number + 1) (lines_of more) f) (FirstOffence Sections (number + 1) (lines_of more) f)) (sym other) first));
       }
     where
-      one : flat_map ended (line ∷ []) ++ more ≡ line ++ 10 ∷ more
+      one : flat_map line_ended (line ∷ []) ++ more ≡ line ++ 10 ∷ more
       one = simp append_assoc
 
   pub heading-at : bytes_eq line (codes "journal") ≡ true → line ≡ codes "journal" → (at : ℕ) → at ≡ length text - length (drop (length line + 1) rest)
       → HeadingAt text at (number + 1)
   heading-at same heading at is_at =
-      let front : List ℕ = flat_map ended reads.lines in
-      let whole : text ≡ (flat_map ended reads.lines ++ codes "journal\n") ++ more =
-      reads.parts ∙ ap (λ (xs : List ℕ). flat_map ended reads.lines ++ xs) (cut ∙ ap (λ (xs : List ℕ). xs ++ 10 ∷ more) heading)
-      ∙ sym (append_assoc (flat_map ended reads.lines) (codes "journal\n") more) in
-      let counted : length text ≡ length (flat_map ended reads.lines ++ codes "journal\n") + length more =
-      ap (λ (xs : List ℕ). length xs) whole ∙ length-append (flat_map ended reads.lines ++ codes "journal\n") more in
-      let place : at ≡ length (flat_map ended reads.lines ++ codes "journal\n") = omega (arith, is_at, counted) in
+      let front : List ℕ = flat_map line_ended reads.lines in
+      let whole : text ≡ (flat_map line_ended reads.lines ++ codes "journal\n") ++ more =
+      reads.parts ∙ ap (λ (xs : List ℕ). flat_map line_ended reads.lines ++ xs) (cut ∙ ap (λ (xs : List ℕ). xs ++ 10 ∷ more) heading)
+      ∙ sym (append_assoc (flat_map line_ended reads.lines) (codes "journal\n") more) in
+      let counted : length text ≡ length (flat_map line_ended reads.lines ++ codes "journal\n") + length more =
+      ap (λ (xs : List ℕ). length xs) whole ∙ length-append (flat_map line_ended reads.lines ++ codes "journal\n") more in
+      let place : at ≡ length (flat_map line_ended reads.lines ++ codes "journal\n") = omega (arith, is_at, counted) in
       let behind : drop at text ≡ more = ap (λ (k : ℕ). drop k text) place
-      ∙ front_rest text (flat_map ended reads.lines ++ codes "journal\n") more whole in
+      ∙ front_rest text (flat_map line_ended reads.lines ++ codes "journal\n") more whole in
       record {
-        sections = flat_map ended reads.lines;
-        parts = whole ∙ append_assoc (flat_map ended reads.lines) (codes "journal\n") more
-            ∙ ap (λ (xs : List ℕ). flat_map ended reads.lines ++ (codes "journal\n" ++ xs)) (sym behind);
+        sections = flat_map line_ended reads.lines;
+        parts = whole ∙ append_assoc (flat_map line_ended reads.lines) (codes "journal\n") more
+            ∙ ap (λ (xs : List ℕ). flat_map line_ended reads.lines ++ (codes "journal\n" ++ xs)) (sym behind);
         others = record { lines = reads.lines; text_is = refl; others = reads.others };
         within = omega (arith, place, counted);
         few = (let low = shorter in let before = reads.few in omega (arith, low, before));

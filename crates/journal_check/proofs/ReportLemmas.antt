@@ -9,28 +9,28 @@ use Rattle.i2c_base.specs.declared.entry.Entry.{Entry}
 use Rattle.i2c_base.specs.declared.entry.Entry.TheVariants as entry
 use Rattle.bus_spec.specs.Lines.{entry_line}
 use Rattle.bus_spec.specs.Report.{sections}
-use Rattle.bus_journal.specs.Reports.{IsLine, ended, IsSectionLine, HasNoJournalLine}
+use Rattle.bus_journal.specs.Reports.{IsLine, line_ended, IsSectionLine, HasNoJournalLine}
 use Rattle.bus_journal.proofs.LineFeeds.{line-append, decimal-line}
 use Rattle.bus_journal.proofs.ReportLemmas.{first_lines}
 
-pub section-line : (l : List ℕ) (ls : List (List ℕ)) (text : List ℕ) → flat_map ended (l ∷ ls) ++ text ≡ l ++ 10 ∷ (flat_map ended ls ++ text)
+pub section-line : (l : List ℕ) (ls : List (List ℕ)) (text : List ℕ) → flat_map line_ended (l ∷ ls) ++ text ≡ l ++ 10 ∷ (flat_map line_ended ls ++ text)
 section-line l ls text = simp append_assoc
 
 -- what stands below the line `journal` is one
 pub below-journal : (ls ms : List (List ℕ)) (x y : List ℕ) → All IsSectionLine ls → All IsSectionLine ms
-    → flat_map ended ls ++ (codes "journal\n" ++ x) ≡ flat_map ended ms ++ (codes "journal\n" ++ y) → x ≡ y
+    → flat_map line_ended ls ++ (codes "journal\n" ++ x) ≡ flat_map line_ended ms ++ (codes "journal\n" ++ y) → x ≡ y
 below-journal [] [] x y all_l all_m same = (first_lines (codes "journal") (codes "journal") x y refl refl same).1
 below-journal [] (m ∷ ms) x y all_l all_m same =
     let here = All-head IsSectionLine m ms all_m in
-    absurd (here.other (sym (first_lines (codes "journal") m x (flat_map ended ms ++ (codes "journal\n" ++ y)) refl here.one
+    absurd (here.other (sym (first_lines (codes "journal") m x (flat_map line_ended ms ++ (codes "journal\n" ++ y)) refl here.one
     (same ∙ section-line m ms (codes "journal\n" ++ y))).0))
 below-journal (l ∷ ls) [] x y all_l all_m same =
     let here = All-head IsSectionLine l ls all_l in
-    absurd (here.other (first_lines l (codes "journal") (flat_map ended ls ++ (codes "journal\n" ++ x)) y here.one refl
+    absurd (here.other (first_lines l (codes "journal") (flat_map line_ended ls ++ (codes "journal\n" ++ x)) y here.one refl
     (sym (section-line l ls (codes "journal\n" ++ x)) ∙ same)).0)
 below-journal (l ∷ ls) (m ∷ ms) x y all_l all_m same =
     below-journal ls ms x y (All-tail IsSectionLine l ls all_l) (All-tail IsSectionLine m ms all_m)
-    (first_lines l m (flat_map ended ls ++ (codes "journal\n" ++ x)) (flat_map ended ms ++ (codes "journal\n" ++ y))
+    (first_lines l m (flat_map line_ended ls ++ (codes "journal\n" ++ x)) (flat_map line_ended ms ++ (codes "journal\n" ++ y))
     (All-head IsSectionLine l ls all_l).one (All-head IsSectionLine m ms all_m).one
     (sym (section-line l ls (codes "journal\n" ++ x)) ∙ same ∙ section-line m ms (codes "journal\n" ++ y))).1
 
@@ -41,8 +41,8 @@ heading-other c same = absurd (let first : true ≡ false = ap (λ (xs : List �
 heading-line : (c : ℕ) → IsSectionLine (codes "caller " ++ decimal c)
 heading-line c = record { one = line-append (codes "caller ") (decimal c) refl (decimal-line c); other = heading-other c }
 
-under-heading : (c : ℕ) (lines more : List (List ℕ)) → flat_map ended ((codes "caller " ++ decimal c) ∷ (lines ++ more)) ≡
-    (codes "caller " ++ (decimal c ++ (10 ∷ flat_map ended lines))) ++ flat_map ended more
+under-heading : (c : ℕ) (lines more : List (List ℕ)) → flat_map line_ended ((codes "caller " ++ decimal c) ∷ (lines ++ more)) ≡
+    (codes "caller " ++ (decimal c ++ (10 ∷ flat_map line_ended lines))) ++ flat_map line_ended more
 under-heading c lines more = simp (append_assoc, flat_map-append)
 
 pub whole-sections : (c : ℕ) (texts : List (List ℕ)) → All HasNoJournalLine texts → HasNoJournalLine (sections c texts)
@@ -53,7 +53,7 @@ whole-sections c (text ∷ texts) all =
     record {
       lines = (codes "caller " ++ decimal c) ∷ (here.lines ++ rest.lines);
       text_is = ap (λ (xs : List ℕ). (codes "caller " ++ (decimal c ++ (10 ∷ xs))) ++ sections (c + 1) texts) here.text_is
-          ∙ ap (λ (xs : List ℕ). (codes "caller " ++ (decimal c ++ (10 ∷ flat_map ended here.lines))) ++ xs) rest.text_is
+          ∙ ap (λ (xs : List ℕ). (codes "caller " ++ (decimal c ++ (10 ∷ flat_map line_ended here.lines))) ++ xs) rest.text_is
           ∙ sym (under-heading c here.lines rest.lines);
       others = All-cons IsSectionLine (codes "caller " ++ decimal c) (here.lines ++ rest.lines) (heading-line c)
           (All-append IsSectionLine here.lines rest.lines here.others rest.others);

@@ -6,7 +6,7 @@ use Rattle.std.proofs.lemmas.Fmt.{decimal_digit}
 use Rattle.std.specs.List.{flat_map, list_any}
 use Rattle.std.proofs.lemmas.Bool.{or_parts, eqb-true}
 use Rattle.std.proofs.lemmas.List.{take-append-le, take_all}
-use Rattle.bus_journal.specs.Reports.{IsLine, ended}
+use Rattle.bus_journal.specs.Reports.{IsLine, line_ended}
 use Rattle.journal_check.specs.Forms.{Line, lines_of, last_line}
 use Rattle.journal_check.specs.Texts.{FirstOther, last_byte, IsWhole, GoesOn, GoesOtherwise}
 use Rattle.journal_check.proofs.FormLemmas.{first-cut, last-cut, counted_line}
@@ -26,11 +26,11 @@ none-left [] is whole = refl
 none-left (c ∷ text) is whole =
     let parts = or_parts (c == 10) (list_any (λ x. x == 10) text) is in absurd (no_feed c text parts.0 parts.1 whole)
 
-pub whole-lines : (lines : List (List ℕ)) → IsWhole (flat_map ended lines)
+pub whole-lines : (lines : List (List ℕ)) → IsWhole (flat_map line_ended lines)
 whole-lines [] = refl
 whole-lines (line ∷ lines) =
-    ap (λ (xs : List ℕ). last_byte 10 xs) (append_assoc line (10 ∷ []) (flat_map ended lines))
-    ∙ last_behind 10 line (flat_map ended lines) ∙ whole-lines lines
+    ap (λ (xs : List ℕ). last_byte 10 xs) (append_assoc line (10 ∷ []) (flat_map line_ended lines))
+    ∙ last_behind 10 line (flat_map line_ended lines) ∙ whole-lines lines
 
 -- SO FAR THEY ARE ALIKE: these lines are due still, and here is what is left of both
 pub record IsBeside (due old : List ℕ) (before : ℕ) (rest more : List ℕ) (number : ℕ) : Type 0 where

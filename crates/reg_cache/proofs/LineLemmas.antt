@@ -6,11 +6,11 @@ use Rattle.std.specs.List.{AllByRecursion}
 use Rattle.i2c_base.specs.Board.{BoardView}
 use Rattle.i2c_spec.specs.Tree.{buses}
 use Rattle.i2c_spec.specs.Grant.{grant_of, is_busy}
-use Rattle.dev_handle.specs.Handles.{HandlesView, handle_at, if_open, answer_of, changed, changed_if, fresh, slaved, with_pec, target_at, target_of, place_of}
+use Rattle.dev_handle.specs.Handles.{HandlesView, handle_at, if_open, answer_by_handle, changed, changed_if, fresh, slaved, with_pec, target_at, target_of, bus_and_force}
 use Rattle.dev_handle.specs.declared.handle.OpenHandle.{OpenHandle}
 use Rattle.tools.specs.Dialogues.{Dialogue}
 use Rattle.tools.specs.Gets as gets
-use Rattle.tools.specs.Gets.{get_run, run_by, register_run, mode_of, len_of}
+use Rattle.tools.specs.Gets.{get_run, run_by, register_run, mode_of_get, len_of}
 use Rattle.tools.specs.Sets as sets
 use Rattle.tools.specs.Sets.{set_op}
 use Rattle.tools.specs.Runs as forms
@@ -30,7 +30,7 @@ use Rattle.tools.specs.Commands as tools
 use Rattle.tools.specs.Calls.{held_call}
 use Rattle.tools.specs.Chains.{chained}
 use Rattle.tools.specs.DumpTables.{dump_call}
-use Rattle.caller_core.specs.HandleRuns.{callee_of, by_answer, handle_run, handles_after, message_to, messages_at, call_to}
+use Rattle.caller_core.specs.HandleRuns.{callee_of, run_by_answer, handle_run, handles_after, message_by_handle, messages_at, call_by_handle}
 use Rattle.caller_core.specs.Reach.{is_forced_in, addrs_of, forced_if, forced_by_tool, forced_by_handle}
 use Rattle.reg_cache.specs.Cacheable.{Touches, Unforced}
 use Rattle.reg_cache.proofs.TextLemmas.{MayForce, touch-call, touch-transfer}
@@ -54,20 +54,20 @@ module _ (b : BoardView) (text : List ℕ) where
 
   -- ---- tools
   register_touch : (g : Get) (reg : ℕ) (m : GetMode) → MayForce b text g.force g.addr → SaysTouch (forms.dialogue_of (register_run g reg m))
-  register_touch g reg mode.Byte may k = touch-call b text (held_call (record { to = gets.callee g; op = held.ReadByte reg })) may
-  register_touch g reg mode.Word may k = touch-call b text (held_call (record { to = gets.callee g; op = held.ReadWord reg })) may
-  register_touch g reg mode.SendReceive may k = touch-call b text (chained (record { to = gets.callee g; sent = reg }) k) may
-  register_touch g reg mode.Block may k = touch-call b text (held_call (record { to = gets.callee g; op = held.BlockRead reg })) may
-  register_touch g reg mode.I2cBlock may k = touch-call b text (held_call (record { to = gets.callee g; op = held.I2cBlockRead reg (len_of g) })) may
+  register_touch g reg mode.Byte may k = touch-call b text (held_call (record { to = gets.get_callee g; op = held.ReadByte reg })) may
+  register_touch g reg mode.Word may k = touch-call b text (held_call (record { to = gets.get_callee g; op = held.ReadWord reg })) may
+  register_touch g reg mode.SendReceive may k = touch-call b text (chained (record { to = gets.get_callee g; sent = reg }) k) may
+  register_touch g reg mode.Block may k = touch-call b text (held_call (record { to = gets.get_callee g; op = held.BlockRead reg })) may
+  register_touch g reg mode.I2cBlock may k = touch-call b text (held_call (record { to = gets.get_callee g; op = held.I2cBlockRead reg (len_of g) })) may
 
   get_touch : (g : Get) (o : Option ℕ) → MayForce b text g.force g.addr → SaysTouch (forms.dialogue_of (run_by g o))
-  get_touch g None may k = touch-call b text (held_call (record { to = gets.callee g; op = held.ReceiveByte })) may
-  get_touch g (Some reg) may k = register_touch g reg (mode_of g) may k
+  get_touch g None may k = touch-call b text (held_call (record { to = gets.get_callee g; op = held.ReceiveByte })) may
+  get_touch g (Some reg) may k = register_touch g reg (mode_of_get g) may k
 
-  pub tool-touch : (t : ToolCmd) → AllForced (forced_by_tool t) → SaysTouch (forms.dialogue_of (tools.run_of b t))
+  pub tool-touch : (t : ToolCmd) → AllForced (forced_by_tool t) → SaysTouch (forms.dialogue_of (tools.tool_run b t))
   tool-touch (tool.Get g) all k = get_touch g g.reg (may_force g.force g.addr all) k
   tool-touch (tool.Set s) all k =
-      touch-call b text (held_call (record { to = sets.callee s; op = set_op s (sets.mode_of s) })) (may_force s.force s.addr all)
+      touch-call b text (held_call (record { to = sets.set_callee s; op = set_op s (sets.mode_of_set s) })) (may_force s.force s.addr all)
   tool-touch (tool.Combined c) all k = touch-transfer b text c (may_force_all c.force (addrs_of c.messages) all)
   tool-touch (tool.Dump d) all k = touch-call b text (dump_call d k) (may_force d.force d.addr all)
   tool-touch tool.List all k = Unforced refl
@@ -132,11 +132,11 @@ module _ (b : BoardView) (text : List ℕ) where
 
   -- what a handle's line asks for
   message_touch : (o : DescOp) (v : HandlesView) (n : ℕ) → HandlesOk v
-      → SaysTouch (forms.dialogue_of (by_answer (message_to o) (answer_of v n target_of)))
+      → SaysTouch (forms.dialogue_of (run_by_answer (message_by_handle o) (answer_by_handle v n target_of)))
   message_touch o v n ok k = by (handle_at v n) (entry_at v n ok)
     where
       at : (h : OpenHandle) (a : Option ℕ) → h.addr ≡ a → HandleOk h
-          → Touches b text ((forms.dialogue_of (by_answer (message_to o) (target_at h a))).at k)
+          → Touches b text ((forms.dialogue_of (run_by_answer (message_by_handle o) (target_at h a))).at k)
       at h None e one = Unforced refl
       at h (Some a) e (inl plain) = touch-transfer b text (record { force = h.force; bus = h.bus; messages = record { addr = a; op = o } ∷ [] }) (inl plain)
       at h (Some a) e (inr r) =
@@ -146,31 +146,31 @@ module _ (b : BoardView) (text : List ℕ) where
             tt,
           ))
 
-      by : (x : Option OpenHandle) → EntryOk x → Touches b text ((forms.dialogue_of (by_answer (message_to o) (if_open x target_of))).at k)
+      by : (x : Option OpenHandle) → EntryOk x → Touches b text ((forms.dialogue_of (run_by_answer (message_by_handle o) (if_open x target_of))).at k)
       by None one = Unforced refl
       by (Some h) one = at h h.addr refl one
 
   held_touch : (o : HeldOp) (v : HandlesView) (n : ℕ) → HandlesOk v
-      → SaysTouch (forms.dialogue_of (by_answer (call_to o) (answer_of v n target_of)))
+      → SaysTouch (forms.dialogue_of (run_by_answer (call_by_handle o) (answer_by_handle v n target_of)))
   held_touch o v n ok k = by (handle_at v n) (entry_at v n ok)
     where
       at : (h : OpenHandle) (a : Option ℕ) → h.addr ≡ a → HandleOk h
-          → Touches b text ((forms.dialogue_of (by_answer (call_to o) (target_at h a))).at k)
+          → Touches b text ((forms.dialogue_of (run_by_answer (call_by_handle o) (target_at h a))).at k)
       at h None e one = Unforced refl
       at h (Some a) e (inl plain) = touch-call b text (held_call (record { to = callee_of (record { bus = h.bus; addr = a; force = h.force; pec = h.pec }); op = o })) (inl plain)
       at h (Some a) e (inr r) =
           touch-call b text (held_call (record { to = callee_of (record { bus = h.bus; addr = a; force = h.force; pec = h.pec }); op = o })) (inr (let f : Some r.0 ≡ Some a = sym r.1 ∙ e in
           let same : r.0 ≡ a = cc in ap (λ (i : ℕ). is_forced_in b i text) (sym same) ∙ r.2))
 
-      by : (x : Option OpenHandle) → EntryOk x → Touches b text ((forms.dialogue_of (by_answer (call_to o) (if_open x target_of))).at k)
+      by : (x : Option OpenHandle) → EntryOk x → Touches b text ((forms.dialogue_of (run_by_answer (call_by_handle o) (if_open x target_of))).at k)
       by None one = Unforced refl
       by (Some h) one = at h h.addr refl one
 
   rdwr_touch : (ms : List Desc) (v : HandlesView) (n : ℕ) → AllForced (addrs_of ms)
-      → SaysTouch (forms.dialogue_of (by_answer (messages_at ms) (answer_of v n place_of)))
+      → SaysTouch (forms.dialogue_of (run_by_answer (messages_at ms) (answer_by_handle v n bus_and_force)))
   rdwr_touch ms v n all k = by (handle_at v n)
     where
-      by : (x : Option OpenHandle) → Touches b text ((forms.dialogue_of (by_answer (messages_at ms) (if_open x place_of))).at k)
+      by : (x : Option OpenHandle) → Touches b text ((forms.dialogue_of (run_by_answer (messages_at ms) (if_open x bus_and_force))).at k)
       by None = Unforced refl
       by (Some h) = touch-transfer b text (record { force = h.force; bus = h.bus; messages = ms }) (inr all)
 

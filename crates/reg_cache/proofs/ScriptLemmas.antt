@@ -22,7 +22,7 @@ use Rattle.tools.specs.declared.command.driver.DriverCmd.TheVariants as driver
 use Rattle.tools.specs.declared.command.driver.lm75.Lm75Write.{Lm75Write}
 use Rattle.tools.specs.declared.command.driver.lm75.RegName.{RegName}
 use Rattle.tools.specs.declared.command.driver.lm75.RegName.TheVariants.{Temp, Hyst, Max}
-use Rattle.i2c_drivers.specs.At24.{at24_dialogue, read_by, write_by, read_piece, write_piece}
+use Rattle.i2c_drivers.specs.At24.{at24_dialogue, eeprom_read_by, write_by, read_piece, write_piece}
 use Rattle.i2c_drivers.specs.Bound.{eeprom_at, is_sensor, sensor_at}
 use Rattle.i2c_drivers.specs.Lm75.{lm75_dialogue, write_call, pointer_of, raw_of, swapped}
 use Rattle.i2c_drivers.specs.Pages.{fits_in}
@@ -31,9 +31,9 @@ use Rattle.i2c_drivers.specs.Runs.{driver_run}
 use Rattle.i2c_drivers.specs.declared.lm75.Lm75Run.TheVariants as lm75
 use Rattle.i2c_drivers.specs.declared.at24.At24Run.TheVariants as at24
 use Rattle.i2c_base.specs.declared.errno.Errno.TheVariants as errno
-use Rattle.caller_core.specs.Runs.{dialogue_of, run_of, handles_behind}
+use Rattle.caller_core.specs.Runs.{command_dialogue, command_run, handles_behind}
 use Rattle.caller_core.specs.Scripts.{Place, command_of, at_most, behind_commands, lines_read, behind_line_read, text_read, commands_or_none, commands_of, asked_by}
-use Rattle.caller_core.specs.Turns.{Progress, talk, quiet_front, turn_to, over_with, replied_to, replied, progress, next_of}
+use Rattle.caller_core.specs.Turns.{Progress, command_talk, quiet_front, turn_to, over_with, replied_to, replied, progress, next_of}
 use Rattle.caller_core.specs.View.{CommandView, script_on}
 use Rattle.caller_core.proofs.CommandLemmas.{read_in_range}
 use Rattle.i2c_drivers.proofs.DriverLemmas.{raw_small}
@@ -80,7 +80,7 @@ module _ (b : BoardView) (text : List ℕ) where
     pub lines : (w : Lm75Write) → c ≡ cmd.Driver (driver.Lm75Write w) → WritesWhole w
 
   -- ---- drivers
-  at24_read : (bus addr offset count : ℕ) (o : Option Size) → eeprom_at b bus addr ≡ o → SaysTouch b text (at24_dialogue (read_by o bus addr offset count))
+  at24_read : (bus addr offset count : ℕ) (o : Option Size) → eeprom_at b bus addr ≡ o → SaysTouch b text (at24_dialogue (eeprom_read_by o bus addr offset count))
   at24_read bus addr offset count None e k = Unforced refl
   at24_read bus addr offset count (Some size) e k = by (fits_in size offset count)
     where
@@ -99,7 +99,7 @@ module _ (b : BoardView) (text : List ℕ) where
           (write_piece (record { of = record { bus = bus; addr = addr; size = size }; offset = offset; bytes = bytes }) (k / 8)) refl refl (refl, tt)
       by false = Unforced refl
 
-  driver_touch : (d : DriverCmd) → CommandOk (cmd.Driver d) → SaysTouch b text (drivers.dialogue_of (driver_run b d))
+  driver_touch : (d : DriverCmd) → CommandOk (cmd.Driver d) → SaysTouch b text (drivers.driver_dialogue (driver_run b d))
   driver_touch (driver.At24Read r) ok k = at24_read r.bus r.addr r.offset r.count (eeprom_at b r.bus r.addr) refl k
   driver_touch (driver.At24Write w) ok k = at24_write w.bus w.addr w.offset w.bytes (eeprom_at b w.bus w.addr) refl k
   driver_touch (driver.Lm75Read r) ok k = by (sensor_at b r.bus r.addr) refl
@@ -136,7 +136,7 @@ module _ (b : BoardView) (text : List ℕ) where
   driver_touch driver.Sensors ok k = touch-sensors b text k
 
   -- ---- a command, with the handles before it
-  command_touch : (v : HandlesView) → HandlesOk b text v → (c : Cmd) → CommandOk c → SaysTouch b text (dialogue_of (run_of b v c))
+  command_touch : (v : HandlesView) → HandlesOk b text v → (c : Cmd) → CommandOk c → SaysTouch b text (command_dialogue (command_run b v c))
   command_touch v handles (cmd.Tool t) ok k = tool-touch b text t ok.forced k
   command_touch v handles (cmd.Driver d) ok k = driver_touch d ok k
   command_touch v handles (cmd.Handle h) ok k = handle-touch b text v h handles ok.forced k
@@ -151,7 +151,7 @@ module _ (b : BoardView) (text : List ℕ) where
   LineOk l = (c : Cmd) → line_read (block_limit b) l ≡ Ok (Some c) → CommandOk c
 
   abbrev CommandTouches : CommandView → Type 0
-  CommandTouches c = SaysTouch b text (talk c)
+  CommandTouches c = SaysTouch b text (command_talk c)
 
   lines_touch : (ls : List (List ℕ)) (number count : ℕ) (v : HandlesView) → HandlesOk b text v → AllByRecursion LineOk ls
       → (cs : List CommandView) → lines_read b number count ls v ≡ Ok cs → AllByRecursion CommandTouches cs
@@ -255,7 +255,7 @@ module _ (b : BoardView) (text : List ℕ) where
     where
       by : (cs : List CommandView) → p.left ≡ cs → AllByRecursion CommandTouches cs → AllByRecursion CommandTouches (replied_to p cs r).left
       by [] e h = all
-      by (c ∷ cs) e h = at (is_over (talk c) (place_after (talk c) (p.own ++ r ∷ [])))
+      by (c ∷ cs) e h = at (is_over (command_talk c) (place_after (command_talk c) (p.own ++ r ∷ [])))
         where
           at : (z : Bool) → AllByRecursion CommandTouches (cond z (turn_to (over_with p c (p.own ++ r ∷ [])) cs) (record p { own = p.own ++ r ∷ [] })).left
           at true = all_drop CommandTouches (quiet_front cs) cs h.1
@@ -273,13 +273,13 @@ module _ (b : BoardView) (text : List ℕ) where
     where
       by : (cs : List CommandView) (own : List Reply) → AllByRecursion CommandTouches cs → next_of cs own ≡ Some t → Touches b text t
       by [] own all f = absurd (let g : None ≡ Some t = f in cc)
-      by (c ∷ cs) own all f = at (is_over (talk c) (place_after (talk c) own)) f
+      by (c ∷ cs) own all f = at (is_over (command_talk c) (place_after (command_talk c) own)) f
         where
-          at : (z : Bool) → cond z None (Some ((talk c).at (place_after (talk c) own))) ≡ Some t → Touches b text t
+          at : (z : Bool) → cond z None (Some ((command_talk c).at (place_after (command_talk c) own))) ≡ Some t → Touches b text t
           at true g = absurd (let h : None ≡ Some t = g in cc)
           at false g =
-              let is : (talk c).at (place_after (talk c) own) ≡ t = (let h : Some ((talk c).at (place_after (talk c) own)) ≡ Some t = g in cc) in
-              subst (λ (x : TransferView). Touches b text x) is (all.0 (place_after (talk c) own))
+              let is : (command_talk c).at (place_after (command_talk c) own) ≡ t = (let h : Some ((command_talk c).at (place_after (command_talk c) own)) ≡ Some t = g in cc) in
+              subst (λ (x : TransferView). Touches b text x) is (all.0 (place_after (command_talk c) own))
 
 -- ALL SCRIPTS
 pub asks-touch : (b : BoardView) (texts : List (List ℕ)) → AsksTouch b texts

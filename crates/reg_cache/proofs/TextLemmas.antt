@@ -19,7 +19,7 @@ use Rattle.tools.specs.declared.lists.Desc.{Desc}
 use Rattle.tools.specs.declared.lists.DescOp.{DescOp}
 use Rattle.tools.specs.declared.lists.DescOp.TheVariants as op
 use Rattle.tools.specs.declared.command.transfer.Combined.{Combined}
-use Rattle.tools.specs.Transfers.{message_to, message_of, transfer_of}
+use Rattle.tools.specs.Transfers.{message_to, desc_message, transfer_of}
 use Rattle.i2c_drivers.specs.Bound.{is_bound_at, bound_at, eeprom_at, is_eeprom, is_sensor, size_of_device, sensor_at, sensor_in, sensors_of}
 use Rattle.i2c_drivers.specs.Sensors.{sensor_transfer}
 use Rattle.i2c_drivers.specs.Lm75.{read_call}
@@ -71,7 +71,7 @@ module _ (b : BoardView) (text : List ℕ) where
   desc_addr addr (op.Write bytes) = refl
 
   all_descs : (ds : List Desc) → AllByRecursion (λ (a : ℕ). is_forced_in b a text ≡ true) (addrs_of ds)
-      → AllByRecursion (λ (m : Msg). is_forced_in b m.addr text ≡ true) (map message_of ds)
+      → AllByRecursion (λ (m : Msg). is_forced_in b m.addr text ≡ true) (map desc_message ds)
   all_descs [] all = tt
   all_descs (d ∷ ds) all = (ap (λ (a : ℕ). is_forced_in b a text) (desc_addr d.addr d.op) ∙ all.0, all_descs ds all.1)
 

@@ -1,6 +1,6 @@
 //! The chip of a mux, or the line of a gpio mux: which of its channels are open.
 ghost use Rattle.std.specs.Prelude.{◌≡◌, ◌≤◌, ◌%◌, ◌^◌};
-ghost use Rattle.i2c_spec.specs.Chips.{chip_opening, chip_sends, is_open, at_level, looked, stopped, arbitrated, bit_of};
+ghost use Rattle.i2c_spec.specs.Chips.{chip_opening, chip_sends, is_open, at_level, looked, chip_stopped, arbitrated, bit_of};
 
 use i2c_base::{Answer, ChannelCode, Event, MuxKind, MuxSpec, POLLS, Target};
 use std::marker::Model;
@@ -96,7 +96,7 @@ impl Chip {
 
     /// A stop came: a byte that waits is taken.
     fn stop(&mut self)
-        ensures { self.new ≡ stopped self.old self.old.waiting }
+        ensures { self.new ≡ chip_stopped self.old self.old.waiting }
     {
         let facts = self.kind.facts();
         if let Some(byte) = self.waiting {

@@ -2,7 +2,7 @@
 use Rattle.std.proofs.Common.{◌≡◌, ℕ, ◌+◌, ◌-◌, ◌≤◌, Bool, true, false, cond, List, [], ◌∷◌, ◌++◌, length, take, drop, get_or, Ok, Err, Some, refl, subst, ap, length-take, length-drop, arith}
 use Rattle.std.specs.Prelude.{◌==◌, ◌&&◌, slice_get}
 use Rattle.i2c_base.specs.declared.transfer.Kind.TheVariants.{Smbus}
-use Rattle.tools.specs.Values.{result_text}
+use Rattle.tools.specs.Values.{call_result_text}
 use Rattle.tools.specs.declared.run.call.Callee.{Callee}
 use Rattle.i2c_base.specs.Fitting.{Fits, count_of}
 use Rattle.i2c_base.specs.declared.reply.Reply.{Reply}
@@ -16,7 +16,7 @@ use Rattle.smb_emul.specs.declared.call.SmbOp.{SmbOp}
 use Rattle.smb_emul.specs.declared.call.SmbOp.TheVariants as op
 use Rattle.tools.specs.Calls.{DoesTheSame, block_most, call_to, call_text}
 use Rattle.tools.specs.Chains.{chained, chains}
-use Rattle.tools.specs.Dialogues.{Dialogue, AreReplies, behind}
+use Rattle.tools.specs.Dialogues.{Dialogue, AreReplies, next_place}
 use Rattle.tools.specs.Values.{block_of_value, block_in}
 use Rattle.tools.specs.declared.run.chain.Chain.{Chain}
 
@@ -107,7 +107,7 @@ module _ (to : Callee) (o other : SmbOp) (same : DoesTheSame o other) where
 
   pub same_text : (r : Reply) → call_text (call_to to o) r ≡ call_text (call_to to other) r
   same_text reply.Done = refl
-  same_text (reply.Read bytes) = ap (λ (row : CallRow). result_text (read_value to.addr (to.pec && row.checked) row bytes)) same.row
+  same_text (reply.Read bytes) = ap (λ (row : CallRow). call_result_text (read_value to.addr (to.pec && row.checked) row bytes)) same.row
   same_text (reply.Err e) = refl
 
 -- ---- which replies are given
@@ -121,7 +121,7 @@ first_fits d [] r are is = absurd cc
 first_fits d (x ∷ xs) r are is = subst (Fits (d.at 0)) (some_same x r is) are.0
 
 -- behind whatever reply, the second call of a chain receives
-received_by : (c : Chain) (sent r : Reply) → Fits ((chains c).at (behind (chains c) 0 sent)) r → Fits (messages_of_call (chained c 1)) r
+received_by : (c : Chain) (sent r : Reply) → Fits ((chains c).at (next_place (chains c) 0 sent)) r → Fits (messages_of_call (chained c 1)) r
 received_by c reply.Done r fits = fits
 received_by c (reply.Read bytes) r fits = fits
 received_by c (reply.Err e) r fits = fits

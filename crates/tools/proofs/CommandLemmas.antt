@@ -1,7 +1,7 @@
 -- What is so of every command: a row for each.
 use Rattle.std.proofs.Common.{ℕ, arith}
 use Rattle.i2c_base.specs.Board.{BoardView}
-use Rattle.tools.specs.Commands.{grammar, MOST_WORDS, IsInRange, IsToolInRange, run_of}
+use Rattle.tools.specs.Commands.{grammar, MOST_WORDS, IsInRange, IsToolInRange, tool_run}
 use Rattle.tools.specs.Detects.{detect_words, bus_lines}
 use Rattle.tools.specs.Dumps.{dump_words}
 use Rattle.tools.specs.Gets.{get_words}
@@ -61,7 +61,7 @@ lines_within limit = (
 )
 
 -- a tool asks for transfers within the limits
-pub asks : (b : BoardView) (limit : ℕ) (c : ToolCmd) → IsToolInRange limit c → AsksWithin (run_of b c)
+pub asks : (b : BoardView) (limit : ℕ) (c : ToolCmd) → IsToolInRange limit c → AsksWithin (tool_run b c)
 asks b limit (tool.Get g) range = get_asks g range
 asks b limit (tool.Set s) range = set_asks limit s range
 asks b limit (tool.Combined t) range = transfer_asks_within t range
@@ -70,7 +70,7 @@ asks b limit tool.List range = says_nothing (bus_lines b)
 asks b limit (tool.Detect d) range = scan_asks_within d
 
 -- it prints lines, of which none is `journal`
-pub answers : (b : BoardView) (c : ToolCmd) → HasSectionLines (run_of b c)
+pub answers : (b : BoardView) (c : ToolCmd) → HasSectionLines (tool_run b c)
 answers b (tool.Get g) = get_lines g
 answers b (tool.Set s) = set_lines s
 answers b (tool.Combined t) = transfer_lines t

@@ -17,7 +17,7 @@ use Rattle.smb_emul.specs.declared.call.SmbFail.TheVariants.{Errno}
 use Rattle.smb_emul.specs.declared.call.SmbOp.{SmbOp}
 use Rattle.smb_emul.specs.declared.call.SmbOp.TheVariants as op
 use Rattle.tools.specs.Commands.{IsInRange}
-use Rattle.tools.specs.Dialogues.{Dialogue, AreAlike, AreReplies, behind}
+use Rattle.tools.specs.Dialogues.{Dialogue, AreAlike, AreReplies, next_place}
 use Rattle.tools.specs.DumpTables.{dump_places, dump_op, dump_call, is_refusal, register_read, is_dumped, byte_cell, byte_sign, dump_cell, dump_sign, byte_row, rows, byte_line, byte_table, word_cell, dump_word, word_row, table_by, told_alone, dump_lines, dumps}
 use Rattle.tools.specs.Dumps.{is_dash, range_with, range_of, range_word, dump_mode, dumped, range_or_all, dump_tail, dump_bus, unless, by_yes, dump_options, dump_words, IsWhole, IsDumpInRange}
 use Rattle.tools.specs.Grammars.{Grammar, word, class, read_at}
@@ -230,7 +230,7 @@ fit_from : (d : Dialogue) (P : Reply → Type 0) (from : ℕ) → ((j : ℕ) (r 
     → (j : ℕ) (rs : List Reply) (i : ℕ) (r : Reply) → from ≤ j → AreReplies d j rs → slice_get rs i ≡ Some r → P r
 fit_from d P from h j [] i r le are is = absurd cc
 fit_from d P from h j (x ∷ xs) zero r le are is = subst P (some_same x r is) (h j x le are.0)
-fit_from d P from h j (x ∷ xs) (suc i) r le are is = fit_from d P from h (behind d j x) xs i r (omega (arith, le)) are.1 is
+fit_from d P from h j (x ∷ xs) (suc i) r le are is = fit_from d P from h (next_place d j x) xs i r (omega (arith, le)) are.1 is
 
 module _ (d : Dump) where
   abbrev call_of : SmbOp → SmbCall
@@ -266,7 +266,7 @@ module _ (d : Dump) where
   place_fits (x ∷ xs) zero r are is = subst (Fits (messages_of_call (dump_call d 0))) (some_same x r is) are.0
   place_fits (x ∷ xs) (suc k) r are is =
       fit_from (dumps d) (Fits (messages_of_call (dump_call d (suc k)))) 1 (λ j y le fits. same_fits d.mode j k y le fits)
-      (behind (dumps d) 0 x) xs k r (omega arith) are.1 is
+      (next_place (dumps d) 0 x) xs k r (omega arith) are.1 is
 
 -- ---- its transfers are within the limits
 

@@ -5,7 +5,7 @@ use Rattle.i2c_base.specs.Addr.{IsTargetAddress}
 use Rattle.i2c_base.specs.Bytes.{IsByte}
 use Rattle.smb_emul.specs.Calls.{IsBlockLength}
 use Rattle.tools.specs.Commands.{IsInRange}
-use Rattle.tools.specs.Gets.{got, get_len, get_reg, get_bus, get_words, IsGetInRange, mode_of, len_of, callee, register_run, run_by, get_run}
+use Rattle.tools.specs.Gets.{got, get_len, get_reg, get_bus, get_words, IsGetInRange, mode_of_get, len_of, get_callee, register_run, run_by, get_run}
 use Rattle.tools.specs.declared.command.get.Get.{Get}
 use Rattle.tools.specs.declared.command.get.GetMode.{GetMode}
 use Rattle.tools.specs.declared.command.get.GetMode.TheVariants as mode
@@ -77,15 +77,15 @@ get_len_short g range = len_short g.len range.len
 
 module _ (g : Get) (near : IsTargetAddress g.addr) where
   register_asks : (reg : ℕ) (m : GetMode) → IsByte reg → IsBlockLength 32 (len_of g) → AsksWithin (register_run g reg m)
-  register_asks reg mode.Byte byte short = call_asks_within (callee g) near (held.ReadByte reg) byte
-  register_asks reg mode.Word byte short = call_asks_within (callee g) near (held.ReadWord reg) byte
-  register_asks reg mode.SendReceive byte short = chain_asks_within (callee g) near reg byte
-  register_asks reg mode.Block byte short = call_asks_within (callee g) near (held.BlockRead reg) byte
-  register_asks reg mode.I2cBlock byte short = call_asks_within (callee g) near (held.I2cBlockRead reg (len_of g)) (byte, short)
+  register_asks reg mode.Byte byte short = call_asks_within (get_callee g) near (held.ReadByte reg) byte
+  register_asks reg mode.Word byte short = call_asks_within (get_callee g) near (held.ReadWord reg) byte
+  register_asks reg mode.SendReceive byte short = chain_asks_within (get_callee g) near reg byte
+  register_asks reg mode.Block byte short = call_asks_within (get_callee g) near (held.BlockRead reg) byte
+  register_asks reg mode.I2cBlock byte short = call_asks_within (get_callee g) near (held.I2cBlockRead reg (len_of g)) (byte, short)
 
   asks_by : (reg : Option ℕ) → IfSome reg (λ r. r < 2 ^ 8) → IsBlockLength 32 (len_of g) → AsksWithin (run_by g reg)
-  asks_by None byte short = call_asks_within (callee g) near held.ReceiveByte tt
-  asks_by (Some reg) byte short = register_asks reg (mode_of g) byte short
+  asks_by None byte short = call_asks_within (get_callee g) near held.ReceiveByte tt
+  asks_by (Some reg) byte short = register_asks reg (mode_of_get g) byte short
 
 -- it asks for transfers within the limits
 pub get_asks : (g : Get) → IsGetInRange g → AsksWithin (get_run g)
@@ -93,15 +93,15 @@ get_asks g range = asks_by g range.addr g.reg range.reg (get_len_short g range)
 
 -- what it prints is a line of a section
 register_lines : (g : Get) (reg : ℕ) (m : GetMode) → HasSectionLines (register_run g reg m)
-register_lines g reg mode.Byte = call_lines (record { to = callee g; op = held.ReadByte reg })
-register_lines g reg mode.Word = call_lines (record { to = callee g; op = held.ReadWord reg })
-register_lines g reg mode.SendReceive = chain_lines (record { to = callee g; sent = reg })
-register_lines g reg mode.Block = call_lines (record { to = callee g; op = held.BlockRead reg })
-register_lines g reg mode.I2cBlock = call_lines (record { to = callee g; op = held.I2cBlockRead reg (len_of g) })
+register_lines g reg mode.Byte = call_lines (record { to = get_callee g; op = held.ReadByte reg })
+register_lines g reg mode.Word = call_lines (record { to = get_callee g; op = held.ReadWord reg })
+register_lines g reg mode.SendReceive = chain_lines (record { to = get_callee g; sent = reg })
+register_lines g reg mode.Block = call_lines (record { to = get_callee g; op = held.BlockRead reg })
+register_lines g reg mode.I2cBlock = call_lines (record { to = get_callee g; op = held.I2cBlockRead reg (len_of g) })
 
 lines_by : (g : Get) (reg : Option ℕ) → HasSectionLines (run_by g reg)
-lines_by g None = call_lines (record { to = callee g; op = held.ReceiveByte })
-lines_by g (Some reg) = register_lines g reg (mode_of g)
+lines_by g None = call_lines (record { to = get_callee g; op = held.ReceiveByte })
+lines_by g (Some reg) = register_lines g reg (mode_of_get g)
 
 pub get_lines : (g : Get) → HasSectionLines (get_run g)
 get_lines g = lines_by g g.reg

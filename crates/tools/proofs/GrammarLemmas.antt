@@ -6,8 +6,8 @@ use Rattle.std.proofs.lemmas.Bool.{le-leb, lt-leb}
 use Rattle.std.proofs.lemmas.Slice.Eq.{bytes_eq-Decides}
 use Rattle.std.proofs.Math.Dec.{leb-suc-suc}
 use Rattle.std.specs.Str.{bytes_eq}
-use Rattle.tools.specs.Grammars.{Grammar, ends, word, word_or, class, maybe, end_of, next_of, behind, line_set, read_at}
-use Rattle.tools.specs.LineSets.{Word, LineSet, nothing, node, IsLine, IsWithin, Begins, goes_on, ended, follow_words}
+use Rattle.tools.specs.Grammars.{Grammar, ends, word, word_or, class, maybe, meaning_at_end, after_word, going_on, line_set, read_at}
+use Rattle.tools.specs.LineSets.{Word, LineSet, nothing, node, IsLine, IsWithin, Begins, goes_on, or_refused, follow_words}
 use Rattle.tools.specs.Readers.{◌>>=◌, of_word, is_some_text, is_at}
 use Rattle.tools.proofs.LineSetLemmas.{IsLive, IsAlive}
 
@@ -21,16 +21,16 @@ live_if : {A : Type 0} (b : Bool) (g h : LineSet A) → IsLive g → IsLive h �
 live_if true g h p q = p
 live_if false g h p q = q
 
-live_behind : {A B : Type 0} (k : B → LineSet A) (o : Option B) → ((b : B) → IsLive (k b)) → IsLive (behind k o)
+live_behind : {A B : Type 0} (k : B → LineSet A) (o : Option B) → ((b : B) → IsLive (k b)) → IsLive (going_on k o)
 live_behind k None h = tt
 live_behind k (Some b) h = h b
 
-live_next : {A : Type 0} (g : LineSet A) → IsLive g → (w : Word) → IsLive (next_of g w)
+live_next : {A : Type 0} (g : LineSet A) → IsLive g → (w : Word) → IsLive (after_word g w)
 live_next nothing h w = tt
 live_next (node e f) h w = h.1 w
 
 line_behind : {A B : Type 0} (k : B → LineSet A) (o : Option B) (b : B) (ws : List Word) (a : A) → o ≡ Some b → IsLine (k b) ws a
-    → IsLine (behind k o) ws a
+    → IsLine (going_on k o) ws a
 line_behind k None b ws a is h = absurd cc
 line_behind k (Some c) b ws a is h = let same : c ≡ b = cc in rw same h
 
@@ -59,9 +59,9 @@ alive (word_or text g h) =
         record {
           rest = text ∷ b.rest;
           value = b.value;
-          whole = line_itself text (line_set g) (next_of (line_set h) text) b.rest b.value b.whole;
+          whole = line_itself text (line_set g) (after_word (line_set h) text) b.rest b.value b.whole;
         },
-        λ w. live_if (bytes_eq w text) (line_set g) (next_of (line_set h) w) (alive g).live (live_next (line_set h) (alive h).live w),
+        λ w. live_if (bytes_eq w text) (line_set g) (after_word (line_set h) w) (alive g).live (live_next (line_set h) (alive h).live w),
       );
     }
 alive (class c k) =
@@ -83,7 +83,7 @@ alive (maybe a g) = record { some = refl; live = (record { rest = []; value = a;
 
 -- what a set says of the word at a place, where these stand behind it
 abbrev here : {A : Type 0} → Option A → (Word → LineSet A) → ℕ → List Word → Option Word → Result A ℕ
-here e f p rest None = ended e p
+here e f p rest None = or_refused e p
 here e f p rest (Some w) = cond (goes_on (f w)) (follow_words (f w) (p + 1) rest) (Err p)
 
 from_place : {A : Type 0} (e : Option A) (f : Word → LineSet A) (p i : ℕ) (ws : List Word)
@@ -104,7 +104,7 @@ over_none (w ∷ ws) zero = rw (lt-leb (suc (length ws)) 0 (omega arith))
 over_none (w ∷ ws) (suc i) = leb-suc-suc (length ws) i ∙ over_none ws i
 
 here_of : {A : Type 0} (g : LineSet A) (i : ℕ) (ws : List Word) → goes_on g ≡ true
-    → here (end_of g) (next_of g) i (drop (i + 1) ws) (slice_get ws i) ≡ follow_words g i (drop i ws)
+    → here (meaning_at_end g) (after_word g) i (drop (i + 1) ws) (slice_get ws i) ≡ follow_words g i (drop i ws)
 here_of nothing i ws some = absurd cc
 here_of (node e f) i ws some = sym (follow_here e f i ws)
 
@@ -138,13 +138,13 @@ word_here text g e f r p rest (Some w) some more = if_here (bytes_eq w text) g (
 
 class_here : {A B : Type 0} (k : B → LineSet A) (f : B → Result A ℕ) (p : ℕ) (rest : List Word) (o : Option B)
     → ((b : B) → goes_on (k b) ≡ true) → ((b : B) → follow_words (k b) (p + 1) rest ≡ f b)
-    → cond (goes_on (behind k o)) (follow_words (behind k o) (p + 1) rest) (Err p) ≡ (ended o p >>= f)
+    → cond (goes_on (going_on k o)) (follow_words (going_on k o) (p + 1) rest) (Err p) ≡ (or_refused o p >>= f)
 class_here k f p rest None some more = refl
 class_here k f p rest (Some b) some more = rw (some b) (more b)
 
 of_here : {A B : Type 0} (of : Word → Option B) (k : B → LineSet A) (f : B → Result A ℕ) (p : ℕ) (rest : List Word) (o : Option Word)
     → ((b : B) → goes_on (k b) ≡ true) → ((b : B) → follow_words (k b) (p + 1) rest ≡ f b)
-    → here None (λ w. behind k (of w)) p rest o ≡ (ended (of_word of o) p >>= f)
+    → here None (λ w. going_on k (of w)) p rest o ≡ (or_refused (of_word of o) p >>= f)
 of_here of k f p rest None some more = refl
 of_here of k f p rest (Some w) some more = class_here k f p rest (of w) some more
 
@@ -156,17 +156,17 @@ follow (word text g) i ws =
     (follow g (i + 1) ws)
     ∙ ap (cond (is_at text ws i) (read_at g ws (i + 1))) (nothing_here i (drop (i + 1) ws) (slice_get ws i))
 follow (word_or text g h) i ws =
-    follow_here (end_of (line_set h)) (λ w. cond (bytes_eq w text) (line_set g) (next_of (line_set h) w)) i ws
-    ∙ word_here text (line_set g) (end_of (line_set h)) (next_of (line_set h)) (read_at g ws (i + 1)) i (drop (i + 1) ws) (slice_get ws i)
+    follow_here (meaning_at_end (line_set h)) (λ w. cond (bytes_eq w text) (line_set g) (after_word (line_set h) w)) i ws
+    ∙ word_here text (line_set g) (meaning_at_end (line_set h)) (after_word (line_set h)) (read_at g ws (i + 1)) i (drop (i + 1) ws) (slice_get ws i)
     (alive g).some (follow g (i + 1) ws)
     ∙ ap (cond (is_at text ws i) (read_at g ws (i + 1))) (here_of (line_set h) i ws (alive h).some ∙ follow h i ws)
 follow (class c k) i ws =
-    follow_here None (λ w. behind (λ b. line_set (k b)) (c.of w)) i ws
+    follow_here None (λ w. going_on (λ b. line_set (k b)) (c.of w)) i ws
     ∙ of_here c.of (λ b. line_set (k b)) (λ b. read_at (k b) ws (i + 1)) i (drop (i + 1) ws) (slice_get ws i) (λ b. (alive (k b)).some)
     (λ b. follow (k b) (i + 1) ws)
 follow (maybe a g) i ws =
-    follow_here (Some a) (next_of (line_set g)) i ws
-    ∙ maybe_here a (end_of (line_set g)) (next_of (line_set g)) i (drop (i + 1) ws) (slice_get ws i)
+    follow_here (Some a) (after_word (line_set g)) i ws
+    ∙ maybe_here a (meaning_at_end (line_set g)) (after_word (line_set g)) i (drop (i + 1) ws) (slice_get ws i)
     ∙ rw (over_none ws i) (ap (cond (is_none (slice_get ws i)) (Ok a)) (here_of (line_set g) i ws (alive g).some ∙ follow g i ws))
 
 -- ---- they mean what its ends mean
@@ -187,11 +187,11 @@ means_if P true g h p q = p
 means_if P false g h p q = q
 
 means_behind : {A B : Type 0} (P : A → Type 0) (k : B → LineSet A) (o : Option B) → ((b : B) → o ≡ Some b → Means P (k b))
-    → Means P (behind k o)
+    → Means P (going_on k o)
 means_behind P k None h ws a line = absurd line
 means_behind P k (Some b) h ws a line = h b refl ws a line
 
-node_line : {A : Type 0} (g : LineSet A) (ws : List Word) (a : A) → IsLine (node (end_of g) (next_of g)) ws a → IsLine g ws a
+node_line : {A : Type 0} (g : LineSet A) (ws : List Word) (a : A) → IsLine (node (meaning_at_end g) (after_word g)) ws a → IsLine g ws a
 node_line nothing [] a line = absurd cc
 node_line nothing (w ∷ ws) a line = line
 node_line (node e f) ws a line = line
@@ -203,7 +203,7 @@ means P (word text g) h [] a line = absurd cc
 means P (word text g) h (w ∷ ws) a line = means_if P (bytes_eq w text) (line_set g) nothing (means P g h) (λ vs b x. absurd x) ws a line
 means P (word_or text g k) h [] a line = means P k h.1 [] a (node_line (line_set k) [] a line)
 means P (word_or text g k) h (w ∷ ws) a line =
-    means_if P (bytes_eq w text) (line_set g) (next_of (line_set k) w) (means P g h.0)
+    means_if P (bytes_eq w text) (line_set g) (after_word (line_set k) w) (means P g h.0)
     (λ vs b x. means P k h.1 (w ∷ vs) b (node_line (line_set k) (w ∷ vs) b x)) ws a line
 means P (class c k) h [] a line = absurd cc
 means P (class c k) h (w ∷ ws) a line = means_behind P (λ b. line_set (k b)) (c.of w) (λ b is. means P (k b) (h w b is)) ws a line
@@ -249,16 +249,16 @@ within_if n true g h p q = p
 within_if n false g h p q = q
 
 within_behind : {A B : Type 0} (n : ℕ) (k : B → LineSet A) (o : Option B) → ((b : B) → o ≡ Some b → IsWithin n (k b))
-    → IsWithin n (behind k o)
+    → IsWithin n (going_on k o)
 within_behind n k None h = tt
 within_behind n k (Some b) h = h b refl
 
-within_next : {A : Type 0} (n : ℕ) (g : LineSet A) → IsWithin (suc n) g → (w : Word) → IsWithin n (next_of g w)
+within_next : {A : Type 0} (n : ℕ) (g : LineSet A) → IsWithin (suc n) g → (w : Word) → IsWithin n (after_word g w)
 within_next n nothing h w = tt
 within_next n (node e f) h w = h w
 
 -- another line may end here too
-within_node : {A : Type 0} (n : ℕ) (e : Option A) (g : LineSet A) → IsWithin n g → IsWithin n (node e (next_of g))
+within_node : {A : Type 0} (n : ℕ) (e : Option A) (g : LineSet A) → IsWithin n g → IsWithin n (node e (after_word g))
 within_node zero e nothing h = λ w. refl
 within_node (suc n) e nothing h = λ w. tt
 within_node zero e (node d f) h = h
@@ -272,7 +272,7 @@ within zero (word text g) h = absurd h
 within (suc n) (word text g) h = λ w. within_if n (bytes_eq w text) (line_set g) nothing (within n g h) tt
 within zero (word_or text g k) h = absurd h
 within (suc n) (word_or text g k) h =
-    λ w. within_if n (bytes_eq w text) (line_set g) (next_of (line_set k) w) (within n g h.0)
+    λ w. within_if n (bytes_eq w text) (line_set g) (after_word (line_set k) w) (within n g h.0)
     (within_next n (line_set k) (within (suc n) k h.1) w)
 within zero (class c k) h = absurd h
 within (suc n) (class c k) h = λ w. within_behind n (λ b. line_set (k b)) (c.of w) (λ b is. within n (k b) (h w b is))

@@ -2,7 +2,7 @@
 -- no line is long, the first words decide. The inductions go over the words.
 use Rattle.std.proofs.Common.{◌≡◌, ℕ, zero, suc, ◌+◌, ◌≤◌, true, false, List, [], ◌∷◌, ◌++◌, length, take, Option, Some, None, Result, Ok, Err, cond, refl, ap, arith, inl, inr}
 use Rattle.std.proofs.lemmas.Bool.{cases_Bool}
-use Rattle.tools.specs.LineSets.{Word, LineSet, nothing, node, IsLine, Begins, IsLongest, IsWithin, goes_on, ended, follow_words}
+use Rattle.tools.specs.LineSets.{Word, LineSet, nothing, node, IsLine, Begins, IsLongest, IsWithin, goes_on, or_refused, follow_words}
 
 -- each place that can be reached leads to the end of some line
 abbrev pub IsLive : {A : Type 0} → LineSet A → Type 0
@@ -23,7 +23,7 @@ line_followed nothing i ws a h = absurd h
 line_followed (node e f) i [] a h = rw h
 line_followed (node e f) i (w ∷ ws) a h = rw (line_node (f w) ws a h) (line_followed (f w) (i + 1) ws a h)
 
-ends_is : {A : Type 0} (e : Option A) (i : ℕ) (a : A) → ended e i ≡ Ok a → e ≡ Some a
+ends_is : {A : Type 0} (e : Option A) (i : ℕ) (a : A) → or_refused e i ≡ Ok a → e ≡ Some a
 ends_is None i a h = absurd cc
 ends_is (Some b) i a h = ap Some cc
 
@@ -78,7 +78,7 @@ err_of i = Err i
 err_is : {A : Type 0} (i k : ℕ) → err_of {A = A} i ≡ err_of k → i ≡ k
 err_is i k h = cc
 
-over_stops : {A : Type 0} (e : Option A) (f : Word → LineSet A) (i k : ℕ) → Begins (node e f) [] → ended e i ≡ Err k
+over_stops : {A : Type 0} (e : Option A) (f : Word → LineSet A) (i k : ℕ) → Begins (node e f) [] → or_refused e i ≡ Err k
     → Stops (node e f) i k []
 over_stops None f i k live h = record { count = 0; place = omega (arith, err_is i k h); longest = is_over None f live }
 over_stops (Some a) f i k live h = absurd cc

@@ -14,7 +14,7 @@ use Rattle.i2c_base.specs.declared.reply.Reply.TheVariants as reply
 use Rattle.smb_emul.specs.declared.call.SmbFail.TheVariants as fail
 use Rattle.smb_emul.specs.Value as value
 use Rattle.tools.specs.Combined.{IsCombinedInRange, IsDescInRange, IsOpInRange, bytes_of, length_of}
-use Rattle.tools.specs.Transfers.{message_to, message_of, bytes_sent, sent_by, transfer_of, bytes_read, read_by, own_line, own_lines, reply_lines}
+use Rattle.tools.specs.Transfers.{message_to, desc_message, bytes_to_write, sent_by, transfer_of, count_read, count_read_by, own_line, own_lines, reply_lines}
 use Rattle.tools.specs.Values.{byte_words}
 use Rattle.tools.specs.declared.command.transfer.Combined.{Combined}
 use Rattle.tools.specs.declared.lists.Desc.{Desc}
@@ -34,37 +34,37 @@ size_same : (addr : ℕ) (o : DescOp) → size_of (message_to addr o) ≡ length
 size_same addr (op.Read n) = refl
 size_same addr (op.Write bytes) = refl
 
-written_same : (addr : ℕ) (o : DescOp) → written_of (message_to addr o) ≡ length (bytes_sent o)
+written_same : (addr : ℕ) (o : DescOp) → written_of (message_to addr o) ≡ length (bytes_to_write o)
 written_same addr (op.Read n) = refl
 written_same addr (op.Write bytes) = refl
 
-bytes_fit : (o : DescOp) → IsOpInRange o → AreBytes (bytes_sent o)
+bytes_fit : (o : DescOp) → IsOpInRange o → AreBytes (bytes_to_write o)
 bytes_fit (op.Read n) is = All-nil IsByte
 bytes_fit (op.Write bytes) is = is.0
 
-read_within : (o : DescOp) → bytes_read o ≤ length_of o
+read_within : (o : DescOp) → count_read o ≤ length_of o
 read_within (op.Read n) = omega arith
 read_within (op.Write bytes) = omega arith
 
 -- of all
-are_messages : (ds : List Desc) → All IsDescInRange ds → All IsMessage (map message_of ds)
+are_messages : (ds : List Desc) → All IsDescInRange ds → All IsMessage (map desc_message ds)
 are_messages [] each = All-nil IsMessage
 are_messages (d ∷ ds) each =
-    All-cons IsMessage (message_of d) (map message_of ds) (is_message d.addr d.op (All-head IsDescInRange d ds each).1)
+    All-cons IsMessage (desc_message d) (map desc_message ds) (is_message d.addr d.op (All-head IsDescInRange d ds each).1)
     (are_messages ds (All-tail IsDescInRange d ds each))
 
-sizes_same : (ds : List Desc) → sum_by size_of (map message_of ds) ≡ sum_by bytes_of ds
+sizes_same : (ds : List Desc) → sum_by size_of (map desc_message ds) ≡ sum_by bytes_of ds
 sizes_same [] = refl
 sizes_same (d ∷ ds) =
-    omega (arith, sum_by-cons size_of (message_of d) (map message_of ds), sum_by-cons bytes_of d ds, size_same d.addr d.op, sizes_same ds)
+    omega (arith, sum_by-cons size_of (desc_message d) (map desc_message ds), sum_by-cons bytes_of d ds, size_same d.addr d.op, sizes_same ds)
 
-all_written : (ds : List Desc) → length (flat_map sent_by ds) ≡ sum_by written_of (map message_of ds)
+all_written : (ds : List Desc) → length (flat_map sent_by ds) ≡ sum_by written_of (map desc_message ds)
 all_written [] = refl
 all_written (d ∷ ds) =
     omega (
       arith,
       length-append (sent_by d) (flat_map sent_by ds),
-      sum_by-cons written_of (message_of d) (map message_of ds),
+      sum_by-cons written_of (desc_message d) (map desc_message ds),
       written_same d.addr d.op,
       all_written ds,
     )
@@ -77,7 +77,7 @@ all_bytes (d ∷ ds) each =
 
 pub messages_ask : (c : Combined) → IsCombinedInRange c → IsAsk (transfer_of c)
 messages_ask c range =
-    let many : length (map message_of c.messages) ≡ length c.messages = length-map c.messages message_of in
+    let many : length (map desc_message c.messages) ≡ length c.messages = length-map c.messages desc_message in
     record {
       fits = record {
         count = omega (arith, many, range.messages.few);
@@ -90,11 +90,11 @@ messages_ask c range =
     }
 
 -- they read no more than they stand for
-all_within : (ds : List Desc) → sum_by read_by ds ≤ sum_by bytes_of ds
+all_within : (ds : List Desc) → sum_by count_read_by ds ≤ sum_by bytes_of ds
 all_within [] = omega arith
-all_within (d ∷ ds) = omega (arith, sum_by-cons read_by d ds, sum_by-cons bytes_of d ds, read_within d.op, all_within ds)
+all_within (d ∷ ds) = omega (arith, sum_by-cons count_read_by d ds, sum_by-cons bytes_of d ds, read_within d.op, all_within ds)
 
-pub few_read : (c : Combined) → IsCombinedInRange c → sum_by read_by c.messages ≤ 4096
+pub few_read : (c : Combined) → IsCombinedInRange c → sum_by count_read_by c.messages ≤ 4096
 few_read c range = omega (arith, all_within c.messages, range.messages.short)
 
 -- ---- they print lines
@@ -107,8 +107,8 @@ own_is_line (op.Write sent) bytes = All-nil IsSectionLine
 own_are_lines : (ds : List Desc) (bytes : List ℕ) → All IsSectionLine (own_lines ds bytes)
 own_are_lines [] bytes = All-nil IsSectionLine
 own_are_lines (d ∷ ds) bytes =
-    All-append IsSectionLine (own_line d.op bytes) (own_lines ds (drop (bytes_read d.op) bytes)) (own_is_line d.op bytes)
-    (own_are_lines ds (drop (bytes_read d.op) bytes))
+    All-append IsSectionLine (own_line d.op bytes) (own_lines ds (drop (count_read d.op) bytes)) (own_is_line d.op bytes)
+    (own_are_lines ds (drop (count_read d.op) bytes))
 
 pub reply_line : (ds : List Desc) (r : Reply) → All IsSectionLine (reply_lines ds r)
 reply_line ds reply.Done = All-cons IsSectionLine (codes "ok") [] (result_line (Ok value.done)) (All-nil IsSectionLine)

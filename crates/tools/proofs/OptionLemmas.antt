@@ -4,7 +4,7 @@ use Rattle.std.specs.Prelude.{IfSome}
 use Rattle.std.proofs.lemmas.Bool.Decides.{nat_tests}
 use Rattle.tools.specs.Grammars.{Grammar, read_at}
 use Rattle.tools.specs.LineSets.{Word}
-use Rattle.tools.specs.Numbers.{number_of, number_in, within}
+use Rattle.tools.specs.Numbers.{number_in_word, number_in, within}
 use Rattle.tools.specs.Options.{force_and_yes, options_at}
 use Rattle.tools.specs.Readers.{◌>>=◌, is_at}
 use Rattle.tools.proofs.GrammarLemmas.{AllEnds, EndsWithin, ends_within_more}
@@ -36,7 +36,7 @@ between low high n None e = absurd cc
 between low high n (Some v) e = record { from_low = grind (arith, nat_tests); to_high = grind (arith, nat_tests) }
 
 pub number_between : (low high : ℕ) (w : Word) (n : ℕ) → number_in low high w ≡ Some n → IsBetween low high n
-number_between low high w n e = between low high n (number_of w) e
+number_between low high w n e = between low high n (number_in_word w) e
 
 options_shape : {A B : Type 0} (a b c d : Bool) (x y z : A) (p q : ℕ) (f : A → Result B ℕ)
     → cond a (cond b (f x) (Err p)) (cond c (cond d (f y) (f z)) (Err q)) ≡

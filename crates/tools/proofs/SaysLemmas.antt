@@ -5,7 +5,7 @@ use Rattle.std.specs.List.{All, flat_map, list_any}
 use Rattle.std.proofs.lemmas.Bool.{or_from, or_parts}
 use Rattle.std.proofs.lemmas.Grind.{flat_map-append}
 use Rattle.std.proofs.lemmas.List.Elements.{All-nil, All-cons, All-head, All-tail, All-append}
-use Rattle.bus_journal.specs.Reports.{IsLine, ended}
+use Rattle.bus_journal.specs.Reports.{IsLine, line_ended}
 use Rattle.tools.specs.Says.{whole_lines}
 use Rattle.tools.specs.Words.{onto_first}
 
@@ -17,10 +17,10 @@ ended_first (b ∷ bs) rest is =
     ap (λ t. cond t ([] ∷ whole_lines (bs ++ 10 ∷ rest)) (onto_first b (whole_lines (bs ++ 10 ∷ rest)))) p.0
     ∙ ap (onto_first b) (ended_first bs rest p.1)
 
-all_lines : (ls : List (List ℕ)) → All IsLine ls → whole_lines (flat_map ended ls) ≡ ls
+all_lines : (ls : List (List ℕ)) → All IsLine ls → whole_lines (flat_map line_ended ls) ≡ ls
 all_lines [] h = refl
 all_lines (l ∷ ls) h =
-    ap whole_lines (append_assoc l (10 ∷ []) (flat_map ended ls)) ∙ ended_first l (flat_map ended ls) (All-head IsLine l ls h)
+    ap whole_lines (append_assoc l (10 ∷ []) (flat_map line_ended ls)) ∙ ended_first l (flat_map line_ended ls) (All-head IsLine l ls h)
     ∙ ap (λ xs. l ∷ xs) (all_lines ls (All-tail IsLine l ls h))
 
 -- whatever the text, no line feed stands in its lines
@@ -37,19 +37,19 @@ are_lines (b ∷ bs) =
     ]) refl
 
 -- a line more behind a text of whole lines
-text_more : (text line : List ℕ) → flat_map ended (whole_lines text) ≡ text
-    → flat_map ended (whole_lines text ++ line ∷ []) ≡ (text ++ line) ++ 10 ∷ []
+text_more : (text line : List ℕ) → flat_map line_ended (whole_lines text) ≡ text
+    → flat_map line_ended (whole_lines text ++ line ∷ []) ≡ (text ++ line) ++ 10 ∷ []
 text_more text line whole =
-    flat_map-append ended (whole_lines text) (line ∷ []) ∙ ap (λ t. t ++ flat_map ended (line ∷ [])) whole
-    ∙ ap (λ t. text ++ t) (append-nil (ended line)) ∙ sym (append_assoc text line (10 ∷ []))
+    flat_map-append line_ended (whole_lines text) (line ∷ []) ∙ ap (λ t. t ++ flat_map line_ended (line ∷ [])) whole
+    ∙ ap (λ t. text ++ t) (append-nil (line_ended line)) ∙ sym (append_assoc text line (10 ∷ []))
 
-pub lines_more : (text line : List ℕ) → flat_map ended (whole_lines text) ≡ text → IsLine line
+pub lines_more : (text line : List ℕ) → flat_map line_ended (whole_lines text) ≡ text → IsLine line
     → whole_lines ((text ++ line) ++ 10 ∷ []) ≡ whole_lines text ++ line ∷ []
 lines_more text line whole is =
     ap whole_lines (sym (text_more text line whole))
     ∙ all_lines (whole_lines text ++ line ∷ [])
     (All-append IsLine (whole_lines text) (line ∷ []) (are_lines text) (All-cons IsLine line [] is (All-nil IsLine)))
 
-pub whole_more : (text line : List ℕ) → flat_map ended (whole_lines text) ≡ text → IsLine line
-    → flat_map ended (whole_lines ((text ++ line) ++ 10 ∷ [])) ≡ (text ++ line) ++ 10 ∷ []
-whole_more text line whole is = ap (flat_map ended) (lines_more text line whole is) ∙ text_more text line whole
+pub whole_more : (text line : List ℕ) → flat_map line_ended (whole_lines text) ≡ text → IsLine line
+    → flat_map line_ended (whole_lines ((text ++ line) ++ 10 ∷ [])) ≡ (text ++ line) ++ 10 ∷ []
+whole_more text line whole is = ap (flat_map line_ended) (lines_more text line whole is) ∙ text_more text line whole

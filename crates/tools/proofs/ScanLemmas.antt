@@ -16,7 +16,7 @@ use Rattle.smb_emul.specs.Calls.{messages_of_call}
 use Rattle.smb_emul.specs.declared.call.SmbCall.{SmbCall}
 use Rattle.smb_emul.specs.declared.call.SmbOp.{SmbOp}
 use Rattle.smb_emul.specs.declared.call.SmbOp.TheVariants as op
-use Rattle.tools.specs.Scans.{first_probed, probes, is_probed, is_received, probe_op, probe_call, is_absent, error_cell, answer_cell, scan_cell, scan_row, scan_line, scan_lines}
+use Rattle.tools.specs.Scans.{first_probed, probes, is_probed, is_received, probe_op, probe_call, is_no_bus, error_cell, answer_cell, scan_cell, scan_row, scan_line, scan_lines}
 use Rattle.tools.specs.Tables.{heading, in_row, parts}
 use Rattle.tools.specs.declared.command.detect.Detect.{Detect}
 use Rattle.tools.specs.declared.command.detect.Probe.{Probe}
@@ -114,7 +114,7 @@ module _ (d : Detect) (rs : List Reply) where
 
   pub printed_lines : All IsSectionLine (scan_lines d rs)
   printed_lines =
-      elim (list_any is_absent rs) as
+      elim (list_any is_no_bus rs) as
       (λ b. All IsSectionLine (cond b (errno_text errno.Enodev ∷ []) (heading ∷ parts (scan_line d rs) 8))) [
         | true ↦ absent_lines
         | false ↦ table_lines

@@ -3,7 +3,7 @@ use Rattle.std.proofs.Common.{ℕ, ◌<◌, List, [], ◌∷◌, Option, Some, N
 use Rattle.std.specs.Prelude.{slice_index_or}
 use Rattle.i2c_base.specs.Bytes.{IsByte}
 use Rattle.i2c_base.specs.Limits.{LARGEST_BLOCK}
-use Rattle.tools.specs.Sets.{AreOfMode, HasValues, IsOneBelow, IsSetInRange, block_room, callee, mode_of, set_op, set_run}
+use Rattle.tools.specs.Sets.{AreOfMode, HasValues, IsOneBelow, IsSetInRange, block_room, set_callee, mode_of_set, set_op, set_run}
 use Rattle.tools.specs.declared.command.set.Set.{Set}
 use Rattle.tools.specs.declared.command.set.SetMode.{SetMode}
 use Rattle.tools.specs.declared.command.set.SetMode.TheVariants as mode
@@ -16,7 +16,7 @@ first_below high (v ∷ []) is = is
 first_below high (v ∷ w ∷ vs) is = absurd is
 
 -- the values are those of the mode, also of one that isn't named
-pub of_mode : (limit : ℕ) (s : Set) → IsSetInRange limit s → AreOfMode LARGEST_BLOCK (mode_of s) s.values
+pub of_mode : (limit : ℕ) (s : Set) → IsSetInRange limit s → AreOfMode LARGEST_BLOCK (mode_of_set s) s.values
 of_mode limit s range = by s.mode s.values range.values
   where
     named : (m : SetMode) (vs : List ℕ) → AreOfMode (block_room limit) m vs → AreOfMode LARGEST_BLOCK m vs
@@ -27,7 +27,7 @@ of_mode limit s range = by s.mode s.values range.values
     named mode.I2cBlock vs is = is
 
     by : (m : Option SetMode) (vs : List ℕ) → HasValues limit m vs
-        → AreOfMode LARGEST_BLOCK (mode_of (record s { mode = m; values = vs })) vs
+        → AreOfMode LARGEST_BLOCK (mode_of_set (record s { mode = m; values = vs })) vs
     by (Some m) vs is = named m vs is
     by None [] is = is
     by None (v ∷ vs) is = is
@@ -41,7 +41,7 @@ set_held s mode.I2cBlock reg is = (reg, (is.0, (is.1, is.2)))
 
 pub set_asks : (limit : ℕ) (s : Set) → IsSetInRange limit s → AsksWithin (set_run s)
 set_asks limit s range =
-    call_asks_within (callee s) range.addr (set_op s (mode_of s)) (set_held s (mode_of s) range.reg (of_mode limit s range))
+    call_asks_within (set_callee s) range.addr (set_op s (mode_of_set s)) (set_held s (mode_of_set s) range.reg (of_mode limit s range))
 
 pub set_lines : (s : Set) → HasSectionLines (set_run s)
-set_lines s = call_lines (record { to = callee s; op = set_op s (mode_of s) })
+set_lines s = call_lines (record { to = set_callee s; op = set_op s (mode_of_set s) })

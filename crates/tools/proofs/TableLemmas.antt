@@ -7,7 +7,7 @@ use Rattle.std.proofs.lemmas.List.{reverse-append, reverse-reverse}
 use Rattle.std.proofs.lemmas.List.Concat.{flat_map-append}
 use Rattle.std.proofs.lemmas.List.Elements.{All-nil, All-cons, All-append}
 use Rattle.bus_spec.specs.Lines.{two_digits}
-use Rattle.bus_journal.specs.Reports.{ended, IsLine, IsSectionLine}
+use Rattle.bus_journal.specs.Reports.{line_ended, IsLine, IsSectionLine}
 use Rattle.bus_journal.proofs.LineFeeds.{line-append, two_digits-line}
 use Rattle.tools.specs.Tables.{skip_spaces, trimmed, parts, row_front}
 
@@ -57,35 +57,35 @@ parts_more f n = rw add-one
 pub ruleset part_steps = (parts_none, parts_more, append_assoc, append-nil)
 
 -- lines behind the first one, which are one more at each turn
-pub lines_none : (h : List ℕ) (f : ℕ → List (List ℕ)) → flat_map ended (h ∷ parts f 0) ≡ h ++ 10 ∷ []
+pub lines_none : (h : List ℕ) (f : ℕ → List (List ℕ)) → flat_map line_ended (h ∷ parts f 0) ≡ h ++ 10 ∷ []
 unfolding parts
-lines_none h f = append-nil (ended h)
+lines_none h f = append-nil (line_ended h)
 
-pub lines_more : (h : List ℕ) (f : ℕ → List (List ℕ)) (n : ℕ) → flat_map ended (h ∷ parts f (n + 1)) ≡ flat_map ended (h ∷ parts f n) ++ flat_map ended (f n)
-lines_more h f n = rw (parts_more f n) (ap (λ t. ended h ++ t) (flat_map-append ended (parts f n) (f n)) ∙ sym (append_assoc (ended h) (flat_map ended (parts f n)) (flat_map ended (f n))))
+pub lines_more : (h : List ℕ) (f : ℕ → List (List ℕ)) (n : ℕ) → flat_map line_ended (h ∷ parts f (n + 1)) ≡ flat_map line_ended (h ∷ parts f n) ++ flat_map line_ended (f n)
+lines_more h f n = rw (parts_more f n) (ap (λ t. line_ended h ++ t) (flat_map-append line_ended (parts f n) (f n)) ∙ sym (append_assoc (line_ended h) (flat_map line_ended (parts f n)) (flat_map line_ended (f n))))
 
 -- a row with its cells is trimmed and ended
-pub row_ended : (o cells a b c d : List ℕ) (row : ℕ) → a ≡ o ++ row_front row → b ≡ a ++ cells → c ≡ trimmed b → d ≡ c ++ 10 ∷ [] → d ≡ o ++ ended (trimmed (row_front row ++ cells))
+pub row_ended : (o cells a b c d : List ℕ) (row : ℕ) → a ≡ o ++ row_front row → b ≡ a ++ cells → c ≡ trimmed b → d ≡ c ++ 10 ∷ [] → d ≡ o ++ line_ended (trimmed (row_front row ++ cells))
 row_ended o cells a b c d row ea eb ec ed =
     let whole : b ≡ o ++ (row_front row ++ cells) = eb ∙ ap (λ t. t ++ cells) ea ∙ append_assoc o (row_front row) cells in
     let cut : c ≡ o ++ trimmed (row_front row ++ cells) = ec ∙ ap trimmed whole ∙ row_trimmed o row cells in
     ed ∙ ap (λ t. t ++ 10 ∷ []) cut ∙ append_assoc o (trimmed (row_front row ++ cells)) (10 ∷ [])
 
 -- one row more behind a text that has the first lines
-pub line_next : (o h x now new : List ℕ) (f : ℕ → List (List ℕ)) (n : ℕ) → f n ≡ x ∷ [] → now ≡ o ++ flat_map ended (h ∷ parts f n) → new ≡ now ++ ended x → new ≡ o ++ flat_map ended (h ∷ parts f (n + 1))
+pub line_next : (o h x now new : List ℕ) (f : ℕ → List (List ℕ)) (n : ℕ) → f n ≡ x ∷ [] → now ≡ o ++ flat_map line_ended (h ∷ parts f n) → new ≡ now ++ line_ended x → new ≡ o ++ flat_map line_ended (h ∷ parts f (n + 1))
 line_next o h x now new f n is same next =
-    next ∙ ap (λ t. t ++ ended x) same ∙ append_assoc o (flat_map ended (h ∷ parts f n)) (ended x)
-    ∙ ap (λ t. o ++ (flat_map ended (h ∷ parts f n) ++ t)) (sym (append-nil (ended x)) ∙ ap (λ (l : List (List ℕ)). flat_map ended l) (sym is))
+    next ∙ ap (λ t. t ++ line_ended x) same ∙ append_assoc o (flat_map line_ended (h ∷ parts f n)) (line_ended x)
+    ∙ ap (λ t. o ++ (flat_map line_ended (h ∷ parts f n) ++ t)) (sym (append-nil (line_ended x)) ∙ ap (λ (l : List (List ℕ)). flat_map line_ended l) (sym is))
     ∙ ap (λ t. o ++ t) (sym (lines_more h f n))
 
 -- so it is where no line stands above the rows
-pub rows_next : (o x now new : List ℕ) (f : ℕ → List (List ℕ)) (n : ℕ) → f n ≡ x ∷ [] → now ≡ o ++ flat_map ended (parts f n)
-    → new ≡ now ++ ended x → new ≡ o ++ flat_map ended (parts f (n + 1))
+pub rows_next : (o x now new : List ℕ) (f : ℕ → List (List ℕ)) (n : ℕ) → f n ≡ x ∷ [] → now ≡ o ++ flat_map line_ended (parts f n)
+    → new ≡ now ++ line_ended x → new ≡ o ++ flat_map line_ended (parts f (n + 1))
 rows_next o x now new f n is same next =
-    let more : flat_map ended (parts f (n + 1)) ≡ flat_map ended (parts f n) ++ ended x =
-    ap (λ (l : List (List ℕ)). flat_map ended l) (parts_more f n ∙ ap (λ (l : List (List ℕ)). parts f n ++ l) is)
-    ∙ flat_map-append ended (parts f n) (x ∷ []) ∙ ap (λ t. flat_map ended (parts f n) ++ t) (append-nil (ended x)) in
-    next ∙ ap (λ t. t ++ ended x) same ∙ append_assoc o (flat_map ended (parts f n)) (ended x) ∙ ap (λ t. o ++ t) (sym more)
+    let more : flat_map line_ended (parts f (n + 1)) ≡ flat_map line_ended (parts f n) ++ line_ended x =
+    ap (λ (l : List (List ℕ)). flat_map line_ended l) (parts_more f n ∙ ap (λ (l : List (List ℕ)). parts f n ++ l) is)
+    ∙ flat_map-append line_ended (parts f n) (x ∷ []) ∙ ap (λ t. flat_map line_ended (parts f n) ++ t) (append-nil (line_ended x)) in
+    next ∙ ap (λ t. t ++ line_ended x) same ∙ append_assoc o (flat_map line_ended (parts f n)) (line_ended x) ∙ ap (λ t. o ++ t) (sym more)
 
 -- ---- each row is a line of a section
 

@@ -11,7 +11,7 @@ use Rattle.smb_emul.specs.declared.call.SmbFail.{SmbFail}
 use Rattle.smb_emul.specs.declared.call.SmbFail.TheVariants as fail
 use Rattle.smb_emul.specs.Value.{ValueView}
 use Rattle.smb_emul.specs.Value as value
-use Rattle.tools.specs.Values.{byte_word, double_word, spaced_word, byte_words, fail_text, value_text, result_text}
+use Rattle.tools.specs.Values.{byte_word, double_word, spaced_word, byte_words, fail_text, value_text, call_result_text}
 
 word : (b : ℕ) → IsLine (byte_word b)
 word b = line-append (codes "0x") (two_digits b) refl (two_digits-line b)
@@ -55,7 +55,7 @@ value_line (value.block (b ∷ bs)) = record {
   other = others (byte_words (b ∷ bs)) 48 refl (omega arith);
 }
 
-pub result_line : (r : Result ValueView SmbFail) → IsSectionLine (result_text r)
+pub result_line : (r : Result ValueView SmbFail) → IsSectionLine (call_result_text r)
 result_line (Ok v) = value_line v
 result_line (Err (fail.Errno e)) = errno e
 result_line (Err (fail.Pec got want)) =

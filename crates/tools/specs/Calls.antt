@@ -9,7 +9,7 @@ use Rattle.smb_emul.specs.declared.call.SmbCall.{SmbCall}
 use Rattle.smb_emul.specs.declared.call.SmbOp.{SmbOp}
 use Rattle.smb_emul.specs.declared.call.SmbOp.TheVariants as op
 use Rattle.tools.specs.Dialogues.{Dialogue}
-use Rattle.tools.specs.Values.{result_text}
+use Rattle.tools.specs.Values.{call_result_text}
 use Rattle.tools.specs.declared.run.call.Callee.{Callee}
 use Rattle.tools.specs.declared.run.call.HeldCall.{HeldCall}
 use Rattle.tools.specs.declared.run.call.HeldOp.{HeldOp}
@@ -42,7 +42,7 @@ held_call h = call_to h.to (smb_op h.op)
 
 -- the value of a call, or why there is none
 abbrev pub call_text : SmbCall → Reply → List ℕ
-call_text call r = result_text (value_of_call call r)
+call_text call r = call_result_text (value_of_call call r)
 
 -- the block that it reads has at most so many bytes
 abbrev pub block_most : SmbOp → ℕ

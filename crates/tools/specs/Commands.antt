@@ -54,10 +54,10 @@ IsInRange limit (cmd.Handle h) = IsHandleInRange limit h
 -- ---- a tool that runs
 
 -- its form, with what the board says of it
-abbrev pub run_of : BoardView → ToolCmd → ToolRun
-run_of b (tool.Get g) = get_run g
-run_of b (tool.Set s) = set_run s
-run_of b (tool.Combined c) = run.Transfers c
-run_of b (tool.Dump d) = run.Dumps d
-run_of b tool.List = run.Says (bus_lines b)
-run_of b (tool.Detect d) = run.Scans d
+abbrev pub tool_run : BoardView → ToolCmd → ToolRun
+tool_run b (tool.Get g) = get_run g
+tool_run b (tool.Set s) = set_run s
+tool_run b (tool.Combined c) = run.Transfers c
+tool_run b (tool.Dump d) = run.Dumps d
+tool_run b tool.List = run.Says (bus_lines b)
+tool_run b (tool.Detect d) = run.Scans d

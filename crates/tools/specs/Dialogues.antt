@@ -20,11 +20,11 @@ pub record Dialogue : Type 0 where
   pub most : ℕ
 
 -- the place behind a reply, and behind all of these; it is over where that is none of its places
-abbrev pub behind : Dialogue → ℕ → Reply → ℕ
-behind d k r = k + 1 + d.skips k r
+abbrev pub next_place : Dialogue → ℕ → Reply → ℕ
+next_place d k r = k + 1 + d.skips k r
 
 abbrev pub place_after : Dialogue → List Reply → ℕ
-place_after d rs = fold (behind d) 0 rs
+place_after d rs = fold (next_place d) 0 rs
 
 abbrev pub is_over : Dialogue → ℕ → Bool
 is_over d k = nat_le d.places k
@@ -48,4 +48,4 @@ pub record AreAlike (t u : TransferView) : Type 0 where
 -- each reply is one that the transfer at its place may get
 abbrev pub AreReplies : Dialogue → ℕ → List Reply → Type 0
 AreReplies d k [] = ⊤
-AreReplies d k (r ∷ rs) = Fits (d.at k) r × AreReplies d (behind d k r) rs
+AreReplies d k (r ∷ rs) = Fits (d.at k) r × AreReplies d (next_place d k r) rs

@@ -75,31 +75,31 @@ pub record IsGetInRange (g : Get) : Type 0 where
 -- ---- how it runs
 
 -- no MODE is `b`, and no LEN is the most
-abbrev pub mode_of : Get → GetMode
-mode_of g = unwrap_or g.mode mode.Byte
+abbrev pub mode_of_get : Get → GetMode
+mode_of_get g = unwrap_or g.mode mode.Byte
 
 abbrev pub len_of : Get → ℕ
 len_of g = unwrap_or g.len I2C_BLOCK_LIMIT
 
 -- to whom its calls go
-abbrev pub callee : Get → Callee
-callee g = record { bus = g.bus; addr = g.addr; force = g.force; pec = g.pec }
+abbrev pub get_callee : Get → Callee
+get_callee g = record { bus = g.bus; addr = g.addr; force = g.force; pec = g.pec }
 
 abbrev pub get_call : Get → HeldOp → ToolRun
-get_call g o = run.Calls (record { to = callee g; op = o })
+get_call g o = run.Calls (record { to = get_callee g; op = o })
 
 -- a register is read by the call of its mode; `c` sends its number, and then receives a byte
 abbrev pub register_run : Get → ℕ → GetMode → ToolRun
 register_run g reg mode.Byte = get_call g (held.ReadByte reg)
 register_run g reg mode.Word = get_call g (held.ReadWord reg)
-register_run g reg mode.SendReceive = run.Chains (record { to = callee g; sent = reg })
+register_run g reg mode.SendReceive = run.Chains (record { to = get_callee g; sent = reg })
 register_run g reg mode.Block = get_call g (held.BlockRead reg)
 register_run g reg mode.I2cBlock = get_call g (held.I2cBlockRead reg (len_of g))
 
 -- without a register the next byte is received
 abbrev pub run_by : Get → Option ℕ → ToolRun
 run_by g None = get_call g held.ReceiveByte
-run_by g (Some reg) = register_run g reg (mode_of g)
+run_by g (Some reg) = register_run g reg (mode_of_get g)
 
 abbrev pub get_run : Get → ToolRun
 get_run g = run_by g g.reg

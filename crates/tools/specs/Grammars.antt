@@ -25,25 +25,25 @@ pub data Grammar (A : Type 0) : Type 1 where
   maybe : A → Grammar A → Grammar A
 
 -- what a line means that ends where a set begins, and what may follow each word there
-abbrev pub end_of : {A : Type 0} → LineSet A → Option A
-end_of nothing = None
-end_of (node e f) = e
+abbrev pub meaning_at_end : {A : Type 0} → LineSet A → Option A
+meaning_at_end nothing = None
+meaning_at_end (node e f) = e
 
-abbrev pub next_of : {A : Type 0} → LineSet A → Word → LineSet A
-next_of nothing w = nothing
-next_of (node e f) w = f w
+abbrev pub after_word : {A : Type 0} → LineSet A → Word → LineSet A
+after_word nothing w = nothing
+after_word (node e f) w = f w
 
-abbrev pub behind : {A B : Type 0} → (B → LineSet A) → Option B → LineSet A
-behind k None = nothing
-behind k (Some b) = k b
+abbrev pub going_on : {A B : Type 0} → (B → LineSet A) → Option B → LineSet A
+going_on k None = nothing
+going_on k (Some b) = k b
 
 -- the lines of a grammar
 abbrev pub line_set : {A : Type 0} → Grammar A → LineSet A
 line_set (ends a) = node (Some a) (λ w. nothing)
 line_set (word text g) = node None (λ w. if bytes_eq w text then line_set g else nothing)
-line_set (word_or text g h) = node (end_of (line_set h)) (λ w. if bytes_eq w text then line_set g else next_of (line_set h) w)
-line_set (class c k) = node None (λ w. behind (λ b. line_set (k b)) (c.of w))
-line_set (maybe a g) = node (Some a) (next_of (line_set g))
+line_set (word_or text g h) = node (meaning_at_end (line_set h)) (λ w. if bytes_eq w text then line_set g else after_word (line_set h) w)
+line_set (class c k) = node None (λ w. going_on (λ b. line_set (k b)) (c.of w))
+line_set (maybe a g) = node (Some a) (after_word (line_set g))
 
 -- what the words from place i on mean, or the place of the first that is refused: they are read from left to right
 abbrev pub read_at : {A : Type 0} → Grammar A → List Word → ℕ → Result A ℕ

@@ -24,8 +24,8 @@ abbrev pub handle_number : Class ℕ
 handle_number = record { of = number_in 0 LARGEST_HANDLE; sample = codes "0"; means = 0; fits = refl }
 
 -- N, and WORD
-abbrev pub read_length : Class ℕ
-read_length = record { of = number_in 1 MOST_LENGTH; sample = codes "1"; means = 1; fits = refl }
+abbrev pub length_class : Class ℕ
+length_class = record { of = number_in 1 MOST_LENGTH; sample = codes "1"; means = 1; fits = refl }
 
 abbrev pub word_value : Class ℕ
 word_value = record { of = number_in 0 65535; sample = codes "0"; means = 0; fits = refl }
@@ -47,7 +47,7 @@ pec_words = class handle_number (λ h.
 
 -- read H N
 unfoldable pub read_words : Grammar Cmd
-read_words = class handle_number (λ h. class read_length (λ n. ends (Handle (handle.Read h n))))
+read_words = class handle_number (λ h. class length_class (λ n. ends (Handle (handle.Read h n))))
 
 -- write H BYTE...
 unfoldable pub write_words : Grammar Cmd

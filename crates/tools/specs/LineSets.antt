@@ -31,14 +31,14 @@ abbrev pub goes_on : {A : Type 0} → LineSet A → Bool
 goes_on nothing = false
 goes_on (node ends next) = true
 
-abbrev pub ended : {A : Type 0} → Option A → ℕ → Result A ℕ
-ended None i = Err i
-ended (Some a) i = Ok a
+abbrev pub or_refused : {A : Type 0} → Option A → ℕ → Result A ℕ
+or_refused None i = Err i
+or_refused (Some a) i = Ok a
 
 -- what the words from place i on mean, or the place where no line goes on
 abbrev pub follow_words : {A : Type 0} → LineSet A → ℕ → List Word → Result A ℕ
 follow_words nothing i ws = Err i
-follow_words (node ends next) i [] = ended ends i
+follow_words (node ends next) i [] = or_refused ends i
 follow_words (node ends next) i (w ∷ ws) = if goes_on (next w) then follow_words (next w) (i + 1) ws else Err i
 
 -- no line goes on behind so many words

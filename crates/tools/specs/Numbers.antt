@@ -29,8 +29,8 @@ is_hexadecimal w = nat_lt 2 (length w) && ((slice_index w 0 == 48) && (slice_ind
 abbrev pub is_decimal : List ℕ → Bool
 is_decimal w = nat_lt 0 (length w) && (not (slice_index w 0 == 48) || (length w == 1))
 
-abbrev pub number_of : List ℕ → Option ℕ
-number_of w =
+abbrev pub number_in_word : List ℕ → Option ℕ
+number_in_word w =
     if is_hexadecimal w then digits_on true 0 (drop 2 w)
     else if is_decimal w then digits_on false 0 w
     else None
@@ -40,4 +40,4 @@ abbrev pub within : ℕ → ℕ → Option ℕ → Option ℕ
 within low high n = option_and_then (λ v. if nat_le low v && nat_le v high then Some v else None) n
 
 abbrev pub number_in : ℕ → ℕ → List ℕ → Option ℕ
-number_in low high w = within low high (number_of w)
+number_in low high w = within low high (number_in_word w)

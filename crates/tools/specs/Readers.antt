@@ -2,7 +2,7 @@
 use Rattle.std.specs.Prelude.{⊤, ◌≡◌, ℕ, Bool, false, List, [], map, slice_get, slice_index_or, length, nat_le, Option, Some, None, Result, Ok, Err, MatchResult, if◌then◌else◌}
 use Rattle.std.specs.Str.{bytes_eq}
 use denote.Ref.{Bor}
-use Rattle.tools.specs.LineSets.{Word, ended}
+use Rattle.tools.specs.LineSets.{Word, or_refused}
 use Rattle.tools.specs.declared.fault.LineFault.{LineFault}
 use Rattle.tools.specs.declared.fault.LineFault.TheVariants as line_fault
 
@@ -35,7 +35,7 @@ of_word of (Some w) = of w
 
 -- the word at i, of a class
 abbrev pub one_at : {B : Type 0} → (Word → Option B) → List Word → ℕ → Result B ℕ
-one_at of ws i = ended (of_word of (slice_get ws i)) i
+one_at of ws i = or_refused (of_word of (slice_get ws i)) i
 
 -- whether that very word stands at i
 abbrev pub is_some_text : Word → Option Word → Bool

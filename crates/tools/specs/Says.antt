@@ -1,7 +1,7 @@
 -- A command that asks for nothing, and whose lines are known once it is opened.
 use Rattle.std.specs.Prelude.{ℕ, ◌==◌, false, List, [], ◌∷◌, length, if◌then◌else◌}
 use Rattle.std.specs.List.{flat_map}
-use Rattle.bus_journal.specs.Reports.{ended}
+use Rattle.bus_journal.specs.Reports.{line_ended}
 use Rattle.i2c_base.specs.Transfer.{TransferView}
 use Rattle.i2c_base.specs.declared.transfer.Kind.TheVariants.{Plain}
 use Rattle.tools.specs.Dialogues.{Dialogue}
@@ -18,4 +18,4 @@ no_transfer = record { bus = 0; kind = Plain; force = false; msgs = []; out = []
 
 -- what it says to the bus
 abbrev pub says : List (List ℕ) → Dialogue
-says lines = record { places = 0; at = λ k. no_transfer; skips = λ k r. 0; lines = λ rs. lines; most = length (flat_map ended lines) }
+says lines = record { places = 0; at = λ k. no_transfer; skips = λ k r. 0; lines = λ rs. lines; most = length (flat_map line_ended lines) }

@@ -46,10 +46,10 @@ abbrev pub probe_call : Detect → ℕ → SmbCall
 probe_call d addr = record { bus = d.bus; addr = addr; force = false; pec = false; op = probe_op d.probe addr }
 
 -- the bus isn't there
-abbrev pub is_absent : Reply → Bool
-is_absent reply.Done = false
-is_absent (reply.Read bytes) = false
-is_absent (reply.Err e) = number_of e == 19
+abbrev pub is_no_bus : Reply → Bool
+is_no_bus reply.Done = false
+is_no_bus (reply.Read bytes) = false
+is_no_bus (reply.Err e) = number_of e == 19
 
 -- ---- its table
 
@@ -78,7 +78,7 @@ scan_table d rs = heading ∷ parts (scan_line d rs) 8
 
 -- a bus that isn't there is told alone
 abbrev pub scan_lines : Detect → List Reply → List (List ℕ)
-scan_lines d rs = if list_any is_absent rs then errno_text errno.Enodev ∷ [] else scan_table d rs
+scan_lines d rs = if list_any is_no_bus rs then errno_text errno.Enodev ∷ [] else scan_table d rs
 
 -- what it says to the bus; a row has at most 52 bytes before it is trimmed
 abbrev pub scans : Detect → Dialogue
@@ -86,7 +86,7 @@ scans d =
     record {
       places = probes d;
       at = λ k. messages_of_call (probe_call d (first_probed d + k));
-      skips = λ k r. if is_absent r then probes d else 0;
+      skips = λ k r. if is_no_bus r then probes d else 0;
       lines = scan_lines d;
       most = 9 * 52;
     }

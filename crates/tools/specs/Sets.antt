@@ -196,15 +196,15 @@ abbrev pub mode_behind : List ℕ → SetMode
 mode_behind [] = mode.Send
 mode_behind (v ∷ vs) = mode.Byte
 
-abbrev pub mode_of : Set → SetMode
-mode_of s = unwrap_or s.mode (mode_behind s.values)
+abbrev pub mode_of_set : Set → SetMode
+mode_of_set s = unwrap_or s.mode (mode_behind s.values)
 
 abbrev pub first_value : Set → ℕ
 first_value s = slice_index_or s.values 0 0
 
 -- to whom its call goes
-abbrev pub callee : Set → Callee
-callee s = record { bus = s.bus; addr = s.addr; force = s.force; pec = s.pec }
+abbrev pub set_callee : Set → Callee
+set_callee s = record { bus = s.bus; addr = s.addr; force = s.force; pec = s.pec }
 
 -- the call of its mode
 abbrev pub set_op : Set → SetMode → HeldOp
@@ -215,4 +215,4 @@ set_op s mode.Block = held.BlockWrite s.reg s.values
 set_op s mode.I2cBlock = held.I2cBlockWrite s.reg s.values
 
 abbrev pub set_run : Set → ToolRun
-set_run s = run.Calls (record { to = callee s; op = set_op s (mode_of s) })
+set_run s = run.Calls (record { to = set_callee s; op = set_op s (mode_of_set s) })

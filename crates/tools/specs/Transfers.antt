@@ -21,20 +21,20 @@ abbrev pub message_to : ℕ → DescOp → Msg
 message_to addr (op.Read n) = plain_read addr n
 message_to addr (op.Write bytes) = written addr (length bytes)
 
-abbrev pub message_of : Desc → Msg
-message_of d = message_to d.addr d.op
+abbrev pub desc_message : Desc → Msg
+desc_message d = message_to d.addr d.op
 
 -- the bytes that a message writes
-abbrev pub bytes_sent : DescOp → List ℕ
-bytes_sent (op.Read n) = []
-bytes_sent (op.Write bytes) = bytes
+abbrev pub bytes_to_write : DescOp → List ℕ
+bytes_to_write (op.Read n) = []
+bytes_to_write (op.Write bytes) = bytes
 
 abbrev pub sent_by : Desc → List ℕ
-sent_by d = bytes_sent d.op
+sent_by d = bytes_to_write d.op
 
 -- a transfer with more messages at its end, and with all bytes that they write, one after the other
 abbrev pub with_messages : TransferView → List Desc → TransferView
-with_messages t ds = record t { msgs = t.msgs ++ map message_of ds; out = t.out ++ flat_map sent_by ds }
+with_messages t ds = record t { msgs = t.msgs ++ map desc_message ds; out = t.out ++ flat_map sent_by ds }
 
 -- the messages of a command as one transfer
 abbrev pub transfer_of : Combined → TransferView
@@ -43,12 +43,12 @@ transfer_of c = with_messages (record { bus = c.bus; kind = Plain; force = c.for
 -- ---- its lines
 
 -- how many bytes a message reads
-abbrev pub bytes_read : DescOp → ℕ
-bytes_read (op.Read n) = n
-bytes_read (op.Write bytes) = 0
+abbrev pub count_read : DescOp → ℕ
+count_read (op.Read n) = n
+count_read (op.Write bytes) = 0
 
-abbrev pub read_by : Desc → ℕ
-read_by d = bytes_read d.op
+abbrev pub count_read_by : Desc → ℕ
+count_read_by d = count_read d.op
 
 -- the line of a message that reads: its own bytes, which are the first of these
 abbrev pub own_line : DescOp → List ℕ → List (List ℕ)
@@ -58,7 +58,7 @@ own_line (op.Write sent) bytes = []
 -- the lines of messages, where the bytes of each stand behind those of the messages before it
 abbrev pub own_lines : List Desc → List ℕ → List (List ℕ)
 own_lines [] bytes = []
-own_lines (d ∷ ds) bytes = own_line d.op bytes ++ own_lines ds (drop (bytes_read d.op) bytes)
+own_lines (d ∷ ds) bytes = own_line d.op bytes ++ own_lines ds (drop (count_read d.op) bytes)
 
 -- what is printed of a reply: the lines of what was read, that it is done where nothing reads, or the name of its error
 abbrev pub reply_lines : List Desc → Reply → List (List ℕ)
@@ -74,5 +74,5 @@ transfers c =
       at = λ k. transfer_of c;
       skips = λ k r. 0;
       lines = λ rs. reply_lines c.messages (slice_index_or rs 0 reply.Done);
-      most = 27 + 5 * sum_by read_by c.messages;
+      most = 27 + 5 * sum_by count_read_by c.messages;
     }

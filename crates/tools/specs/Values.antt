@@ -34,9 +34,9 @@ value_text (value.byte b) = byte_word b
 value_text (value.word w) = double_word w
 value_text (value.block bytes) = byte_words bytes
 
-abbrev pub result_text : Result ValueView SmbFail → List ℕ
-result_text (Ok v) = value_text v
-result_text (Err e) = fail_text e
+abbrev pub call_result_text : Result ValueView SmbFail → List ℕ
+call_result_text (Ok v) = value_text v
+call_result_text (Err e) = fail_text e
 
 -- the block that was read, if any
 abbrev pub block_of_value : ValueView → List ℕ

@@ -1,7 +1,7 @@
 //! The commands of a script, a row for each: the words that it is read from, and how it runs.
 
 ghost use Rattle.std.specs.Prelude.{◌≡◌, ℕ, ◌≤◌, IfOk};
-ghost use Rattle.tools.specs.Commands.{grammar, IsToolInRange, run_of};
+ghost use Rattle.tools.specs.Commands.{grammar, IsToolInRange, tool_run};
 ghost use Rattle.tools.specs.DriverLines.{driver_lines};
 ghost use Rattle.tools.specs.Grammars.{read_at};
 ghost use Rattle.tools.specs.HandleLines.{handle_lines};
@@ -105,7 +105,7 @@ fn read_other(alloc: Global, words: &[&[u8]], limit: u8) -> Result<Cmd, LineFaul
 /// How a tool runs over a board.
 pub(crate) fn run_of(alloc: Global, board: &Board, tool: ToolCmd) -> Result<ToolRun, NoMemory>
     requires { (limit : ℕ) × IsToolInRange limit tool }
-    ensures { IfOk result (λ run. run ≡ run_of board.now tool) }
+    ensures { IfOk result (λ run. run ≡ tool_run board.now tool) }
 {
     match tool {
         ToolCmd::Get(get) => Ok(get::run(&get)),

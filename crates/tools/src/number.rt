@@ -1,7 +1,7 @@
 //! Numbers in words: decimal, or `0x` and hexadecimal digits.
 
 ghost use Rattle.std.specs.Prelude.{◌≡◌, ◌<◌, ◌≤◌, ◌&&◌, drop, length, Some, IfSome};
-ghost use Rattle.tools.specs.Numbers.{decimal_digit, hexadecimal_digit, digit_of, digits_on, within, number_of, number_in, is_hexadecimal, is_decimal};
+ghost use Rattle.tools.specs.Numbers.{decimal_digit, hexadecimal_digit, digit_of, digits_on, within, number_in_word, number_in, is_hexadecimal, is_decimal};
 
 /// The largest number of a script.
 const LARGEST: u32 = 128_000;
@@ -76,7 +76,7 @@ fn behind_prefix(word: &[u8]) -> &[u8]
 
 // The number in a word, where it is at most `LARGEST`.
 fn number(word: &[u8]) -> Option<u32>
-    ensures { result ≡ within 0 128000 (number_of word.now) }
+    ensures { result ≡ within 0 128000 (number_in_word word.now) }
 {
     if is_hexadecimal(word) {
         value(true, behind_prefix(word))

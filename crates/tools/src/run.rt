@@ -2,10 +2,10 @@
 
 ghost use Rattle.std.specs.Prelude.{◌≡◌, ℕ, true, List, ◌+◌, ◌-◌, ◌<◌, ◌≤◌, ◌++◌, IfOk};
 ghost use Rattle.std.specs.List.{flat_map};
-ghost use Rattle.bus_journal.specs.Reports.{ended};
+ghost use Rattle.bus_journal.specs.Reports.{line_ended};
 ghost use Rattle.i2c_base.specs.Replies.{reply_by};
-ghost use Rattle.tools.specs.Commands.{IsToolInRange, run_of};
-ghost use Rattle.tools.specs.Dialogues.{MOST_PLACES, AreAlike, AreReplies, behind};
+ghost use Rattle.tools.specs.Commands.{IsToolInRange, tool_run};
+ghost use Rattle.tools.specs.Dialogues.{MOST_PLACES, AreAlike, AreReplies, next_place};
 ghost use Rattle.tools.specs.Runs.{dialogue_of};
 
 pub(crate) mod call;
@@ -49,7 +49,7 @@ impl ToolRun {
     /// A tool that begins over a board.
     pub fn open(alloc: Global, board: &Accepted, tool: ToolCmd) -> Result<Self, NoMemory>
         requires { (limit : ℕ) × IsToolInRange limit tool }
-        ensures { IfOk result (λ r. r ≡ run_of board.now tool) }
+        ensures { IfOk result (λ r. r ≡ tool_run board.now tool) }
     {
         run_of(alloc, board.board(), tool)
     }
@@ -90,7 +90,7 @@ impl ToolRun {
     /// may bring needn't be asked again. It may do so where none is said to.
     #[inline(always)]
     pub fn repeats(&self, place: u16) -> bool
-        ensures behind { result ≡ true → 0 < place }
+        ensures next_place { result ≡ true → 0 < place }
         ensures alike { result ≡ true → AreAlike ((dialogue_of self.now).at (place - 1)) ((dialogue_of self.now).at place) }
     {
         match self {
@@ -107,7 +107,7 @@ impl ToolRun {
     #[inline(always)]
     pub fn behind(&self, place: u16, head: ReplyHead) -> u16
         requires { place < (dialogue_of self.now).places }
-        ensures { (bytes : List ℕ) → result ≡ behind (dialogue_of self.now) place (reply_by head bytes) }
+        ensures { (bytes : List ℕ) → result ≡ next_place (dialogue_of self.now) place (reply_by head bytes) }
     {
         match self {
             ToolRun::Says(_) => place + 1,
@@ -123,7 +123,7 @@ impl ToolRun {
     pub fn print(&self, replies: Window<'_>, out: &mut Text)
         requires fit { AreReplies (dialogue_of self.now) 0 replies }
         requires room { (dialogue_of self.now).most ≤ out.old.room }
-        ensures bytes { out.new.bytes ≡ out.old.bytes ++ flat_map ended ((dialogue_of self.now).lines replies.entry) }
+        ensures bytes { out.new.bytes ≡ out.old.bytes ++ flat_map line_ended ((dialogue_of self.now).lines replies.entry) }
         ensures room { out.old.room ≤ out.new.room + (dialogue_of self.now).most }
     {
         match self {

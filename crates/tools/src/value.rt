@@ -4,7 +4,7 @@ ghost use Rattle.std.specs.Prelude.{◌≡◌, ◌+◌, ◌*◌, ◌≤◌, ◌+
 ghost use Rattle.std.specs.List.{flat_map};
 ghost use Rattle.bus_spec.specs.Lines.{errno_text};
 ghost use Rattle.smb_emul.specs.Value.{value_seen, outcome_seen};
-ghost use Rattle.tools.specs.Values.{byte_word, double_word, spaced_word, byte_words, fail_text, value_text, result_text, block_of_value, block_in};
+ghost use Rattle.tools.specs.Values.{byte_word, double_word, spaced_word, byte_words, fail_text, value_text, call_result_text, block_of_value, block_in};
 
 use crate::text::Text;
 use bus_journal::{errno_name, hex_digit};
@@ -17,7 +17,7 @@ pub const MOST_BESIDE: usize = 26;
 /// Prints a value, or why there is none.
 pub fn push_outcome(out: &mut Text, outcome: Result<SmbValue<'_>, SmbFail>)
     requires { 26 + 5 * length (block_in (outcome_seen outcome)) ≤ out.old.room }
-    ensures bytes { out.new.bytes ≡ out.old.bytes ++ result_text (outcome_seen outcome.entry) }
+    ensures bytes { out.new.bytes ≡ out.old.bytes ++ call_result_text (outcome_seen outcome.entry) }
     ensures room { out.old.room ≤ out.new.room + (26 + 5 * length (block_in (outcome_seen outcome.entry))) }
 {
     match outcome {

@@ -20,7 +20,7 @@ use Rattle.i2c_base.specs.declared.ids.Node.TheVariants as node
 use Rattle.i2c_base.specs.Board.{BoardView}
 use Rattle.i2c_spec.specs.Tree.{Hop, hops, root_of, home_of_mux, addr_of_mux}
 use Rattle.i2c_spec.specs.TreeFacts.{IsTree}
-use Rattle.i2c_spec.specs.Chips.{ChipView, chip_table, chip_after, chip_sends, is_open, looked, taken, stopped as chip_stopped}
+use Rattle.i2c_spec.specs.Chips.{ChipView, chip_table, chip_after, chip_sends, is_open, looked, taken, chip_stopped as chip_stopped}
 use Rattle.i2c_spec.specs.Targets.{TargetState, state_table}
 use Rattle.i2c_spec.specs.Messages.{MessageView, write_byte, read_byte}
 use Rattle.i2c_spec.specs.Conversation.{Said, TalkTold, world_listener, is_it, silence, say, told, ended, puts, gets, by_answer, talk}

@@ -1,7 +1,7 @@
 //! `i2cget`: its line, and the SMBus calls that read a register.
 
 ghost use Rattle.std.specs.Prelude.{◌≡◌, ℕ, ◌+◌, ◌<◌, false, None, Some};
-ghost use Rattle.tools.specs.Gets.{mode_named, get_len, get_reg, get_bus, get_words, IsGetInRange, mode_of, len_of, callee, get_call, register_run, get_run};
+ghost use Rattle.tools.specs.Gets.{mode_named, get_len, get_reg, get_bus, get_words, IsGetInRange, mode_of_get, len_of, get_callee, get_call, register_run, get_run};
 ghost use Rattle.tools.specs.Grammars.{read_at};
 ghost use Rattle.tools.specs.Readers.{texts, one_at};
 
@@ -155,7 +155,7 @@ pub fn read_get(words: &[&[u8]]) -> Result<Cmd, WordRefused>
 }
 
 fn mode_of(get: &Get) -> GetMode
-    ensures { result ≡ mode_of get.now }
+    ensures { result ≡ mode_of_get get.now }
 {
     get.mode.unwrap_or(GetMode::Byte)
 }
@@ -168,7 +168,7 @@ fn len_of(get: &Get) -> u8
 
 // To whom its calls go.
 fn callee(get: &Get) -> Callee
-    ensures { result ≡ callee get.now }
+    ensures { result ≡ get_callee get.now }
 {
     Callee {
         bus: get.bus,
@@ -191,7 +191,7 @@ fn call(get: &Get, op: HeldOp) -> ToolRun
 // How it reads this register.
 fn register_run(get: &Get, reg: u8) -> ToolRun
     requires { IsGetInRange get.now }
-    ensures { result ≡ register_run get.now reg (mode_of get.now) }
+    ensures { result ≡ register_run get.now reg (mode_of_get get.now) }
 {
     match mode_of(get) {
         GetMode::Byte => call(get, HeldOp::ReadByte(reg)),

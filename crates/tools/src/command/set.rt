@@ -6,7 +6,7 @@ ghost use Rattle.i2c_base.specs.Limits.{LARGEST_BLOCK};
 ghost use Rattle.tools.specs.Grammars.{read_at};
 ghost use Rattle.tools.specs.Numbers.{number_in};
 ghost use Rattle.tools.specs.Readers.{texts, one_at, Gives};
-ghost use Rattle.tools.specs.Sets.{send_mode, word_mode, block_mode, byte_mode, mode_or, is_short, first_piece, second_piece, block_piece, set_block, set_byte, set_number, set_values, set_reg, set_bus, set_words, set_to, set_by, AreOfMode, IsSetInRange, mode_of, first_value, set_op, set_run};
+ghost use Rattle.tools.specs.Sets.{send_mode, word_mode, block_mode, byte_mode, mode_or, is_short, first_piece, second_piece, block_piece, set_block, set_byte, set_number, set_values, set_reg, set_bus, set_words, set_to, set_by, AreOfMode, IsSetInRange, mode_of_set, first_value, set_op, set_run};
 
 use crate::command::{Cmd, ToolCmd};
 use crate::fault::{LineFault, WordRefused};
@@ -386,7 +386,7 @@ pub fn read_set(alloc: Global, words: &[&[u8]], limit: u8) -> Result<Cmd, LineFa
 
 // The mode, also where none is named.
 fn mode_of(set: &Set) -> SetMode
-    ensures { result ≡ mode_of set.now }
+    ensures { result ≡ mode_of_set set.now }
 {
     match set.mode {
         Some(mode) => mode,

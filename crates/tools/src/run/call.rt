@@ -2,7 +2,7 @@
 
 ghost use Rattle.std.specs.Prelude.{◌≡◌, ◌+◌, ◌*◌, ◌≤◌, ◌++◌, length};
 ghost use Rattle.std.specs.List.{flat_map};
-ghost use Rattle.bus_journal.specs.Reports.{ended};
+ghost use Rattle.bus_journal.specs.Reports.{line_ended};
 ghost use Rattle.i2c_base.specs.Fitting.{Fits};
 ghost use Rattle.i2c_base.specs.Replies.{reply_by};
 ghost use Rattle.smb_emul.specs.Calls.{HasBlock, IsBlockLength, messages_of_call};
@@ -188,7 +188,7 @@ impl HeldCall {
     pub fn print(&self, replies: Window<'_>, out: &mut Text)
         requires fit { AreReplies (calls self.now) 0 replies }
         requires room { (calls self.now).most ≤ out.old.room }
-        ensures bytes { out.new.bytes ≡ out.old.bytes ++ flat_map ended ((calls self.now).lines replies.entry) }
+        ensures bytes { out.new.bytes ≡ out.old.bytes ++ flat_map line_ended ((calls self.now).lines replies.entry) }
         ensures room { out.old.room ≤ out.new.room + (calls self.now).most }
     {
         match replies.get(0) {

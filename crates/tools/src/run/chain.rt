@@ -2,7 +2,7 @@
 
 ghost use Rattle.std.specs.Prelude.{◌≡◌, ℕ, List, ◌+◌, ◌≤◌, ◌++◌, if◌then◌else◌};
 ghost use Rattle.std.specs.List.{flat_map};
-ghost use Rattle.bus_journal.specs.Reports.{ended};
+ghost use Rattle.bus_journal.specs.Reports.{line_ended};
 ghost use Rattle.i2c_base.specs.Fitting.{Fits};
 ghost use Rattle.i2c_base.specs.Replies.{reply_by};
 ghost use Rattle.smb_emul.specs.Calls.{HasBlock, messages_of_call};
@@ -62,7 +62,7 @@ impl Chain {
     pub fn print(&self, replies: Window<'_>, out: &mut Text)
         requires fit { AreReplies (chains self.now) 0 replies }
         requires room { (chains self.now).most ≤ out.old.room }
-        ensures bytes { out.new.bytes ≡ out.old.bytes ++ flat_map ended ((chains self.now).lines replies.entry) }
+        ensures bytes { out.new.bytes ≡ out.old.bytes ++ flat_map line_ended ((chains self.now).lines replies.entry) }
         ensures room { out.old.room ≤ out.new.room + (chains self.now).most }
     {
         if let Some((head, bytes)) = replies.get(1) {

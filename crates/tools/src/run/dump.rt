@@ -3,12 +3,12 @@
 ghost use Rattle.std.specs.Prelude.{◌≡◌, ℕ, true, List, [], ◌∷◌, ◌+◌, ◌-◌, ◌*◌, ◌/◌, ◌<◌, ◌≤◌, ◌==◌, ◌&&◌, ◌++◌, slice_get, if◌then◌else◌};
 ghost use Rattle.std.specs.List.{flat_map};
 ghost use Rattle.std.specs.Option.{option_map};
-ghost use Rattle.bus_journal.specs.Reports.{ended};
+ghost use Rattle.bus_journal.specs.Reports.{line_ended};
 ghost use Rattle.i2c_base.specs.Replies.{reply_by};
 ghost use Rattle.i2c_base.specs.declared.reply.Reply.TheVariants.{Err as Failed};
 ghost use Rattle.smb_emul.specs.Calls.{HasBlock, messages_of_call, value_of_call};
 ghost use Rattle.smb_emul.specs.Value.{outcome_seen};
-ghost use Rattle.tools.specs.Dialogues.{AreAlike, AreReplies, behind};
+ghost use Rattle.tools.specs.Dialogues.{AreAlike, AreReplies, next_place};
 ghost use Rattle.tools.specs.DumpTables.{dump_places, dump_op, dump_call, is_refusal, is_end, place_of, register_read, byte_cell, byte_sign, dump_cell, dump_sign, byte_row, byte_table, word_cell, dump_word, word_row, word_table, rows, dumps};
 ghost use Rattle.tools.specs.Tables.{parts, in_row};
 ghost use Rattle.tools.specs.declared.command.dump.DumpMode.TheVariants as mode;
@@ -81,7 +81,7 @@ pub fn put(dump: &Dump, place: u16, transfer: &mut Transfer)
 
 /// Its call at a place asks for the same messages as the one before, but for the number of the register.
 pub fn repeats(dump: &Dump, place: u16) -> bool
-    ensures behind { result ≡ true → 0 < place }
+    ensures next_place { result ≡ true → 0 < place }
     ensures alike { result ≡ true → AreAlike (messages_of_call (dump_call dump.now (place - 1))) (messages_of_call (dump_call dump.now place)) }
 {
     match dump.mode {
@@ -112,7 +112,7 @@ fn is_end(mode: DumpMode, head: ReplyHead) -> bool
 /// The place behind a reply: all places are passed over behind a first one that ends it, and else none.
 pub fn behind(dump: &Dump, place: u16, head: ReplyHead) -> u16
     requires { place < dump_places dump.now.mode dump.now.first dump.now.last }
-    ensures { (bytes : List ℕ) → result ≡ behind (dumps dump.now) place (reply_by head bytes) }
+    ensures { (bytes : List ℕ) → result ≡ next_place (dumps dump.now) place (reply_by head bytes) }
 {
     let places = places(dump);
     if place == 0 && is_end(dump.mode, head) {
@@ -264,7 +264,7 @@ fn push_byte_row(dump: &Dump, replies: &Window<'_>, out: &mut Text, row: u8)
     requires bytes { ¬ (dump.now.mode ≡ mode.Word) }
     requires row { row ≤ 240 }
     requires room { 72 ≤ out.old.room }
-    ensures bytes { out.new.bytes ≡ out.old.bytes ++ ended (byte_row dump.now replies.now row) }
+    ensures bytes { out.new.bytes ≡ out.old.bytes ++ line_ended (byte_row dump.now replies.now row) }
     ensures room { out.old.room ≤ out.new.room + 72 }
 {
     push_row_front(out, row);
@@ -289,7 +289,7 @@ fn push_byte_table(dump: &Dump, replies: &Window<'_>, out: &mut Text)
     requires fit { AreReplies (dumps dump.now) 0 replies.now }
     requires bytes { ¬ (dump.now.mode ≡ mode.Word) }
     requires room { 72 * (rows 16 dump.now.first dump.now.last + 1) ≤ out.old.room }
-    ensures bytes { out.new.bytes ≡ out.old.bytes ++ flat_map ended (byte_table dump.now replies.now) }
+    ensures bytes { out.new.bytes ≡ out.old.bytes ++ flat_map line_ended (byte_table dump.now replies.now) }
     ensures room { out.old.room ≤ out.new.room + 72 * (rows 16 dump.now.first dump.now.last + 1) }
 {
     out.push(b"     0  1  2  3  4  5  6  7  8  9  a  b  c  d  e  f    0123456789abcdef\n");
@@ -358,7 +358,7 @@ fn push_word_row(dump: &Dump, replies: &Window<'_>, out: &mut Text, row: u8)
     requires words { dump.now.mode ≡ mode.Word }
     requires row { row ≤ 248 }
     requires room { 44 ≤ out.old.room }
-    ensures bytes { out.new.bytes ≡ out.old.bytes ++ ended (word_row dump.now replies.now row) }
+    ensures bytes { out.new.bytes ≡ out.old.bytes ++ line_ended (word_row dump.now replies.now row) }
     ensures room { out.old.room ≤ out.new.room + 44 }
 {
     push_row_front(out, row);
@@ -381,7 +381,7 @@ fn push_word_table(dump: &Dump, replies: &Window<'_>, out: &mut Text)
     requires fit { AreReplies (dumps dump.now) 0 replies.now }
     requires words { dump.now.mode ≡ mode.Word }
     requires room { 44 * rows 8 dump.now.first dump.now.last ≤ out.old.room }
-    ensures bytes { out.new.bytes ≡ out.old.bytes ++ flat_map ended (word_table dump.now replies.now) }
+    ensures bytes { out.new.bytes ≡ out.old.bytes ++ flat_map line_ended (word_table dump.now replies.now) }
     ensures room { out.old.room ≤ out.new.room + 44 * rows 8 dump.now.first dump.now.last }
 {
     let begin = dump.first / 8;
@@ -395,7 +395,7 @@ fn push_word_table(dump: &Dump, replies: &Window<'_>, out: &mut Text)
 pub fn print(dump: &Dump, replies: Window<'_>, out: &mut Text)
     requires fit { AreReplies (dumps dump.now) 0 replies }
     requires room { (dumps dump.now).most ≤ out.old.room }
-    ensures bytes { out.new.bytes ≡ out.old.bytes ++ flat_map ended ((dumps dump.now).lines replies.entry) }
+    ensures bytes { out.new.bytes ≡ out.old.bytes ++ flat_map line_ended ((dumps dump.now).lines replies.entry) }
     ensures room { out.old.room ≤ out.new.room + (dumps dump.now).most }
 {
     if let Some((ReplyHead::Err(errno), _)) = replies.get(0) {

@@ -2,7 +2,7 @@
 
 ghost use Rattle.std.specs.Prelude.{◌≡◌, ◌≤◌, ◌+◌, [], ◌∷◌, ◌++◌, length, OnOk};
 ghost use Rattle.std.specs.List.{flat_map};
-ghost use Rattle.bus_journal.specs.Reports.{IsLine, ended};
+ghost use Rattle.bus_journal.specs.Reports.{IsLine, line_ended};
 
 use crate::text::Text;
 use i2c_base::NoMemory;
@@ -18,14 +18,14 @@ pub struct Lines {
 impl Model for Lines {
     ghost use Rattle.std.specs.Prelude.{◌≡◌, ℕ, List};
     ghost use Rattle.std.specs.List.{flat_map};
-    ghost use Rattle.bus_journal.specs.Reports.{ended};
+    ghost use Rattle.bus_journal.specs.Reports.{line_ended};
     ghost use Rattle.tools.specs.Says.{whole_lines};
 
     ghost Value = { List (List ℕ) };
 
     ghost view = { λ l. whole_lines l.text.bytes };
 
-    ghost invariant = { λ l. flat_map ended (whole_lines l.text.bytes) ≡ l.text.bytes };
+    ghost invariant = { λ l. flat_map line_ended (whole_lines l.text.bytes) ≡ l.text.bytes };
 }
 
 impl Lines {
@@ -52,16 +52,16 @@ impl Lines {
 
     /// How many bytes they have with their ends.
     pub fn size(&self) -> usize
-        ensures { result ≡ length (flat_map ended self.now) }
+        ensures { result ≡ length (flat_map line_ended self.now) }
     {
         self.text.as_slice().len()
     }
 
     /// Prints them.
     pub fn print(&self, out: &mut Text)
-        requires { length (flat_map ended self.now) ≤ out.old.room }
-        ensures bytes { out.new.bytes ≡ out.old.bytes ++ flat_map ended self.now }
-        ensures room { out.old.room ≤ out.new.room + length (flat_map ended self.now) }
+        requires { length (flat_map line_ended self.now) ≤ out.old.room }
+        ensures bytes { out.new.bytes ≡ out.old.bytes ++ flat_map line_ended self.now }
+        ensures room { out.old.room ≤ out.new.room + length (flat_map line_ended self.now) }
     {
         out.push(self.text.as_slice());
     }

@@ -2,14 +2,14 @@
 
 ghost use Rattle.std.specs.Prelude.{◌≡◌, ◌+◌, ◌*◌, ◌^◌, ◌<◌, ◌≤◌, ◌++◌, All, drop, length, map};
 ghost use Rattle.std.specs.List.{flat_map, sum_by};
-ghost use Rattle.bus_journal.specs.Reports.{ended};
+ghost use Rattle.bus_journal.specs.Reports.{line_ended};
 ghost use Rattle.i2c_base.specs.Fitting.{Fits, FitsReads};
 ghost use Rattle.i2c_base.specs.Limits as limits;
 ghost use Rattle.i2c_base.specs.Replies.{reply_by};
 ghost use Rattle.i2c_base.specs.Transfer.{HasRoom, size_of, with_message};
 ghost use Rattle.tools.specs.Combined.{IsCombinedInRange, IsDescInRange, IsOpInRange, bytes_of, length_of};
 ghost use Rattle.tools.specs.Dialogues.{AreReplies};
-ghost use Rattle.tools.specs.Transfers.{message_of, sent_by, with_messages, transfer_of, bytes_read, read_by, own_line, own_lines, reply_lines, transfers};
+ghost use Rattle.tools.specs.Transfers.{desc_message, sent_by, with_messages, transfer_of, count_read, count_read_by, own_line, own_lines, reply_lines, transfers};
 
 use crate::command::Combined;
 use crate::lists::{Desc, DescOp};
@@ -49,7 +49,7 @@ impl Messages {
     fn messages(&self) -> &[Desc]
         ensures value { result.now ≡ self.now.messages }
         ensures range { IsCombinedInRange self.now }
-        ensures few { sum_by read_by self.now.messages ≤ limits.MOST_BYTES }
+        ensures few { sum_by count_read_by self.now.messages ≤ limits.MOST_BYTES }
     {
         self.of.messages.as_slice()
     }
@@ -67,7 +67,7 @@ impl Messages {
     pub fn print(&self, replies: Window<'_>, out: &mut Text)
         requires fit { AreReplies (transfers self.now) 0 replies }
         requires room { (transfers self.now).most ≤ out.old.room }
-        ensures bytes { out.new.bytes ≡ out.old.bytes ++ flat_map ended ((transfers self.now).lines replies.entry) }
+        ensures bytes { out.new.bytes ≡ out.old.bytes ++ flat_map line_ended ((transfers self.now).lines replies.entry) }
         ensures room { out.old.room ≤ out.new.room + (transfers self.now).most }
     {
         match replies.get(0) {
@@ -80,7 +80,7 @@ impl Messages {
     fn push(&self, out: &mut Text, head: ReplyHead, bytes: &[u8])
         requires fits { Fits (transfer_of self.now) (reply_by head bytes.now) }
         requires room { (transfers self.now).most ≤ out.old.room }
-        ensures bytes { out.new.bytes ≡ out.old.bytes ++ flat_map ended (reply_lines self.now.messages (reply_by head bytes.now)) }
+        ensures bytes { out.new.bytes ≡ out.old.bytes ++ flat_map line_ended (reply_lines self.now.messages (reply_by head bytes.now)) }
         ensures room { out.old.room ≤ out.new.room + (transfers self.now).most }
     {
         match head {
@@ -104,7 +104,7 @@ impl Messages {
 
 // How many bytes a message reads.
 fn read_by(message: &Desc) -> usize
-    ensures value { result ≡ read_by message.now }
+    ensures value { result ≡ count_read_by message.now }
     ensures small { result < 2 ^ 16 }
 {
     match &message.op {
@@ -129,7 +129,7 @@ fn put_messages(messages: &[Desc], transfer: &mut Transfer)
 fn put_message(message: &Desc, transfer: &mut Transfer)
     requires range { IsOpInRange message.now.op }
     requires room { HasRoom transfer.old.msgs (length_of message.now.op) (length_of message.now.op) }
-    ensures { transfer.new ≡ with_message transfer.old (message_of message.now) (sent_by message.now) }
+    ensures { transfer.new ≡ with_message transfer.old (desc_message message.now) (sent_by message.now) }
 {
     match &message.op {
         DescOp::Read(len) => {
@@ -144,10 +144,10 @@ fn put_message(message: &Desc, transfer: &mut Transfer)
 // Prints a line for each read, of the bytes of all reads.
 fn push_lines(out: &mut Text, messages: &[Desc], bytes: &[u8])
     requires each { All IsDescInRange messages.now }
-    requires fits { FitsReads (map message_of messages.now) bytes.now }
-    requires room { 5 * sum_by read_by messages.now ≤ out.old.room }
-    ensures bytes { out.new.bytes ≡ out.old.bytes ++ flat_map ended (own_lines messages.now bytes.now) }
-    ensures room { out.old.room ≤ out.new.room + 5 * sum_by read_by messages.now }
+    requires fits { FitsReads (map desc_message messages.now) bytes.now }
+    requires room { 5 * sum_by count_read_by messages.now ≤ out.old.room }
+    ensures bytes { out.new.bytes ≡ out.old.bytes ++ flat_map line_ended (own_lines messages.now bytes.now) }
+    ensures room { out.old.room ≤ out.new.room + 5 * sum_by count_read_by messages.now }
 {
     let mut rest = bytes;
     for message in messages {
@@ -158,11 +158,11 @@ fn push_lines(out: &mut Text, messages: &[Desc], bytes: &[u8])
 // Prints the line of a message, if it reads, and tells what stands behind its own bytes.
 fn push_line<'b>(out: &mut Text, message: &Desc, bytes: &'b [u8]) -> &'b [u8]
     requires range { IsOpInRange message.now.op }
-    requires fits { bytes_read message.now.op ≤ length bytes.now }
-    requires room { 5 * bytes_read message.now.op ≤ out.old.room }
-    ensures behind { result.now ≡ drop (bytes_read message.now.op) bytes.now }
-    ensures bytes { out.new.bytes ≡ out.old.bytes ++ flat_map ended (own_line message.now.op bytes.now) }
-    ensures room { out.old.room ≤ out.new.room + 5 * bytes_read message.now.op }
+    requires fits { count_read message.now.op ≤ length bytes.now }
+    requires room { 5 * count_read message.now.op ≤ out.old.room }
+    ensures behind { result.now ≡ drop (count_read message.now.op) bytes.now }
+    ensures bytes { out.new.bytes ≡ out.old.bytes ++ flat_map line_ended (own_line message.now.op bytes.now) }
+    ensures room { out.old.room ≤ out.new.room + 5 * count_read message.now.op }
 {
     match &message.op {
         DescOp::Read(len) => {

@@ -2,10 +2,10 @@
 
 ghost use Rattle.std.specs.Prelude.{◌≡◌, ℕ, List, ◌+◌, ◌*◌, ◌<◌, ◌≤◌, ◌++◌, slice_get, if◌then◌else◌};
 ghost use Rattle.std.specs.List.{flat_map, list_any};
-ghost use Rattle.bus_journal.specs.Reports.{ended};
+ghost use Rattle.bus_journal.specs.Reports.{line_ended};
 ghost use Rattle.i2c_base.specs.Replies.{reply_by};
 ghost use Rattle.smb_emul.specs.Calls.{HasBlock, messages_of_call};
-ghost use Rattle.tools.specs.Scans.{first_probed, last_probed, probes, is_probed, is_received, probe_op, probe_call, is_absent, error_cell, answer_cell, scan_cell, scan_row, scan_table, scans};
+ghost use Rattle.tools.specs.Scans.{first_probed, last_probed, probes, is_probed, is_received, probe_op, probe_call, is_no_bus, error_cell, answer_cell, scan_cell, scan_row, scan_table, scans};
 ghost use Rattle.tools.specs.Tables.{parts, in_row};
 
 use crate::command::{Detect, Probe};
@@ -28,7 +28,7 @@ fn is_received(addr: u8) -> bool
 
 // The bus isn't there.
 fn is_absent(head: ReplyHead) -> bool
-    ensures { (bytes : List ℕ) → result ≡ is_absent (reply_by head bytes) }
+    ensures { (bytes : List ℕ) → result ≡ is_no_bus (reply_by head bytes) }
 {
     match head {
         ReplyHead::Err(errno) => errno.number() == 19,
@@ -38,7 +38,7 @@ fn is_absent(head: ReplyHead) -> bool
 
 // A reply says that the bus isn't there.
 fn any_absent(replies: &Window<'_>) -> bool
-    ensures { result ≡ list_any is_absent replies.now }
+    ensures { result ≡ list_any is_no_bus replies.now }
 {
     for place in 0..replies.len() {
         match replies.get(place) {
@@ -123,7 +123,7 @@ impl Detect {
 
     /// So many places are passed over behind a reply: none, and all where the bus isn't there.
     pub fn skips(&self, head: ReplyHead) -> u16
-        ensures value { (bytes : List ℕ) → result ≡ (if is_absent (reply_by head bytes) then probes self.now else 0) }
+        ensures value { (bytes : List ℕ) → result ≡ (if is_no_bus (reply_by head bytes) then probes self.now else 0) }
         ensures few { result ≤ 112 }
     {
         if is_absent(head) { self.probes() } else { 0 }
@@ -132,7 +132,7 @@ impl Detect {
     /// Prints the table of the replies, or that the bus isn't there.
     pub fn print(&self, replies: Window<'_>, out: &mut Text)
         requires { (scans self.now).most ≤ out.old.room }
-        ensures bytes { out.new.bytes ≡ out.old.bytes ++ flat_map ended ((scans self.now).lines replies.entry) }
+        ensures bytes { out.new.bytes ≡ out.old.bytes ++ flat_map line_ended ((scans self.now).lines replies.entry) }
         ensures room { out.old.room ≤ out.new.room + (scans self.now).most }
     {
         if any_absent(&replies) {
@@ -201,7 +201,7 @@ fn push_cells(out: &mut Text, replies: &Window<'_>, detect: &Detect, row: u8)
 fn push_row(out: &mut Text, replies: &Window<'_>, detect: &Detect, row: u8)
     requires row { row ≤ 112 }
     requires room { 52 ≤ out.old.room }
-    ensures bytes { out.new.bytes ≡ out.old.bytes ++ ended (scan_row detect.now replies.now row) }
+    ensures bytes { out.new.bytes ≡ out.old.bytes ++ line_ended (scan_row detect.now replies.now row) }
     ensures room { out.old.room ≤ out.new.room + 52 }
 {
     push_row_front(out, row);
@@ -213,7 +213,7 @@ fn push_row(out: &mut Text, replies: &Window<'_>, detect: &Detect, row: u8)
 // Prints the table.
 fn push_table(out: &mut Text, replies: &Window<'_>, detect: &Detect)
     requires { 9 * 52 ≤ out.old.room }
-    ensures bytes { out.new.bytes ≡ out.old.bytes ++ flat_map ended (scan_table detect.now replies.now) }
+    ensures bytes { out.new.bytes ≡ out.old.bytes ++ flat_map line_ended (scan_table detect.now replies.now) }
     ensures room { out.old.room ≤ out.new.room + 9 * 52 }
 {
     out.push(b"     0  1  2  3  4  5  6  7  8  9  a  b  c  d  e  f\n");

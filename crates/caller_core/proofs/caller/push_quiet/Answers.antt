@@ -2,7 +2,7 @@ use Rattle.std.proofs.Common.{◌≡◌, ℕ, ◌+◌, List, ◌++◌, drop, Som
 use Rattle.std.specs.Prelude.{slice_get}
 use Rattle.i2c_base.specs.declared.reply.Reply.{Reply}
 use Rattle.caller_core.specs.Scripts.{command_text, quiet_text}
-use Rattle.caller_core.specs.Turns.{talk, quiet}
+use Rattle.caller_core.specs.Turns.{command_talk, quiet}
 use Rattle.caller_core.specs.View.{CommandView}
 use Rattle.caller_core.proofs.QuietLemmas.{front_quiet, text_quiet, room_quiet}
 use Rattle.caller_core.proofs.TakeLemmas.{at_place}
@@ -14,7 +14,7 @@ loop-at-preserved c =
     let k : ℕ = c.loop-at.at in
     let read : CommandView = record { echo = c.get.result.1.now; run = c.get.result.0.now } in
     let is : slice_get cs k ≡ Some read = at_place cs k read (omega (arith, c.loop-at-test.true, c.len.ensures)) c.get.ensures in
-    let zero : (talk read).places ≡ 0 = omega (arith, c.places.ensures.value, c.if-places-gt0.false) in
+    let zero : (command_talk read).places ≡ 0 = omega (arith, c.places.ensures.value, c.if-places-gt0.false) in
     let was : List ℕ = c.loop-at.out.bytes in
     let room = room_quiet cs k read is zero in
     record {

@@ -9,7 +9,7 @@ use Rattle.i2c_spec.specs.Cost.{cost_of}
 use Rattle.i2c_spec.specs.Tree.{root_named}
 use Rattle.tools.specs.Dialogues.{Dialogue, transfers_of}
 use Rattle.tools.specs.Replies.{most_brought}
-use Rattle.caller_core.specs.Runs.{dialogue_of}
+use Rattle.caller_core.specs.Runs.{command_dialogue}
 use Rattle.caller_core.specs.Roots.{HasBits, names_root}
 use Rattle.caller_core.proofs.RootLemmas.{IsOneTransfer, named_bit, one_alike, transfer_bit, sums_none, sums_more}
 use Rattle.caller_core.proofs.totals.totals_of_command.Goals.{then-not-repeats, else-not-repeats}
@@ -18,7 +18,7 @@ use Rattle.caller_core.proofs.totals.totals_of_command.Goals as goal
 pub loop-place-preserved : goal.loop-place-preserved
 loop-place-preserved c =
     let b = c.args.board.now in
-    let d : Dialogue = dialogue_of c.args.run.now in
+    let d : Dialogue = command_dialogue c.args.run.now in
     let i : ℕ = c.loop-place.place in
     let t : TransferView = d.at i in
     let more : i < d.places - 0 = omega (arith, c.loop-place-test.true, c.places-place-end.ensures.value) in
@@ -45,7 +45,7 @@ loop-place-preserved c =
           (rw w.bill-is w.turn_to.ensures.bill, rw w.one-is one)
       | else-not-repeats w ↦
           let again : c.repeats.result ≡ true = grind (arith, common_steps, w.if-not-repeats.false) in
-          let before = c.loop-place.invariant.one (c.repeats.ensures.behind again) in
+          let before = c.loop-place.invariant.one (c.repeats.ensures.next_place again) in
           (rw w.bill-is c.loop-place.invariant.bill, rw w.one-is (one_alike b (d.at (i - 1)) t _ (c.repeats.ensures.alike again) before))
     ] in
     let last : i ≡ i + 1 - 1 = omega arith in
@@ -57,7 +57,7 @@ loop-place-preserved c =
 
 pub loop-place-init : goal.loop-place-init
 loop-place-init c = record {
-  sums = sums_none _ _ _ _ _ _ _ (transfers_of (dialogue_of c.args.run.now));
+  sums = sums_none _ _ _ _ _ _ _ (transfers_of (command_dialogue c.args.run.now));
   bill = c.requires;
   one = λ some. absurd (omega (arith, some));
 }
@@ -71,21 +71,21 @@ summed d i past = take_all i (transfers_of d) (omega (arith, past, length-map-ra
 
 pub returns-clause-cost : goal.returns-clause-cost
 returns-clause-cost c =
-    let all = summed (dialogue_of c.args.run.now) c.loop-place.place (omega (arith, c.loop-place-test.false, c.places-place-end.ensures.value)) in
+    let all = summed (command_dialogue c.args.run.now) c.loop-place.place (omega (arith, c.loop-place-test.false, c.places-place-end.ensures.value)) in
     c.loop-place.invariant.sums.cost ∙ ap (sum_by (cost_of c.args.board.now)) all
 
 pub returns-clause-replies : goal.returns-clause-replies
 returns-clause-replies c =
-    let all = summed (dialogue_of c.args.run.now) c.loop-place.place (omega (arith, c.loop-place-test.false, c.places-place-end.ensures.value)) in
+    let all = summed (command_dialogue c.args.run.now) c.loop-place.place (omega (arith, c.loop-place-test.false, c.places-place-end.ensures.value)) in
     c.loop-place.invariant.sums.replies ∙ ap (sum_by (λ t. 1)) all
 
 pub returns-clause-bytes : goal.returns-clause-bytes
 returns-clause-bytes c =
-    let all = summed (dialogue_of c.args.run.now) c.loop-place.place (omega (arith, c.loop-place-test.false, c.places-place-end.ensures.value)) in
+    let all = summed (command_dialogue c.args.run.now) c.loop-place.place (omega (arith, c.loop-place-test.false, c.places-place-end.ensures.value)) in
     c.loop-place.invariant.sums.bytes ∙ ap (sum_by most_brought) all
 
 pub returns-clause-roots : goal.returns-clause-roots
 returns-clause-roots c =
-    let all = summed (dialogue_of c.args.run.now) c.loop-place.place (omega (arith, c.loop-place-test.false, c.places-place-end.ensures.value)) in
+    let all = summed (command_dialogue c.args.run.now) c.loop-place.place (omega (arith, c.loop-place-test.false, c.places-place-end.ensures.value)) in
     subst (λ (ts : List TransferView). HasBits (names_root c.args.board.now) ts c.loop-place.totals.roots) all
     c.loop-place.invariant.sums.roots

@@ -1,5 +1,5 @@
 use Rattle.std.proofs.Common.{◌≡◌, ◌≤◌, length, drop, vec_capacity}
-use Rattle.i2c_boardtext.specs.BoardText.{each, root_of, roots_of}
+use Rattle.i2c_boardtext.specs.BoardText.{each, root_in_table, roots_of}
 use Rattle.i2c_boardtext.specs.Rows.{rows_of}
 use Rattle.i2c_boardtext.specs.declared.fault.TableName.TheVariants.{Root}
 use Rattle.i2c_boardtext.proofs.root.roots_of.Given as goal
@@ -9,5 +9,5 @@ abbrev pub invariant-loop-value : goal.invariant-loop-value
 invariant-loop-value l = record {
   count : length l.roots.items ≡ l.value-index;
   room : length l.rows ≤ vec_capacity l.roots;
-  told : each Root (λ before. root_of) l.roots.items (rows_of (drop l.value-index l.rows)) ≡ roots_of (rows_of l.rows);
+  told : each Root (λ before. root_in_table) l.roots.items (rows_of (drop l.value-index l.rows)) ≡ roots_of (rows_of l.rows);
 }

@@ -3,12 +3,12 @@ use Rattle.std.specs.Prelude.{slice_get, sum_by}
 use Rattle.std.proofs.Math.Seq.{drop-drop}
 use Rattle.i2c_base.specs.declared.reply.Reply.{Reply}
 use Rattle.i2c_base.specs.Replies.{reply_by}
-use Rattle.tools.specs.Dialogues.{AreReplies, behind}
+use Rattle.tools.specs.Dialogues.{AreReplies, next_place}
 use Rattle.tools.specs.Replies.{replies_of}
 use Rattle.tools.specs.View.{TextView}
 use Rattle.caller_core.specs.Kept.{IsCaller, HasRoom}
 use Rattle.caller_core.specs.Scripts.{command_text, quiet_text, room_of}
-use Rattle.caller_core.specs.Turns.{talk, quiet_front}
+use Rattle.caller_core.specs.Turns.{command_talk, quiet_front}
 use Rattle.caller_core.specs.View.{CommandView, ScriptView}
 use Rattle.caller_core.proofs.QuietLemmas.{front_parts, sum_there}
 use Rattle.caller_core.proofs.TakeLemmas.{IsTaking, given_by, at_place, taking, ready_to_take, has_place, has_room, replies_so, stays_so, stays_room, goes_on, goes_room, covered}
@@ -47,7 +47,7 @@ module _ (c : After-get) where
   there = let s = c.self.inside in at_place s.commands s.turn command taken.within c.get.ensures
 
   -- the replies that it has
-  told : AreReplies (talk command) 0 (drop c.self.inside.from (replies_of c.push.new.self.items))
+  told : AreReplies (command_talk command) 0 (drop c.self.inside.from (replies_of c.push.new.self.items))
   told =
       let s = c.self.inside in
       replies_so script s.commands s.taken s.printed s.turn s.from s.place s.totals reply c.self.invariant.0 room taken
@@ -55,7 +55,7 @@ module _ (c : After-get) where
       c.push.ensures.items c.push.ensures.room c.push.ensures.room_bytes
 
   -- where it stands with the reply: at a further place of the same command, or behind that command
-  further : (next : ℕ) → next ≡ behind (talk command) c.self.inside.place reply → next < (talk command).places
+  further : (next : ℕ) → next ≡ next_place (command_talk command) c.self.inside.place reply → next < (command_talk command).places
       → IsCaller script c.self.inside.commands c.push.new.self.items c.self.inside.printed.bytes c.self.inside.turn c.self.inside.from next
       c.self.inside.totals
   further =
@@ -64,7 +64,7 @@ module _ (c : After-get) where
       command there c.args.head c.args.bytes.now c.push.new.self refl (given_by c.args.head c.args.bytes.now c.requires.few)
       c.push.ensures.items c.push.ensures.room c.push.ensures.room_bytes
 
-  over : (text : TextView) (next end to : ℕ) → next ≡ behind (talk command) c.self.inside.place reply → (talk command).places ≤ next
+  over : (text : TextView) (next end to : ℕ) → next ≡ next_place (command_talk command) c.self.inside.place reply → (command_talk command).places ≤ next
       → end ≡ length c.push.new.self.items
       → to ≡ c.self.inside.turn + 1 + quiet_front (drop (c.self.inside.turn + 1) c.self.inside.commands)
       → text.bytes ≡ (c.self.inside.printed.bytes

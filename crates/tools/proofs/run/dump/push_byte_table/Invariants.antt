@@ -1,6 +1,6 @@
 use Rattle.std.proofs.Common.{◌≡◌, ◌≤◌, ◌+◌, ◌*◌, ◌++◌, ◌∷◌, codes}
 use Rattle.std.specs.List.{flat_map}
-use Rattle.bus_journal.specs.Reports.{ended}
+use Rattle.bus_journal.specs.Reports.{line_ended}
 use Rattle.tools.specs.DumpTables.{byte_line}
 use Rattle.tools.specs.Tables.{parts, heading}
 use Rattle.tools.proofs.run.dump.push_byte_table.Given as goal
@@ -9,6 +9,6 @@ abbrev pub invariant-loop-row : goal.invariant-loop-row
 invariant-loop-row l =
     record {
       same : l.out.bytes ≡ l.fn.out.bytes
-          ++ flat_map ended ((heading ++ codes "    0123456789abcdef") ∷ parts (byte_line l.dump l.replies) l.row);
+          ++ flat_map line_ended ((heading ++ codes "    0123456789abcdef") ∷ parts (byte_line l.dump l.replies) l.row);
       room : l.fn.out.room ≤ l.out.room + 72 * (l.row + 1);
     }

@@ -1,18 +1,18 @@
 use Rattle.std.proofs.Common.{◌≡◌, ◌+◌, ◌*◌, ◌≤◌, ◌++◌, drop, map}
 use Rattle.std.specs.Prelude.{All}
 use Rattle.std.specs.List.{flat_map, sum_by}
-use Rattle.bus_journal.specs.Reports.{ended}
+use Rattle.bus_journal.specs.Reports.{line_ended}
 use Rattle.i2c_base.specs.Fitting.{FitsReads}
 use Rattle.tools.specs.Combined.{IsDescInRange}
-use Rattle.tools.specs.Transfers.{message_of, read_by, own_lines}
+use Rattle.tools.specs.Transfers.{desc_message, count_read_by, own_lines}
 use Rattle.tools.proofs.run.messages.push_lines.Given as goal
 
 abbrev pub invariant-loop-message : goal.invariant-loop-message
 invariant-loop-message l =
     record {
-      same : l.out.bytes ++ flat_map ended (own_lines (drop l.message-index l.messages) l.rest)
-          ≡ l.fn.out.bytes ++ flat_map ended (own_lines l.messages l.bytes);
+      same : l.out.bytes ++ flat_map line_ended (own_lines (drop l.message-index l.messages) l.rest)
+          ≡ l.fn.out.bytes ++ flat_map line_ended (own_lines l.messages l.bytes);
       each : All IsDescInRange (drop l.message-index l.messages);
-      fits : FitsReads (map message_of (drop l.message-index l.messages)) l.rest;
-      room : l.fn.out.room + 5 * sum_by read_by (drop l.message-index l.messages) ≤ l.out.room + 5 * sum_by read_by l.messages;
+      fits : FitsReads (map desc_message (drop l.message-index l.messages)) l.rest;
+      room : l.fn.out.room + 5 * sum_by count_read_by (drop l.message-index l.messages) ≤ l.out.room + 5 * sum_by count_read_by l.messages;
     }

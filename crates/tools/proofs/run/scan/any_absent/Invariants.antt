@@ -1,7 +1,7 @@
 use Rattle.std.proofs.Common.{◌≡◌, drop}
 use Rattle.std.specs.List.{list_any}
-use Rattle.tools.specs.Scans.{is_absent}
+use Rattle.tools.specs.Scans.{is_no_bus}
 use Rattle.tools.proofs.run.scan.any_absent.Given as goal
 
 abbrev pub invariant-loop-place : goal.invariant-loop-place
-invariant-loop-place l = list_any is_absent (drop l.place l.replies) ≡ list_any is_absent l.replies
+invariant-loop-place l = list_any is_no_bus (drop l.place l.replies) ≡ list_any is_no_bus l.replies

@@ -1,6 +1,6 @@
 use Rattle.std.proofs.Common.{◌≡◌, ◌≤◌, ◌+◌, ◌*◌, ◌++◌, ◌∷◌}
 use Rattle.std.specs.List.{flat_map}
-use Rattle.bus_journal.specs.Reports.{ended}
+use Rattle.bus_journal.specs.Reports.{line_ended}
 use Rattle.tools.specs.Scans.{scan_line}
 use Rattle.tools.specs.Tables.{parts, heading}
 use Rattle.tools.proofs.run.scan.push_table.Given as goal
@@ -8,6 +8,6 @@ use Rattle.tools.proofs.run.scan.push_table.Given as goal
 abbrev pub invariant-loop-row : goal.invariant-loop-row
 invariant-loop-row l =
     record {
-      same : l.out.bytes ≡ l.fn.out.bytes ++ flat_map ended (heading ∷ parts (scan_line l.detect l.replies) l.row);
+      same : l.out.bytes ≡ l.fn.out.bytes ++ flat_map line_ended (heading ∷ parts (scan_line l.detect l.replies) l.row);
       room : l.fn.out.room ≤ l.out.room + 52 * (l.row + 1);
     }
