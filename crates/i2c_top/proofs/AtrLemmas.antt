@@ -3,7 +3,9 @@ use Rattle.std.proofs.Common.{◌≡◌, ℕ, ◌+◌, ◌<◌, ◌≤◌, ◌�
 use Rattle.std.specs.Prelude.{IfOk, OnOk, IfErr}
 use Rattle.std.proofs.lemmas.List.{take_all}
 use Rattle.caller_core.specs.View.{CallerView}
+use Rattle.i2c_base.specs.declared.port.PortCall.{PortCall}
 use Rattle.i2c_base.specs.Board.{BoardView}
+use Rattle.i2c_spec.specs.Targets.{TargetState}
 use Rattle.addr_atr.specs.Maps.{MapView}
 use Rattle.addr_atr.specs.MapTexts.{IsMapOf}
 use Rattle.addr_atr.specs.declared.fault.MapFault.{MapFault}
@@ -11,13 +13,13 @@ use Rattle.addr_atr.specs.declared.fault.MapFault.TheVariants as fault
 use Rattle.ports.specs.Causes.{Rose, counted}
 use Rattle.i2c_top.specs.Endings.{CameToRefusal, CameToSuccess, HasEndedAs}
 use Rattle.i2c_top.specs.Files.{Files}
-use Rattle.i2c_top.specs.Form.{KeepsShelf}
+use Rattle.i2c_top.specs.Form.{TellsItsFiles, KeepsShelf}
 use Rattle.i2c_top.specs.MapFiles.{HasBadMap}
-use Rattle.i2c_top.specs.Readings.{AreScriptsIn, HasReadMap, IsAcceptedIn, IsMapIn, IsRejectedIn, IsRefusedAt, IsRefusedScript, IsScheduleIn, IsBadBoard, IsBadMap, IsBadSchedule, IsTooDear}
+use Rattle.i2c_top.specs.Readings.{AreScriptsIn, HasReadMap, HasReadSomeMap, IsAcceptedIn, IsMapIn, IsRejectedIn, IsRefusedAt, IsRefusedScript, IsScheduleIn, IsBadBoard, IsBadMap, IsBadSchedule, IsTooDear}
 use Rattle.i2c_top.specs.Runs.{MOST_COST, cost_of_texts, texts_of}
 use Rattle.i2c_top.specs.Scripts.{script_name, HasBadSchedule, HasBadScript, HasScripts, texts_in}
 use Rattle.i2c_top.specs.Traces.{ShelfView, RigView, Outside, KeepsBut, IsAtMostOnce, IsUntouched}
-use Rattle.i2c_top.specs.forms.Atrs.{AtrNames, HasAtrFiles, HasAtrRun, HasAtrTexts, HasMapped, HasTranslated, IsAtrAfter, IsAtrPlace, as_run, atr_form}
+use Rattle.i2c_top.specs.forms.Atrs.{AtrNames, HasAtrFiles, HasAtrReport, HasAtrRun, HasAtrTexts, HasMapped, HasTranslated, IsAtrAfter, IsAtrPlace, as_run, atr_form}
 use Rattle.i2c_top.specs.forms.Replays.{HasScriptsBefore}
 use Rattle.i2c_top.specs.declared.status.Status.{Status}
 use Rattle.i2c_top.specs.declared.status.Status.TheVariants as status
@@ -102,6 +104,10 @@ has_atr_texts file names b m texts words read =
 untouched : (rig : RigView) → IsUntouched rig rig
 untouched rig = record { plugs = refl; unplugs = refl }
 
+-- the board is read, so the shelf tells it where it tells the files that are read
+when : (names : AtrNames) (shelf : ShelfView) {X : Type 0} → (IsTrue shelf.tells → X) → TellsItsFiles (atr_form names) shelf → X
+when names shelf f t = f (t 1 (record { first = omega arith; last = omega arith }))
+
 -- ---- files that were not read, or refused
 module _ (names : AtrNames) (shelf shelf_now : ShelfView) (rig : RigView) (kept : KeepsShelf (atr_form names) shelf shelf_now) where
   abbrev Refused : Status → Type 0
@@ -116,12 +122,12 @@ module _ (names : AtrNames) (shelf shelf_now : ShelfView) (rig : RigView) (kept 
   board_told s others refused =
       elim refused [
         | inl h ↦ subst Refused (sym h.0)
-            (file_unread (atr_form names) shelf shelf_now rig 1 (λ t. inl refl)
+            (file_unread (atr_form names) shelf shelf_now rig 1 (when names shelf (λ t. inl refl))
             (record { named = record { first = omega arith; last = omega arith }; rose = h.1 })
             (λ other after. others other (after_first other after)) kept)
         | inr (inl m) ↦ subst Refused (sym m) starved
         | inr (inr b) ↦ subst Refused (sym b.same)
-            (text_refused (atr_form names) shelf shelf_now rig (status.Board b.why) refl b.is_bad tt
+            (text_refused (atr_form names) shelf shelf_now rig (status.Board b.why) refl (when names shelf b.is_bad) tt
             (λ other after. others other (after_first other after)) kept)
       ]
 
@@ -135,7 +141,7 @@ module _ (names : AtrNames) (shelf shelf_now : ShelfView) (rig : RigView) (kept 
       elim r.refused [
         | inl h ↦ subst Refused (sym h.0)
             (file_unread (atr_form names) shelf shelf_now rig (4 + r.caller)
-            (λ t. inr (inl (record { caller = r.caller; at = refl; earlier = earlier t })))
+            (when names shelf (λ t. inr (inl (record { caller = r.caller; at = refl; earlier = earlier t }))))
             (record {
               named = record { first = omega arith; last = (let low = r.known in omega (arith, low)) };
               rose = subst (λ (k : ℕ). Rose k (shelf_now.faults (4 + r.caller))) (others (4 + r.caller) (λ e. absurd (omega (arith, e)))) h.1;
@@ -143,11 +149,11 @@ module _ (names : AtrNames) (shelf shelf_now : ShelfView) (rig : RigView) (kept 
         | inr (inl m) ↦ subst Refused (sym m) starved
         | inr (inr n) ↦ subst Refused (sym n.same)
             (text_refused (atr_form names) shelf shelf_now rig (status.Script r.caller n.line n.word) refl
-            (λ t. (
+            (when names shelf (λ t. (
               earlier t,
               subst (λ k. HasBadScript shelf.file k (script_name names.scripts r.caller) n.line n.word) (board t).same
                   (same_bad shelf.file mid.file b (script_name names.scripts r.caller) n.line n.word same (n.is_bad t)),
-            )) tt rest kept)
+            ))) tt rest kept)
       ]
     where
       earlier : IsTrue shelf.tells → HasScriptsBefore shelf.file (as_run names) r.caller
@@ -180,7 +186,7 @@ module _ (names : AtrNames) (shelf shelf_now : ShelfView) (rig : RigView) (kept 
   map_told b mid s same others behind board scripts refused =
       elim refused [
         | inl h ↦ subst Refused (sym h.0)
-            (file_unread (atr_form names) shelf shelf_now rig 2 (λ t. inr (inr (inl (refl, (board t).has, on t))))
+            (file_unread (atr_form names) shelf shelf_now rig 2 (when names shelf (λ t. inr (inr (inl (refl, (board t).has, on t)))))
             (record {
               named = record { first = omega arith; last = omega arith };
               rose = subst (λ (k : ℕ). Rose k (shelf_now.faults 2)) (others 2 (omega arith) (λ e. absurd (omega (arith, e)))) h.1;
@@ -188,12 +194,12 @@ module _ (names : AtrNames) (shelf shelf_now : ShelfView) (rig : RigView) (kept 
         | inr (inl m) ↦ subst Refused (sym m) starved
         | inr (inr n) ↦ subst Refused (sym n.same)
             (text_refused (atr_form names) shelf shelf_now rig (status.Map n.fault) refl
-            (λ t. (
+            (when names shelf (λ t. (
               (board t).has,
               on t,
               subst (λ k. HasBadMap shelf.file k names.map n.fault) (board t).same
                   (same_bad_map shelf.file mid.file b names.map n.fault same (n.is_bad.1 t)),
-            )) n.is_bad.0 rest kept)
+            ))) n.is_bad.0 rest kept)
       ]
     where
       on : (t : IsTrue shelf.tells) → HasScripts shelf.file (board t).has.board names.scripts (length names.scripts)
@@ -214,7 +220,7 @@ module _ (names : AtrNames) (shelf shelf_now : ShelfView) (rig : RigView) (kept 
   word_told b m mid callers s same was board scripts map count refused =
       elim refused [
         | inl h ↦ subst Refused (sym h.0)
-            (file_unread (atr_form names) shelf shelf_now rig 3 (λ t. inr (inr (inr (refl, mapped t))))
+            (file_unread (atr_form names) shelf shelf_now rig 3 (when names shelf (λ t. inr (inr (inr (refl, mapped t)))))
             (record {
               named = record { first = omega arith; last = omega arith };
               rose = subst (λ (k : ℕ). Rose k (shelf_now.faults 3)) was h.1;
@@ -222,11 +228,11 @@ module _ (names : AtrNames) (shelf shelf_now : ShelfView) (rig : RigView) (kept 
         | inr (inl e) ↦ subst Refused (sym e) starved
         | inr (inr n) ↦ subst Refused (sym n.same)
             (text_refused (atr_form names) shelf shelf_now rig (status.Schedule n.word) refl
-            (λ t. let h = n.is_bad t in (
+            (when names shelf (λ t. let h = n.is_bad t in (
               mapped t,
               subst (λ k. HasBadSchedule shelf.file names.schedule k n.word) count
                   (record { text = h.text; there = sym (same names.schedule) ∙ h.there; fault = h.fault }),
-            )) tt (λ other no. absurd no) kept)
+            ))) tt (λ other no. absurd no) kept)
       ]
     where
       mapped : IsTrue shelf.tells → HasMapped shelf.file names
@@ -238,45 +244,61 @@ module _ (names : AtrNames) (shelf shelf_now : ShelfView) (rig : RigView) (kept 
   cost_told b m texts words s read d =
       subst Refused (sym d.same)
       (text_refused (atr_form names) shelf shelf_now rig (status.Cost (cost_of_texts b texts)) refl
-      (λ t. record {
+      (when names shelf (λ t. record {
         texts = has_atr_texts shelf.file names b m texts words (read t);
         same = ap (λ (k : BoardView). cost_of_texts k texts) (read t).board_in.same
             ∙ ap (cost_of_texts (read t).board_in.has.board) (read t).texts_are;
         dear = d.dear;
-      }) d.dear (λ place no. absurd no) kept)
+      })) d.dear (λ place no. absurd no) kept)
 
--- ---- a run of files that were read, over the rig
+-- ---- files that were read
+module _ (file : Files) (names : AtrNames) (b : BoardView) (m : MapView) (texts : List (List ℕ)) (words : List ℕ)
+    (read : HasReadMap file names b m texts words) (cheap : cost_of_texts b texts ≤ MOST_COST) where
+  files_of : HasAtrFiles file names
+  files_of = record {
+    texts = has_atr_texts file names b m texts words read;
+    cheap = subst (λ (n : ℕ). n ≤ MOST_COST)
+        (ap (λ (k : BoardView). cost_of_texts k texts) read.board_in.same ∙ ap (cost_of_texts read.board_in.has.board) read.texts_are) cheap;
+  }
+
+  -- a run of them is the report that they ask for
+  report_of_files : (bytes : List ℕ) (logs : List (List PortCall)) (states : List TargetState) (counts : List ℕ)
+      → HasAtrRun m texts words bytes logs states counts → HasAtrReport file names bytes logs states counts
+  unfolding files_of
+  report_of_files bytes logs states counts run = record {
+    files = files_of;
+    run = subst (λ (k : MapView). HasAtrRun k (texts_in file names.scripts) read.words_in.has.words bytes logs states counts) read.map_in.same
+        (subst (λ (ws : List ℕ). HasAtrRun m (texts_in file names.scripts) ws bytes logs states counts) read.words_in.same
+        (subst (λ (ts : List (List ℕ)). HasAtrRun m ts words bytes logs states counts) read.texts_are run));
+  }
+
+-- ---- a run of them, over the rig
 module _ (names : AtrNames) (shelf shelf_now : ShelfView) (rig rig_now : RigView) (b : BoardView) (m : MapView) (texts : List (List ℕ))
-    (words : List ℕ) (read : IsTrue shelf.tells → HasReadMap shelf.file names b m texts words) (cheap : cost_of_texts b texts ≤ MOST_COST)
+    (words : List ℕ) (some : HasReadSomeMap names b m texts words) (read : IsTrue shelf.tells → HasReadMap shelf.file names b m texts words)
+    (cheap : cost_of_texts b texts ≤ MOST_COST)
     (kept : KeepsShelf (atr_form names) shelf shelf_now) (plugs : rig_now.plugs ≡ counted rig.plugs) (unplugged : rig_now.plugged ≡ false) where
   files : IsTrue shelf.tells → HasAtrFiles shelf.file names
-  files t = record {
-    texts = has_atr_texts shelf.file names b m texts words (read t);
-    cheap = subst (λ (n : ℕ). n ≤ MOST_COST)
-        (ap (λ (k : BoardView). cost_of_texts k texts) (read t).board_in.same
-        ∙ ap (cost_of_texts (read t).board_in.has.board) (read t).texts_are) cheap;
-  }
+  files t = files_of shelf.file names b m texts words (read t) cheap
 
   -- one that ended is a success of the form by its report
   pub atr_done : {X : Type 0} (r : Result X Status) (bytes_of : X → List ℕ) → OnOk r (rig_now.unplugs ≡ counted rig.unplugs)
       → (IsTrue rig_now.tells → IsTrue rig_now.ports_tell
       → IfOk r (λ x. HasAtrRun m texts words (bytes_of x) rig_now.logs rig_now.states rig_now.counts))
       → IfOk r (λ x. CameToSuccess (atr_form names) shelf shelf_now rig rig_now (bytes_of x))
-  unfolding files
   atr_done (Ok x) bytes_of unplugs run =
-      came_to_success (atr_form names) shelf shelf_now rig rig_now (bytes_of x) files
+      came_to_success (atr_form names) shelf shelf_now rig rig_now (bytes_of x) (when names shelf files)
       (record { plugs = plugs; unplugs = unplugs; unplugged = unplugged })
       (record {
-        by_files = λ t tells ports. record {
-          files = files t;
-          run = subst (λ (k : MapView). HasAtrRun k (texts_in shelf.file names.scripts) (read t).words_in.has.words (bytes_of x)
-              rig_now.logs rig_now.states rig_now.counts) (read t).map_in.same
-              (subst (λ (ws : List ℕ). HasAtrRun m (texts_in shelf.file names.scripts) ws (bytes_of x) rig_now.logs rig_now.states rig_now.counts)
-              (read t).words_in.same
-              (subst (λ (ts : List (List ℕ)). HasAtrRun m ts words (bytes_of x) rig_now.logs rig_now.states rig_now.counts) (read t).texts_are
-              (run tells ports)));
+        by_files = λ t tells ports.
+            report_of_files shelf.file names b m texts words (read t) cheap (bytes_of x) rig_now.logs rig_now.states rig_now.counts (run tells ports);
+        by_rig = record {
+          file = some.file;
+          called = some.called;
+          like = some.like;
+          so = λ tells ports.
+              report_of_files some.file some.called b m texts words some.so cheap (bytes_of x) rig_now.logs rig_now.states rig_now.counts
+              (run tells ports);
         };
-        by_rig = λ tells ports. record { map = m; texts = texts; words = words; run = run tells ports };
       }) kept
   atr_done (Err e) bytes_of unplugs run = tt
 
@@ -286,7 +308,7 @@ module _ (names : AtrNames) (shelf shelf_now : ShelfView) (rig rig_now : RigView
       → (r ≡ Err status.Rig → Rose rig.faults rig_now.faults) → IfErr r (λ e. (e ≡ status.Rig) ⊎ (e ≡ status.Memory))
       → IfErr r (CameToRefusal (atr_form names) shelf shelf_now rig rig_now)
   atr_failed r unplugs once rose failed =
-      run_refused (atr_form names) shelf shelf_now rig rig_now r refl files kept plugs unplugged unplugs once rose failed
+      run_refused (atr_form names) shelf shelf_now rig rig_now r refl (when names shelf files) kept plugs unplugged unplugs once rose failed
 
 -- a success was the report
 pub ended_translated : (names : AtrNames) (old new : Outside) (result : Status) → HasEndedAs (atr_form names) old new result

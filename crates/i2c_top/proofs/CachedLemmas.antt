@@ -1,22 +1,22 @@
 -- How a call of `cached` ends: its report, and what its status tells. No induction.
-use Rattle.std.proofs.Common.{◌≡◌, ℕ, ◌≤◌, false, IsTrue, IsSome, List, [], length, Option, Some, Result, Ok, Err, sym, ◌∙◌, subst}
+use Rattle.std.proofs.Common.{◌≡◌, ℕ, ◌≤◌, false, IsTrue, IsSome, List, [], Option, Some, Result, Ok, Err, sym, ◌∙◌, subst}
 use Rattle.std.specs.Prelude.{IfOk, OnOk, unwrap_or}
 use Rattle.i2c_base.specs.declared.port.PortCall.{PortCall}
 use Rattle.i2c_base.specs.Board.{BoardView}
 use Rattle.i2c_spec.specs.Targets.{TargetState}
 use Rattle.ports.specs.Causes.{counted}
 use Rattle.i2c_top.specs.Endings.{CameToSuccess, HasEndedAs}
-use Rattle.i2c_top.specs.Readings.{HasRead}
+use Rattle.i2c_top.specs.Readings.{HasRead, HasReadSome}
 use Rattle.i2c_top.specs.Files.{Files}
 use Rattle.i2c_top.specs.Form.{KeepsShelf}
-use Rattle.i2c_top.specs.forms.Caches.{cached_form, HasCached, HasCachedReport, HasCachedRun}
+use Rattle.i2c_top.specs.forms.Caches.{cached_form, HasCached, HasCachedReport, HasCachedRun, IsCachedAnswer}
 use Rattle.i2c_top.specs.forms.Replays.{Names}
 use Rattle.i2c_top.specs.Runs.{cost_of_texts, MOST_COST}
 use Rattle.i2c_top.specs.Traces.{ShelfView, RigView, Outside}
 use Rattle.i2c_top.specs.declared.status.Status.{Status}
 use Rattle.i2c_top.specs.declared.status.Status.TheVariants as status
 use Rattle.i2c_top.proofs.EndingLemmas.{came_to_success}
-use Rattle.i2c_top.proofs.ReplayLemmas.{has_files, read_order}
+use Rattle.i2c_top.proofs.ReplayLemmas.{has_files, order_of_some, when}
 
 -- the run of what was read is the report that the files ask for
 has_report : (file : Files) (names : Names) (b : BoardView) (texts : List (List ℕ)) (words : Option (List ℕ)) (listed bytes : List ℕ)
@@ -37,7 +37,7 @@ has_report file names b texts words listed bytes logs states counts read cheap s
 
 -- a run of files that were read, over the rig
 module _ (names : Names) (shelf shelf_now : ShelfView) (rig rig_now : RigView) (b : BoardView) (texts : List (List ℕ))
-    (words : Option (List ℕ))
+    (words : Option (List ℕ)) (some : HasReadSome names b texts words)
     (read : IsTrue shelf.tells → HasRead shelf.file names b texts words) (cheap : cost_of_texts b texts ≤ MOST_COST)
     (kept : KeepsShelf (cached_form names) shelf shelf_now) (plugs : rig_now.plugs ≡ counted rig.plugs)
     (unplugged : rig_now.plugged ≡ false) where
@@ -47,17 +47,24 @@ module _ (names : Names) (shelf shelf_now : ShelfView) (rig rig_now : RigView) (
       → (IsTrue rig_now.tells → IsTrue rig_now.ports_tell
       → IfOk r (λ x. HasCachedRun b texts (unwrap_or words []) (bytes_of x) rig_now.logs rig_now.states rig_now.counts))
       → IfOk r (λ x. CameToSuccess (cached_form names) shelf shelf_now rig rig_now (bytes_of x))
-  cached_done (Ok x) bytes_of some unplugs run =
+  cached_done (Ok x) bytes_of scheduled unplugs run =
       came_to_success (cached_form names) shelf shelf_now rig rig_now (bytes_of x)
-      (λ t. has_files shelf.file names b texts words (read t) cheap)
+      (when names IsCachedAnswer shelf (λ t. has_files shelf.file names b texts words (read t) cheap))
       (record { plugs = plugs; unplugs = unplugs; unplugged = unplugged })
       (record {
         by_files = λ t tells ports.
             has_report shelf.file names b texts words (unwrap_or words []) (bytes_of x) rig_now.logs rig_now.states rig_now.counts (read t)
-            cheap (read_order shelf.file names.schedule (length names.scripts) words some (read t).order_in) (run tells ports);
-        by_rig = λ tells ports. record { board = b; texts = texts; words = unwrap_or words []; run = run tells ports };
+            cheap (order_of_some names b texts words some scheduled) (run tells ports);
+        by_rig = record {
+          file = some.file;
+          called = some.called;
+          like = some.like;
+          so = λ tells ports.
+              has_report some.file some.called b texts words (unwrap_or words []) (bytes_of x) rig_now.logs rig_now.states rig_now.counts
+              some.so cheap (order_of_some names b texts words some scheduled) (run tells ports);
+        };
       }) kept
-  cached_done (Err e) bytes_of some unplugs run = tt
+  cached_done (Err e) bytes_of scheduled unplugs run = tt
 
 -- a success was the report
 pub ended_cached : (names : Names) (old new : Outside) (result : Status) → HasEndedAs (cached_form names) old new result

@@ -12,7 +12,7 @@ use Rattle.i2c_base.specs.declared.entry.Entry.{Entry}
 use Rattle.i2c_base.specs.declared.port.PortCall.{PortCall}
 use Rattle.i2c_base.specs.declared.reply.Reply.{Reply}
 use Rattle.i2c_base.specs.Board.{BoardView}
-use Rattle.i2c_spec.specs.History.{Asks, History}
+use Rattle.i2c_spec.specs.History.{Asks}
 use Rattle.i2c_spec.specs.Targets.{TargetState}
 use Rattle.i2c_spec.proofs.AddressLemmas.{tree_of}
 use Rattle.bus_spec.specs.Legal.{KeepsReplies}
@@ -193,15 +193,12 @@ cached-replayed : (b : BoardView) (texts : List (List ℕ)) (logs : List (List P
     → IsReplayed b (cached_texts b texts) (is_kept_by_some b texts) (length texts) (reverse journal) states
 cached-replayed b texts logs states counts journal run =
     subst (λ (xs : List TargetState). IsReplayed b (cached_texts b texts) (is_kept_by_some b texts) (length texts) (reverse journal) xs)
-    (ap (λ (h : History). h.states) told_is ∙ sym run.left)
+    (sym run.left)
     (full-replayed b (tree_of b run.plain run.rules) (cached_texts b texts) (is_kept_by_some b texts)
     (may-be-cached b (tree_of b run.plain run.rules) texts (asks-touch b texts)) (length texts) (reverse journal) kept.told kept.defined kept.same)
   where
     kept : KeepsReplies b (cached_asks (cached_texts b texts)) (reverse journal)
     kept = run.legal.replies_kept
-
-    told_is : kept.told ≡ run.told
-    told_is = (let f : Some kept.told ≡ Some run.told = sym kept.defined ∙ run.replayed in cc)
 
 -- THE RUN of cached callers
 pub cached-run : (b : BoardView) (texts : List (List ℕ)) (words bytes : List ℕ) (logs : List (List PortCall)) (states : List TargetState)

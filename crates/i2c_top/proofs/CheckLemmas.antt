@@ -4,7 +4,7 @@ use Rattle.i2c_base.specs.Board.{BoardView}
 use Rattle.i2c_top.specs.Boards.{HasAccepted, HasRejected}
 use Rattle.i2c_top.specs.Endings.{CameToSuccess, CameToRefusal, HasEndedAs}
 use Rattle.i2c_top.specs.Files.{Files}
-use Rattle.i2c_top.specs.Form.{DecidesOnce}
+use Rattle.i2c_top.specs.Form.{DecidesOnce, TellsItsFiles}
 use Rattle.i2c_top.specs.Readings.{IsAcceptedIn, IsRejectedIn, IsRefusedAt, IsBadBoard}
 use Rattle.i2c_top.specs.Traces.{ShelfView, RigView, Outside, KeepsBut, IsUntouched}
 use Rattle.i2c_top.specs.forms.Checks.{IsCheckCause, accepted_text, HasChecked, check_form}
@@ -38,6 +38,10 @@ pub check_decides : (name : List ℕ) → DecidesOnce (check_form name)
 check_decides name file s r h k = check_cause file name s r (decided_check file name s h) (decided_check file name r k)
 
 module _ (name : List ℕ) (shelf shelf_now : ShelfView) (rig : RigView) (kept : KeepsBut (λ place. place ≡ 1) shelf shelf_now) where
+  -- the file is read, so the shelf tells it where it tells the files that are read
+  when : {X : Type 0} → (IsTrue shelf.tells → X) → TellsItsFiles (check_form name) shelf → X
+  when f t = f (t 1 refl)
+
   untouched : IsUntouched rig rig
   untouched = record { plugs = refl; unplugs = refl }
 
@@ -46,7 +50,7 @@ module _ (name : List ℕ) (shelf shelf_now : ShelfView) (rig : RigView) (kept :
       → text ≡ accepted_text board
       → CameToSuccess (check_form name) shelf shelf_now rig rig text
   check_done board text read line =
-      came_to_success (check_form name) shelf shelf_now rig rig text (λ t. (read t).has) untouched
+      came_to_success (check_form name) shelf shelf_now rig rig text (when (λ t. (read t).has)) untouched
       (record {
         by_files = λ t. record { accepted = (read t).has; line = line ∙ ap accepted_text (read t).same };
         by_rig = tt;
@@ -62,10 +66,10 @@ module _ (name : List ℕ) (shelf shelf_now : ShelfView) (rig : RigView) (kept :
   check_refused s refused =
       elim refused [
         | inl h ↦ subst (CameToRefusal (check_form name) shelf shelf_now rig rig) (sym h.0)
-            (file_unread (check_form name) shelf shelf_now rig 1 (λ t. refl) (record { named = refl; rose = h.1 }) skipped kept)
+            (file_unread (check_form name) shelf shelf_now rig 1 (when (λ t. refl)) (record { named = refl; rose = h.1 }) skipped kept)
         | inr (inl m) ↦ subst (CameToRefusal (check_form name) shelf shelf_now rig rig) (sym m) check_starved
         | inr (inr b) ↦ subst (CameToRefusal (check_form name) shelf shelf_now rig rig) (sym b.same)
-            (text_refused (check_form name) shelf shelf_now rig (status.Board b.why) refl b.is_bad (b.why, refl) skipped kept)
+            (text_refused (check_form name) shelf shelf_now rig (status.Board b.why) refl (when b.is_bad) (b.why, refl) skipped kept)
       ]
     where
       skipped : (place : ℕ) → 1 < place → shelf_now.faults place ≡ shelf.faults place

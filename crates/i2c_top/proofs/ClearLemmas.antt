@@ -9,7 +9,7 @@ use Rattle.i2c_spec.specs.World.{World, opening_world}
 use Rattle.i2c_top.specs.Boards.{HasRejected}
 use Rattle.i2c_top.specs.Endings.{CameToSuccess, CameToRefusal, HasEndedAs}
 use Rattle.i2c_top.specs.Files.{Files}
-use Rattle.i2c_top.specs.Form.{DecidesOnce}
+use Rattle.i2c_top.specs.Form.{DecidesOnce, TellsItsFiles}
 use Rattle.i2c_top.specs.Readings.{IsAcceptedIn, IsRejectedIn, IsRefusedAt, IsBadBoard}
 use Rattle.i2c_top.specs.Traces.{ShelfView, RigView, Outside, KeepsBut, IsUntouched}
 use Rattle.i2c_top.specs.forms.Clears.{HasRoot, LacksRoot, IsClearCause, cleared_lines, cleared_text, HasCleared, clear_form}
@@ -78,6 +78,10 @@ lines_told b at root high pulses read same clears =
     ∙ ap (cleared_lines at.cut (level_at w at.addr at.cut) (pulses_of w at.addr at.cut)) c.reply)
 
 module _ (name : List ℕ) (at : ClearAt) (shelf shelf_now : ShelfView) (rig : RigView) (kept : KeepsBut (λ place. place ≡ 1) shelf shelf_now) where
+  -- the file is read, so the shelf tells it where it tells the files that are read
+  when : {X : Type 0} → (IsTrue shelf.tells → X) → TellsItsFiles (clear_form name at) shelf → X
+  when f t = f (t 1 refl)
+
   untouched : IsUntouched rig rig
   untouched = record { plugs = refl; unplugs = refl }
 
@@ -88,7 +92,7 @@ module _ (name : List ℕ) (at : ClearAt) (shelf shelf_now : ShelfView) (rig : R
   pub clear_done : (board : BoardView) (text : List ℕ) → (IsTrue shelf.tells → IsAcceptedIn shelf.file name board) → at.bus < length board.roots
       → text ≡ cleared_text board at → CameToSuccess (clear_form name at) shelf shelf_now rig rig text
   clear_done board text read root lines =
-      came_to_success (clear_form name at) shelf shelf_now rig rig text (λ t. root_in board (read t) root) untouched
+      came_to_success (clear_form name at) shelf shelf_now rig rig text (when (λ t. root_in board (read t) root)) untouched
       (record {
         by_files = λ t. record {
           has = root_in board (read t) root;
@@ -110,11 +114,11 @@ module _ (name : List ℕ) (at : ClearAt) (shelf shelf_now : ShelfView) (rig : R
   no_root_refused board s read is =
       subst (CameToRefusal (clear_form name at) shelf shelf_now rig rig) (sym is.0)
       (text_refused (clear_form name at) shelf shelf_now rig (status.NoRoot at.bus) refl
-      (λ t. record {
+      (when (λ t. record {
         same = refl;
         accepted = (read t).has;
         no_root = subst (λ (b : BoardView). length b.roots ≤ at.bus) (read t).same is.1;
-      })
+      }))
       (inr refl) skipped kept)
 
   -- and so is one that was not read
@@ -124,10 +128,10 @@ module _ (name : List ℕ) (at : ClearAt) (shelf shelf_now : ShelfView) (rig : R
   clear_refused s refused =
       elim refused [
         | inl h ↦ subst (CameToRefusal (clear_form name at) shelf shelf_now rig rig) (sym h.0)
-            (file_unread (clear_form name at) shelf shelf_now rig 1 (λ t. refl) (record { named = refl; rose = h.1 }) skipped kept)
+            (file_unread (clear_form name at) shelf shelf_now rig 1 (when (λ t. refl)) (record { named = refl; rose = h.1 }) skipped kept)
         | inr (inl m) ↦ subst (CameToRefusal (clear_form name at) shelf shelf_now rig rig) (sym m) clear_starved
         | inr (inr b) ↦ subst (CameToRefusal (clear_form name at) shelf shelf_now rig rig) (sym b.same)
-            (text_refused (clear_form name at) shelf shelf_now rig (status.Board b.why) refl b.is_bad (inl (b.why, refl)) skipped kept)
+            (text_refused (clear_form name at) shelf shelf_now rig (status.Board b.why) refl (when b.is_bad) (inl (b.why, refl)) skipped kept)
       ]
 
 -- a success was the lines of the board

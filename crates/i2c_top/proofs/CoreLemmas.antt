@@ -46,7 +46,8 @@ use Rattle.bus_groups.specs.declared.together.Ran.{Ran}
 use Rattle.bus_journal.specs.View.{JournalView}
 use Rattle.i2c_top.specs.Callers.{asks_in, scripts_in, AreReady, left_in, callers_in, IsOver}
 use Rattle.i2c_top.specs.Cores.{IsAsOne, IsCoreOf, IsLeftOf, HaveJournal}
-use Rattle.i2c_top.specs.Faults.{IsFaultAt, AccountsForFaults, AreCounted}
+use Rattle.bus_spec.specs.Faults.{faults_in}
+use Rattle.i2c_top.specs.Faults.{AccountsForFaults, AreCounted}
 use Rattle.i2c_top.specs.Runs.{MOST_COST}
 use Rattle.i2c_top.proofs.RunLemmas.{same_asks}
 use Rattle.i2c_base.proofs.ListLemmas.{there, map_from, map_at}
@@ -346,12 +347,12 @@ pub ports-counted : {P : Type 0} (g : PortGhosts P) (b : BoardView) (ports : Lis
 ports-counted g b ports tells count account =
     record {
       all = length-map ports g.faults ∙ count;
-      caused = λ root n zero fault.
-          let port = map_from g.faults ports root 0 zero in
-          let same : Some (g.log port.0) ≡ Some fault.log = sym (map_at g.log ports root port.0 port.1) ∙ fault.here in
-          let log : g.log port.0 ≡ fault.log = cc in
-          all-at (AccountsForFaults g) ports root port.0 account port.1 tells port.2 n
-          (subst (λ (calls : List PortCall). IsFaultAt calls n) (sym log) fault.fault);
+      each = λ root count log counted logged.
+          let port = map_from g.faults ports root count counted in
+          let same : Some (g.log port.0) ≡ Some log = sym (map_at g.log ports root port.0 port.1) ∙ logged in
+          let its : g.log port.0 ≡ log = cc in
+          let few : faults_in (g.log port.0) ≤ g.faults port.0 = all-at (AccountsForFaults g) ports root port.0 account port.1 tells in
+          subst (λ (n : ℕ). faults_in log ≤ n) port.2 (subst (λ (calls : List PortCall). faults_in calls ≤ g.faults port.0) its few);
     }
 
 -- a core that was opened with the callers and ports by their numbers is one of them

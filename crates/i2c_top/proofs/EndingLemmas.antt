@@ -4,7 +4,7 @@ use Rattle.std.proofs.Common.{◌≡◌, ℕ, ◌⊎◌, inl, inr, Bool, true, f
 use Rattle.std.specs.Prelude.{⊤, IfOk, IfErr}
 use Rattle.ports.specs.Causes.{Rose, counted}
 use Rattle.i2c_top.specs.Endings.{shown_of, CameTo, CameToSuccess, CameToRefusal, IsAnswer, IsCaused, name_in, due_of, IsTextDue, IsStarved, IsWritten, IsRefusalWritten, HasSaid, HasEndedAs, IsCutShort}
-use Rattle.i2c_top.specs.Form.{Form, DecidesOnce, IsStatusOf, own_of, told_of, unreached_of, rig_after, traced_of, IsCalm, KeepsShelf, KeepsSkipped}
+use Rattle.i2c_top.specs.Form.{Form, DecidesOnce, TellsItsFiles, IsStatusOf, own_of, told_of, unreached_of, rig_after, traced_of, IsCalm, KeepsShelf, KeepsSkipped}
 use Rattle.i2c_top.specs.Status.{Class, Done, Misused, Refused, Unread, NoRig, Silent, class_of, refusal_text}
 use Rattle.i2c_top.specs.Traces.{ShelfView, OutputView, RigView, Outside, IsAtMostOnce, IsRigLeft, IsTried, IsUnread}
 use Rattle.i2c_top.specs.declared.status.Status.{Status}
@@ -130,7 +130,7 @@ module _ (form : Form) (decides : DecidesOnce form) (old new : Outside) where
         | inr m ↦ inr m
       ]
 
-  ended_complete : (result : Status) → CameToEnd form old new result → IsTrue old.shelf.tells → (s : Status) → form.cause old.shelf.file s
+  ended_complete : (result : Status) → CameToEnd form old new result → TellsItsFiles form old.shelf → (s : Status) → form.cause old.shelf.file s
       → IsCalm form old new → (result ≡ s) ⊎ (result ≡ status.Memory)
   ended_complete result h t s cause calm =
       by_ending result (λ r. (r ≡ s) ⊎ (r ≡ status.Memory))
@@ -272,7 +272,7 @@ ended_same row names names_now old new result same h = subst (λ n. HasEndedAs (
 -- how a call comes to a status, class by class
 module _ (form : Form) (shelf shelf_now : ShelfView) (rig rig_now : RigView) where
   -- the files let it succeed, and what is to be done to the rig was done
-  pub came_to_success : (text : List ℕ) → (IsTrue shelf.tells → form.cause shelf.file status.Ok) → rig_after form.plugs rig rig_now
+  pub came_to_success : (text : List ℕ) → (TellsItsFiles form shelf → form.cause shelf.file status.Ok) → rig_after form.plugs rig rig_now
       → IsAnswer form shelf rig_now text → KeepsShelf form shelf shelf_now
       → CameToSuccess form shelf shelf_now rig rig_now text
   came_to_success text cause after answer kept =
@@ -289,7 +289,7 @@ module _ (form : Form) (shelf shelf_now : ShelfView) (rig rig_now : RigView) whe
       }
 
   -- the rig was not plugged
-  pub rig_failed : IsTrue form.plugs → (IsTrue shelf.tells → form.cause shelf.file status.Ok) → Rose rig.faults rig_now.faults
+  pub rig_failed : IsTrue form.plugs → (TellsItsFiles form shelf → form.cause shelf.file status.Ok) → Rose rig.faults rig_now.faults
       → IsTried rig rig_now
       → KeepsShelf form shelf shelf_now → CameToRefusal form shelf shelf_now rig rig_now status.Rig
   rig_failed plugs cause rose tried kept =
@@ -324,7 +324,7 @@ module _ (form : Form) (shelf shelf_now : ShelfView) (rig rig_now : RigView) whe
       }
 
   -- a run over the rig that failed is a refusal
-  pub run_refused : {X : Type 0} (r : Result X Status) → IsTrue form.plugs → (IsTrue shelf.tells → form.cause shelf.file status.Ok)
+  pub run_refused : {X : Type 0} (r : Result X Status) → IsTrue form.plugs → (TellsItsFiles form shelf → form.cause shelf.file status.Ok)
       → KeepsShelf form shelf shelf_now → rig_now.plugs ≡ counted rig.plugs → rig_now.plugged ≡ false
       → (r ≡ Err status.Rig → rig_now.unplugs ≡ rig.unplugs) → IsAtMostOnce rig.unplugs rig_now.unplugs
       → (r ≡ Err status.Rig → Rose rig.faults rig_now.faults) → IfErr r (λ e. (e ≡ status.Rig) ⊎ (e ≡ status.Memory))
@@ -341,7 +341,7 @@ module _ (form : Form) (shelf shelf_now : ShelfView) (rig rig_now : RigView) whe
 -- .. before the rig is plugged
 module _ (form : Form) (shelf shelf_now : ShelfView) (rig : RigView) where
   -- a file was not read
-  pub file_unread : (place : ℕ) → (IsTrue shelf.tells → form.turn shelf.file place)
+  pub file_unread : (place : ℕ) → (TellsItsFiles form shelf → form.turn shelf.file place)
       → IsUnread form.reads shelf.faults shelf_now.faults place
       → KeepsSkipped form shelf.faults shelf_now.faults (status.Read place) → KeepsShelf form shelf shelf_now
       → CameToRefusal form shelf shelf_now rig rig (status.Read place)
@@ -360,7 +360,7 @@ module _ (form : Form) (shelf shelf_now : ShelfView) (rig : RigView) where
       }
 
   -- a text was refused
-  pub text_refused : (s : Status) → class_of s ≡ Refused → (IsTrue shelf.tells → form.cause shelf.file s) → form.refuses s
+  pub text_refused : (s : Status) → class_of s ≡ Refused → (TellsItsFiles form shelf → form.cause shelf.file s) → form.refuses s
       → KeepsSkipped form shelf.faults shelf_now.faults s → KeepsShelf form shelf shelf_now → CameToRefusal form shelf shelf_now rig rig s
   text_refused s is cause own skipped kept =
       record {

@@ -14,7 +14,7 @@ use Rattle.i2c_top.specs.Boards.{IsAccepted, IsRejected}
 use Rattle.i2c_top.specs.Files.{Files, bytes_in}
 use Rattle.i2c_top.specs.Readings.{IsAcceptedIn, IsRejectedIn, IsScriptIn, AreScriptsIn, IsScheduleIn, IsOrderIn, HasRead, IsRefusedAt, IsRefusedScript, IsRefusedOrder, IsBadBoard, IsBadScript, IsTooDear, IsFileRefusal}
 use Rattle.ports.specs.Causes.{Rose}
-use Rattle.i2c_top.specs.Scripts.{script_name, HasScript, HasBadScript, HasScripts, HasBadSchedule, texts_in}
+use Rattle.i2c_top.specs.Scripts.{script_name, IsInGrammar, HasScript, HasBadScript, HasScripts, HasBadSchedule, texts_in}
 use Rattle.i2c_top.specs.forms.Replays.{Names, names_of, HasScriptsBefore, HasTexts, first_script, cost_in, IsPlaceIn, IsScheduleAt, IsReadAfter, IsSkipped}
 use Rattle.i2c_top.specs.Runs.{texts_of, cost_of_texts}
 use Rattle.i2c_top.specs.Schedules.{schedule_read}
@@ -49,6 +49,12 @@ pub script_in : (file : Files) (name text : List ℕ) (b : BoardView) (r : Resul
 script_in file name text b (Ok s) there o read = record { has = record { text = text; there = there; read = read }; same = o.text_is }
 script_in file name text b (Err s) there o read = tt
 
+-- a script's own text is in the grammar
+pub own_grammar : (b : BoardView) (text : List ℕ) (r : Result CallerView Status) → IfOk r (IsOpened b text)
+    → OnOk r (IsInGrammar b text) → IfOk r (λ s. IsInGrammar b s.script.text)
+own_grammar b text (Ok s) o read = subst (IsInGrammar b) (sym o.text_is) read
+own_grammar b text (Err e) o read = tt
+
 -- a script is opened with its own text
 pub own_text : (b : BoardView) (text : List ℕ) (r : Result CallerView Status) → IfOk r (IsOpened b text)
     → IfOk r (λ s. IsOpened b s.script.text s)
@@ -80,12 +86,13 @@ texts_pushed file names n below =
 
 more_scripts : (tells : Bool) (file file_now : Files) (names : List (List ℕ)) (b : BoardView) (scripts : List CallerView) (s : CallerView)
     → ((n : List ℕ) → file_now n ≡ file n)
-    → length scripts < length names → AreScriptsIn tells file names b scripts → IsOpened b s.script.text s
+    → length scripts < length names → AreScriptsIn tells file names b scripts → IsOpened b s.script.text s → IsInGrammar b s.script.text
     → (IsTrue tells → IsScriptIn file_now b (script_name names (length scripts)) s.script.text)
     → AreScriptsIn tells file names b (scripts ++ s ∷ [])
-more_scripts tells file file_now names b scripts s same below are opened is =
+more_scripts tells file file_now names b scripts s same below are opened grammar is =
     record {
       opened = All-push (λ x. IsOpened b x.script.text x) scripts s are.opened opened;
+      grammar = All-push (λ x. IsInGrammar b x.script.text) scripts s are.grammar grammar;
       read = λ t. subst (HasScripts file b names) (sym (length-append scripts (s ∷ [])))
           (scripts_pushed file file_now b names (length scripts) s.script.text same (are.read t) (is t));
       same = λ t. map_push (λ (x : CallerView). x.script.text) scripts s ∙ ap (λ xs. xs ++ s.script.text ∷ []) (are.same t)
@@ -99,11 +106,12 @@ pub scripts_more : (tells : Bool) (file file_now : Files) (names : List (List �
     (s : CallerView) (n : ℕ) (name : List ℕ)
     → ((name_now : List ℕ) → file_now name_now ≡ file name_now) → length scripts ≡ n → n < length names → name ≡ script_name names n
     → scripts_now ≡ scripts ++ s ∷ []
-    → AreScriptsIn tells file names b scripts → IsOpened b s.script.text s → (IsTrue tells → IsScriptIn file_now b name s.script.text)
+    → AreScriptsIn tells file names b scripts → IsOpened b s.script.text s → IsInGrammar b s.script.text
+    → (IsTrue tells → IsScriptIn file_now b name s.script.text)
     → AreScriptsIn tells file names b scripts_now
-scripts_more tells file file_now names b scripts scripts_now s n name same count below named pushed are opened is =
+scripts_more tells file file_now names b scripts scripts_now s n name same count below named pushed are opened grammar is =
     subst (AreScriptsIn tells file names b) (sym pushed)
-    (more_scripts tells file file_now names b scripts s same (subst (λ k. k < length names) (sym count) below) are opened
+    (more_scripts tells file file_now names b scripts s same (subst (λ k. k < length names) (sym count) below) are opened grammar
     (λ t. subst (λ x. IsScriptIn file_now b x s.script.text) (named ∙ ap (script_name names) (sym count)) (is t)))
 
 pub one_more : {X : Type 0} (xs xs_now : List X) (x : X) (n : ℕ) → xs_now ≡ xs ++ x ∷ [] → length xs ≡ n → length xs_now ≡ n + 1

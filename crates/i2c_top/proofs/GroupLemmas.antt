@@ -14,7 +14,7 @@ use Rattle.i2c_spec.specs.Fair.{IsFairCaller}
 use Rattle.i2c_spec.specs.Plain.{IsPlainBoard}
 use Rattle.i2c_spec.specs.Rules.{MeetsRules}
 use Rattle.i2c_spec.specs.Tree.{buses, root_of}
-use Rattle.bus_groups.specs.Homes.{names, homes_of, home_at, AreByHomes}
+use Rattle.bus_groups.specs.Homes.{names, homes_of, caller_home_at, AreByHomes}
 use Rattle.bus_core.specs.Kept.{roots_of}
 use Rattle.bus_core.specs.Opens.{callers_scripts}
 use Rattle.bus_core.specs.Places.{scripts_of}
@@ -133,7 +133,7 @@ may-run g b plain scripts opened few cheap ports fresh fair masks has =
 
 -- their groups are those of their texts
 of-groups : (b : BoardView) (scripts : List CallerView) (masks : List ℕ) (journal : List Entry) → AreOpened b scripts
-    → AreMasks scripts masks → AreByHomes (home_at (homes_of (length b.roots) masks) masks) journal
+    → AreMasks scripts masks → AreByHomes (caller_home_at (homes_of (length b.roots) masks) masks) journal
     → IsOfGroups b (texts_of scripts) journal
 of-groups b scripts masks journal opened has ordered =
     record { masks = masks; named = by scripts masks opened has; ordered = ordered }

@@ -1,23 +1,23 @@
 -- How a call of `replay` or `run` ends: its report, and what its status tells. No induction.
-use Rattle.std.proofs.Common.{◌≡◌, ℕ, ◌<◌, ◌≤◌, ◌⊎◌, inl, false, IsTrue, IsSome, List, [], length, Option, None, Some, Result, Ok, Err, refl, sym, ◌∙◌, ap, subst, arith}
-use Rattle.std.specs.Prelude.{All, IfOk, IfErr, OnOk, unwrap_or}
+use Rattle.std.proofs.Common.{◌≡◌, ℕ, ◌<◌, ◌≤◌, ◌⊎◌, inl, true, false, IsTrue, IsSome, List, [], length, Option, None, Some, Result, Ok, Err, refl, sym, ◌∙◌, ap, subst, arith}
+use Rattle.std.specs.Prelude.{All, IfOk, IfErr, OnOk, is_some, unwrap_or}
 use Rattle.std.proofs.lemmas.Bool.{false≢true}
 use Rattle.i2c_base.specs.declared.port.PortCall.{PortCall}
 use Rattle.i2c_base.specs.Board.{BoardView}
 use Rattle.i2c_spec.specs.Targets.{TargetState}
 use Rattle.ports.specs.Causes.{Rose, counted}
 use Rattle.i2c_top.specs.Endings.{CameToSuccess, CameToRefusal, HasEndedAs}
-use Rattle.i2c_top.specs.Readings.{AreNamed, HasRead, IsOrderIn, IsFileRefusal}
+use Rattle.i2c_top.specs.Readings.{AreNamed, HasRead, HasReadSome, IsOrderIn, IsFileRefusal}
 use Rattle.i2c_top.specs.Files.{Files}
-use Rattle.i2c_top.specs.Form.{Form, KeepsShelf, KeepsSkipped}
+use Rattle.i2c_top.specs.Form.{Form, TellsItsFiles, KeepsShelf, KeepsSkipped}
 use Rattle.i2c_top.specs.Scripts.{texts_in}
-use Rattle.i2c_top.specs.forms.Replays.{Names, HasFiles, HasReport, HasReplayed, reading_form, replay_form}
+use Rattle.i2c_top.specs.forms.Replays.{Names, HasFiles, HasReport, HasReplayed, IsReplayAnswer, reading_form, replay_form}
 use Rattle.i2c_top.specs.Runs.{HasRun, cost_of_texts, MOST_COST}
 use Rattle.i2c_top.specs.Traces.{ShelfView, RigView, Outside, IsAtMostOnce}
 use Rattle.i2c_top.specs.declared.status.Status.{Status}
 use Rattle.i2c_top.specs.declared.status.Status.TheVariants as status
 use Rattle.i2c_top.proofs.EndingLemmas.{came_to_success, text_refused, file_unread, run_refused, memory_wanting}
-use Rattle.i2c_top.proofs.FileLemmas.{has_texts, cost_read}
+use Rattle.i2c_top.proofs.FileLemmas.{has_texts, cost_read, first_low}
 
 abbrev pub has_files : (file : Files) (names : Names) (b : BoardView) (texts : List (List ℕ)) (words : Option (List ℕ))
     → HasRead file names b texts words → cost_of_texts b texts ≤ MOST_COST → HasFiles file names
@@ -59,11 +59,27 @@ pub read_order : (file : Files) (schedule : Option (List ℕ)) (callers : ℕ) (
 read_order file None callers words some is = absurd (false≢true some)
 read_order file (Some name) callers words some is = ap (λ (ws : Option (List ℕ)). Some (unwrap_or ws [])) is.same ∙ sym is.same
 
+-- where there is a schedule its words are those that were read
+pub order_of_some : (names : Names) (b : BoardView) (texts : List (List ℕ)) (words : Option (List ℕ)) (some : HasReadSome names b texts words)
+    → IsSome names.schedule → Some (unwrap_or words []) ≡ words
+order_of_some names b texts words some scheduled =
+    read_order some.file some.called.schedule (length some.called.scripts) words (subst IsTrue (sym some.like.schedule) scheduled) some.so.order_in
+
+none_like : {X : Type 0} (o p : Option X) → is_some o ≡ is_some p → p ≡ None → o ≡ None
+none_like None p same none = refl
+none_like (Some x) p same none = absurd (let h : true ≡ false = same ∙ ap is_some none in cc)
+
+-- the board is read, so the shelf tells it where it tells the files that are read
+pub when : (names : Names) (answer : Files → Names → RigView → List ℕ → Type 0) (shelf : ShelfView) {X : Type 0} → (IsTrue shelf.tells → X)
+    → TellsItsFiles (reading_form names answer) shelf → X
+when names answer shelf f t =
+    let low = first_low names.schedule in f (t 1 (record { first = omega arith; last = omega (arith, low) }))
+
 -- files that were refused are a refusal of each form that reads them; the rig is not plugged yet
-module _ (names : Names) (answer : Files → RigView → List ℕ → Type 0) (leaves : RigView → List ℕ → Type 0) (shelf shelf_now : ShelfView)
+module _ (names : Names) (answer : Files → Names → RigView → List ℕ → Type 0) (shelf shelf_now : ShelfView)
     (rig : RigView) where
   abbrev form : Form
-  form = reading_form names answer leaves
+  form = reading_form names answer
 
   pub files_refused : (s : Status) → KeepsShelf form shelf shelf_now
       → KeepsSkipped form shelf.faults shelf_now.faults s
@@ -71,27 +87,27 @@ module _ (names : Names) (answer : Files → RigView → List ℕ → Type 0) (l
       → CameToRefusal form shelf shelf_now rig rig s
   files_refused status.Memory kept skipped h =
       memory_wanting form shelf shelf_now rig rig (inl (record { plugs = refl; unplugs = refl })) kept
-  files_refused (status.Read place) kept skipped h = file_unread form shelf shelf_now rig place h.1 h.0 skipped kept
+  files_refused (status.Read place) kept skipped h = file_unread form shelf shelf_now rig place (when names answer shelf h.1) h.0 skipped kept
   files_refused (status.Board why) kept skipped h =
-      text_refused form shelf shelf_now rig (status.Board why) refl h
+      text_refused form shelf shelf_now rig (status.Board why) refl (when names answer shelf h)
       (record {
         cost = λ cost e. absurd (let k : status.Board why ≡ status.Cost cost = e in cc);
         schedule = λ word e. absurd (let k : status.Board why ≡ status.Schedule word = e in cc);
       }) skipped kept
   files_refused (status.Script caller line word) kept skipped h =
-      text_refused form shelf shelf_now rig (status.Script caller line word) refl h
+      text_refused form shelf shelf_now rig (status.Script caller line word) refl (when names answer shelf h)
       (record {
         cost = λ cost e. absurd (let k : status.Script caller line word ≡ status.Cost cost = e in cc);
         schedule = λ other e. absurd (let k : status.Script caller line word ≡ status.Schedule other = e in cc);
       }) skipped kept
   files_refused (status.Schedule word) kept skipped h =
-      text_refused form shelf shelf_now rig (status.Schedule word) refl h.1
+      text_refused form shelf shelf_now rig (status.Schedule word) refl (when names answer shelf h.1)
       (record {
         cost = λ cost e. absurd (let k : status.Schedule word ≡ status.Cost cost = e in cc);
         schedule = λ other e. h.0;
       }) skipped kept
   files_refused (status.Cost cost) kept skipped h =
-      text_refused form shelf shelf_now rig (status.Cost cost) refl h.1
+      text_refused form shelf shelf_now rig (status.Cost cost) refl (when names answer shelf h.1)
       (record {
         cost = λ other e. subst (λ n. MOST_COST < n) (let k : status.Cost cost ≡ status.Cost other = e in cc) h.0;
         schedule = λ word e. absurd (let k : status.Cost cost ≡ status.Schedule word = e in cc);
@@ -100,27 +116,34 @@ module _ (names : Names) (answer : Files → RigView → List ℕ → Type 0) (l
 
 -- a run of files that were read, over the rig
 module _ (names : Names) (shelf shelf_now : ShelfView) (rig rig_now : RigView) (b : BoardView) (texts : List (List ℕ))
-    (words : Option (List ℕ))
+    (words : Option (List ℕ)) (some : HasReadSome names b texts words)
     (read : IsTrue shelf.tells → HasRead shelf.file names b texts words) (cheap : cost_of_texts b texts ≤ MOST_COST)
     (kept : KeepsShelf (replay_form names) shelf shelf_now) (plugs : rig_now.plugs ≡ counted rig.plugs)
     (unplugged : rig_now.plugged ≡ false) where
   files : IsTrue shelf.tells → HasFiles shelf.file names
   files t = has_files shelf.file names b texts words (read t) cheap
 
-  -- one that ended, by words that are those of the schedule where the shelf tells it, is a success of the form by its report
-  pub run_done : {X : Type 0} (r : Result X Status) (bytes_of : X → List ℕ) (by : Option (List ℕ)) → (IsTrue shelf.tells → by ≡ words)
+  -- one that ended, by the words of the schedule, is a success of the form by its report
+  pub run_done : {X : Type 0} (r : Result X Status) (bytes_of : X → List ℕ) (by : Option (List ℕ)) → by ≡ words
       → OnOk r (rig_now.unplugs ≡ counted rig.unplugs)
       → (IsTrue rig_now.tells → IsTrue rig_now.ports_tell
       → IfOk r (λ x. HasRun b texts by (bytes_of x) rig_now.logs rig_now.states rig_now.counts))
       → IfOk r (λ x. CameToSuccess (replay_form names) shelf shelf_now rig rig_now (bytes_of x))
   run_done (Ok x) bytes_of by same unplugs run =
-      came_to_success (replay_form names) shelf shelf_now rig rig_now (bytes_of x) files
+      came_to_success (replay_form names) shelf shelf_now rig rig_now (bytes_of x) (when names IsReplayAnswer shelf files)
       (record { plugs = plugs; unplugs = unplugs; unplugged = unplugged })
       (record {
         by_files = λ t tells ports.
             has_report shelf.file names b texts words (bytes_of x) rig_now.logs rig_now.states rig_now.counts (read t) cheap
-            (subst (λ ws. HasRun b texts ws (bytes_of x) rig_now.logs rig_now.states rig_now.counts) (same t) (run tells ports));
-        by_rig = λ tells ports. record { board = b; texts = texts; words = by; run = run tells ports };
+            (subst (λ ws. HasRun b texts ws (bytes_of x) rig_now.logs rig_now.states rig_now.counts) same (run tells ports));
+        by_rig = record {
+          file = some.file;
+          called = some.called;
+          like = some.like;
+          so = λ tells ports.
+              has_report some.file some.called b texts words (bytes_of x) rig_now.logs rig_now.states rig_now.counts some.so cheap
+              (subst (λ ws. HasRun b texts ws (bytes_of x) rig_now.logs rig_now.states rig_now.counts) same (run tells ports));
+        };
       }) kept
   run_done (Err e) bytes_of by same unplugs run = tt
 
@@ -130,9 +153,8 @@ module _ (names : Names) (shelf shelf_now : ShelfView) (rig rig_now : RigView) (
       → (IsTrue rig_now.tells → IsTrue rig_now.ports_tell
       → IfOk r (λ x. HasRun b texts (Some (unwrap_or words [])) (bytes_of x) rig_now.logs rig_now.states rig_now.counts))
       → IfOk r (λ x. CameToSuccess (replay_form names) shelf shelf_now rig rig_now (bytes_of x))
-  scheduled_run_done r bytes_of some unplugs run =
-      run_done r bytes_of (Some (unwrap_or words []))
-      (λ t. read_order shelf.file names.schedule (length names.scripts) words some (read t).order_in) unplugs run
+  scheduled_run_done r bytes_of scheduled unplugs run =
+      run_done r bytes_of (Some (unwrap_or words [])) (order_of_some names b texts words some scheduled) unplugs run
 
   -- without a schedule no order was asked for
   pub free_run_done : {X : Type 0} (r : Result X Status) (bytes_of : X → List ℕ) → names.schedule ≡ None
@@ -142,21 +164,22 @@ module _ (names : Names) (shelf shelf_now : ShelfView) (rig rig_now : RigView) (
       → IfOk r (λ x. CameToSuccess (replay_form names) shelf shelf_now rig rig_now (bytes_of x))
   free_run_done r bytes_of free unplugs run =
       run_done r bytes_of None
-      (λ t. sym (unread_order shelf.file names.schedule (length names.scripts) words free (read t).order_in)) unplugs run
+      (sym (unread_order some.file some.called.schedule (length some.called.scripts) words
+      (none_like some.called.schedule names.schedule some.like.schedule free) some.so.order_in)) unplugs run
 
 -- one that failed is a refusal of each form that runs it
-module _ (names : Names) (answer : Files → RigView → List ℕ → Type 0) (leaves : RigView → List ℕ → Type 0) (shelf shelf_now : ShelfView)
+module _ (names : Names) (answer : Files → Names → RigView → List ℕ → Type 0) (shelf shelf_now : ShelfView)
     (rig rig_now : RigView) (b : BoardView) (texts : List (List ℕ)) (words : Option (List ℕ))
     (read : IsTrue shelf.tells → HasRead shelf.file names b texts words) (cheap : cost_of_texts b texts ≤ MOST_COST)
-    (kept : KeepsShelf (reading_form names answer leaves) shelf shelf_now) (plugs : rig_now.plugs ≡ counted rig.plugs)
+    (kept : KeepsShelf (reading_form names answer) shelf shelf_now) (plugs : rig_now.plugs ≡ counted rig.plugs)
     (unplugged : rig_now.plugged ≡ false) where
   pub run_failed : {X : Type 0} (r : Result X Status) → (r ≡ Err status.Rig → rig_now.unplugs ≡ rig.unplugs)
       → IsAtMostOnce rig.unplugs rig_now.unplugs
       → (r ≡ Err status.Rig → Rose rig.faults rig_now.faults) → IfErr r (λ e. (e ≡ status.Rig) ⊎ (e ≡ status.Memory))
-      → IfErr r (CameToRefusal (reading_form names answer leaves) shelf shelf_now rig rig_now)
+      → IfErr r (CameToRefusal (reading_form names answer) shelf shelf_now rig rig_now)
   run_failed r unplugs once rose failed =
-      run_refused (reading_form names answer leaves) shelf shelf_now rig rig_now r refl
-      (λ t. has_files shelf.file names b texts words (read t) cheap) kept plugs unplugged unplugs once rose failed
+      run_refused (reading_form names answer) shelf shelf_now rig rig_now r refl
+      (when names answer shelf (λ t. has_files shelf.file names b texts words (read t) cheap)) kept plugs unplugged unplugs once rose failed
 
 -- a success was the report
 pub ended_replayed : (names : Names) (old new : Outside) (result : Status) → HasEndedAs (replay_form names) old new result

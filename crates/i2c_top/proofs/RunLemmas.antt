@@ -18,19 +18,23 @@ use Rattle.i2c_base.specs.Transfer.{TransferView, IsTransfer}
 use Rattle.i2c_spec.specs.Fair.{IsFairCaller}
 use Rattle.i2c_spec.specs.Targets.{TargetState}
 use Rattle.i2c_spec.specs.World.{World, AreWorldsOf, devices_of}
-use Rattle.i2c_spec.specs.History.{Asks}
+use Rattle.i2c_spec.specs.History.{Asks, History}
 use Rattle.i2c_spec.proofs.AddressLemmas.{tree_of}
 use Rattle.bus_spec.specs.Walk.{Act, Take, Free, Send, Shift, Settle, Ends}
 use Rattle.bus_spec.specs.Grammar.{seen, is_over, first_act}
 use Rattle.bus_spec.specs.Readings.{replies}
 use Rattle.bus_spec.specs.Past.{Now, begun, current, now, world_at, calls_of}
 use Rattle.bus_spec.specs.Stepwise.{May, IsStepwise}
+use Rattle.bus_spec.specs.Legal.{IsComplete, IsLegal, KeepsReplies}
+use Rattle.bus_spec.specs.Ruled.{IsRuled, IsThrough}
+use Rattle.bus_spec.specs.Stand.{calls_by}
 use Rattle.bus_spec.specs.Report.{report_lines, report_of, text_of}
 use Rattle.bus_laws.specs.Reach.{AsksForMessages, AsksWithinLimits}
 use Rattle.bus_laws.proofs.Laws.{lines-locked, settled-told}
 use Rattle.flat_laws.specs.Ends.{IsDone}
 use Rattle.flat_laws.specs.Left.{LeavesDevices, worlds_of}
 use Rattle.flat_laws.proofs.Laws.{replies-kept, legal-with, devices-left, complete-then, strangers-end}
+use Rattle.flat_laws.proofs.walk.Ruled.{ruled, ruled-calls}
 use Rattle.caller_core.specs.Scripts.{asked_by}
 use Rattle.caller_core.specs.View.{script_on}
 use Rattle.bus_journal.specs.Ranges.{IsEntry}
@@ -199,23 +203,44 @@ module _ {C S : Type 0} (row : CallerGhosts C S) (b : BoardView) (callers : List
         → bytes ≡ report_of (printed_in printed scripts) count journal
     report-over bytes printed_is = printed_is ∙ ap (λ (xs : List (List ℕ)). report_lines xs journal) sections_are
 
+  -- it is legal by its entries alone, and what these tell of the ports is what the walks do
+  kept : KeepsReplies b asks past
+  kept = replies-kept b (tree_of b over.plain over.rules) over.plain (lines-locked b over.rules) asks some limits count past stepwise
+
+  is_lawful : IsLegal b count asks past
+  is_lawful =
+      legal-with b (tree_of b over.plain over.rules) over.plain (lines-locked b over.rules) asks some count past stepwise over.rests kept
+
+  abbrev is_legal : IsRuled b count asks past
+  is_legal = ruled b count asks past is_lawful
+
+  is_complete : IsThrough count asks past
+  is_complete =
+      let whole : IsComplete b count asks past = complete-then b (tree_of b over.plain over.rules) over.plain (lines-locked b over.rules) asks
+      some count past stepwise is_done in
+      record { asked = whole.asked; free = whole.free }
+
+  same_calls : calls_of b asks past ≡ calls_by b is_legal.deeds past
+  same_calls = λ i. λ r. ruled-calls b count asks past is_lawful r i
+
+  same_states : left_by.told.states ≡ is_legal.replies_kept.told.states
+  same_states =
+      let told : Some left_by.told ≡ Some is_legal.replies_kept.told = sym left_by.defined ∙ is_legal.replies_kept.defined in
+      let same : left_by.told ≡ is_legal.replies_kept.told = cc in
+      ap (λ (h : History). h.states) same
+
   -- THE RUN of callers that are over, whose ports were given back
-  pub run-over : (kept : List (List PortCall)) (states : List TargetState) (counts : List ℕ) → All IsEntry journal
-      → AreGivenBack b worlds logs kept states counts → IsRunBy b count asks kept states counts journal
-  run-over kept states counts in_range given =
+  pub run-over : (given_logs : List (List PortCall)) (states : List TargetState) (counts : List ℕ) → All IsEntry journal
+      → AreGivenBack b worlds logs given_logs states counts → IsRunBy b count asks given_logs states counts journal
+  run-over given_logs states counts in_range given =
       record {
         plain = over.plain;
         rules = over.rules;
         in_range = in_range;
-        legal = legal-with b (tree_of b over.plain over.rules) over.plain
-            (lines-locked b over.rules) asks some count past stepwise over.rests
-            (replies-kept b (tree_of b over.plain over.rules) over.plain (lines-locked b over.rules) asks some limits count past stepwise);
-        stepwise = stepwise;
-        complete = complete-then b (tree_of b over.plain over.rules) over.plain
-            (lines-locked b over.rules) asks some count past stepwise is_done;
-        called = given.logged are_worlds ∙ logs_are;
+        legal = is_legal;
+        complete = is_complete;
+        called = given.logged are_worlds ∙ logs_are
+            ∙ ap (λ (calls : ℕ → List PortCall). map calls (range_with_len 0 (length b.roots))) same_calls;
         faults = subst (λ (ls : List (List PortCall)). AreCounted b ls counts) (sym (given.logged are_worlds)) (given.counted over.logs_count);
-        told = left_by.told;
-        replayed = left_by.defined;
-        left = given.devices are_worlds ∙ ap (devices_of b) worlds_are ∙ left_by.states;
+        left = given.devices are_worlds ∙ ap (devices_of b) worlds_are ∙ left_by.states ∙ same_states;
       }

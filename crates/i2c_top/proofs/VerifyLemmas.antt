@@ -14,7 +14,7 @@ use Rattle.i2c_top.specs.Boards.{HasRejected}
 use Rattle.i2c_top.specs.Checked.{checked_on}
 use Rattle.i2c_top.specs.Endings.{CameToSuccess, CameToRefusal, HasEndedAs}
 use Rattle.i2c_top.specs.Files.{Files}
-use Rattle.i2c_top.specs.Form.{DecidesOnce, KeepsShelf}
+use Rattle.i2c_top.specs.Form.{DecidesOnce, TellsItsFiles, KeepsShelf}
 use Rattle.i2c_top.specs.Readings.{AreScriptsIn, HasReadJournal, IsAcceptedIn, IsRejectedIn, IsRefusedAt, IsRefusedScript, IsBadBoard, IsBadScript, IsTooDear}
 use Rattle.i2c_top.specs.Runs.{MOST_COST, cost_of_texts, texts_of}
 use Rattle.i2c_top.specs.Scripts.{script_name, HasBadScript, HasScripts, texts_in}
@@ -157,6 +157,10 @@ journal_read first second third names tells b scripts text same same_again t boa
 untouched : (rig : RigView) → IsUntouched rig rig
 untouched rig = record { plugs = refl; unplugs = refl }
 
+-- the board is read, so the shelf tells it where it tells the files that are read
+when : (names : VerifyNames) (shelf : ShelfView) {X : Type 0} → (IsTrue shelf.tells → X) → TellsItsFiles (verify_form names) shelf → X
+when names shelf f t = f (t 1 (record { first = omega arith; last = omega arith }))
+
 -- files that were read, and the journal checked
 module _ (names : VerifyNames) (shelf shelf_now : ShelfView) (rig : RigView) (kept : KeepsShelf (verify_form names) shelf shelf_now) where
   pub verify_starved : CameToRefusal (verify_form names) shelf shelf_now rig rig status.Memory
@@ -175,7 +179,7 @@ module _ (names : VerifyNames) (shelf shelf_now : ShelfView) (rig : RigView) (ke
     pub verify_done : (n : ℕ) (line : List ℕ) → IsVerified (checked_on b texts) text n → line ≡ verified_text n
         → CameToSuccess (verify_form names) shelf shelf_now rig rig line
     verify_done n line v is =
-        came_to_success (verify_form names) shelf shelf_now rig rig line (λ t. (n, verdict n v t)) (untouched rig)
+        came_to_success (verify_form names) shelf shelf_now rig rig line (when names shelf (λ t. (n, verdict n v t))) (untouched rig)
         (record { by_files = λ t. record { entries = n; verdict = verdict n v t; line = is }; by_rig = tt }) kept
 
     pub verify_faulty : (f : CheckFault) → IsVerdict f → IsFaultIn (checked_on b texts) text f
@@ -183,10 +187,10 @@ module _ (names : VerifyNames) (shelf shelf_now : ShelfView) (rig : RigView) (ke
     unfolding has_cheap
     verify_faulty f told at =
         text_refused (verify_form names) shelf shelf_now rig (status.Verify f) refl
-        (λ t. record {
+        (when names shelf (λ t. record {
           has = has_cheap shelf.file names b texts text (read t) cheap plain;
           fault_is = on_files shelf.file names b texts text (read t) (λ x. IsFaultIn x text f) at;
-        }) told (λ place no. absurd no) kept
+        })) told (λ place no. absurd no) kept
 
     pub fault_told : (f : CheckFault) → (f ≡ verdict-of.Memory) ⊎ IsFaultIn (checked_on b texts) text f
         → CameToRefusal (verify_form names) shelf shelf_now rig rig (fault_status f)
@@ -209,13 +213,13 @@ module _ (names : VerifyNames) (shelf shelf_now : ShelfView) (rig : RigView) (ke
   board_told s others refused =
       elim refused [
         | inl h ↦ subst (CameToRefusal (verify_form names) shelf shelf_now rig rig) (sym h.0)
-            (file_unread (verify_form names) shelf shelf_now rig 1 (λ t. inl refl)
+            (file_unread (verify_form names) shelf shelf_now rig 1 (when names shelf (λ t. inl refl))
             (record { named = record { first = omega arith; last = omega arith }; rose = h.1 })
             (board_unreached (Some names.journal) (IsRejectedIn shelf.tells shelf.file names.board) shelf.faults shelf_now.faults (status.Read 1) others
             (inl (refl, h.1))) kept)
         | inr (inl m) ↦ subst (CameToRefusal (verify_form names) shelf shelf_now rig rig) (sym m) (verify_starved names shelf shelf_now rig kept)
         | inr (inr b) ↦ subst (CameToRefusal (verify_form names) shelf shelf_now rig rig) (sym b.same)
-            (text_refused (verify_form names) shelf shelf_now rig (status.Board b.why) refl b.is_bad tt
+            (text_refused (verify_form names) shelf shelf_now rig (status.Board b.why) refl (when names shelf b.is_bad) tt
             (board_unreached (Some names.journal) (IsRejectedIn shelf.tells shelf.file names.board) shelf.faults shelf_now.faults (status.Board b.why) others
             (inr (inr (record { why = b.why; same = refl; is_bad = b.is_bad })))) kept)
       ]
@@ -231,7 +235,7 @@ module _ (names : VerifyNames) (shelf shelf_now : ShelfView) (rig : RigView) (ke
       elim r.refused [
         | inl h ↦ subst (CameToRefusal (verify_form names) shelf shelf_now rig rig) (sym h.0)
             (file_unread (verify_form names) shelf shelf_now rig (3 + r.caller)
-            (λ t. inr (inl (record { caller = r.caller; at = refl; earlier = earlier t })))
+            (when names shelf (λ t. inr (inl (record { caller = r.caller; at = refl; earlier = earlier t }))))
             (record {
               named = record { first = omega arith; last = (let low = r.known in omega (arith, low)) };
               rose = subst (λ (k : ℕ). Rose k (shelf_now.faults (3 + r.caller))) (others (3 + r.caller) (λ e. absurd (omega (arith, e)))) h.1;
@@ -239,11 +243,11 @@ module _ (names : VerifyNames) (shelf shelf_now : ShelfView) (rig : RigView) (ke
         | inr (inl m) ↦ subst (CameToRefusal (verify_form names) shelf shelf_now rig rig) (sym m) (verify_starved names shelf shelf_now rig kept)
         | inr (inr n) ↦ subst (CameToRefusal (verify_form names) shelf shelf_now rig rig) (sym n.same)
             (text_refused (verify_form names) shelf shelf_now rig (status.Script r.caller n.line n.word) refl
-            (λ t. (
+            (when names shelf (λ t. (
               earlier t,
               subst (λ k. HasBadScript shelf.file k (script_name names.scripts r.caller) n.line n.word) (board t).same
                   (same_bad shelf.file mid.file b (script_name names.scripts r.caller) n.line n.word same (n.is_bad t)),
-            )) tt (rest (status.Script r.caller n.line n.word) (inr (inr (record { line = n.line; word = n.word; same = refl; is_bad = n.is_bad })))) kept)
+            ))) tt (rest (status.Script r.caller n.line n.word) (inr (inr (record { line = n.line; word = n.word; same = refl; is_bad = n.is_bad })))) kept)
       ]
     where
       earlier : IsTrue shelf.tells → HasScriptsBefore shelf.file (as_replayed names) r.caller
@@ -271,7 +275,7 @@ module _ (names : VerifyNames) (shelf shelf_now : ShelfView) (rig : RigView) (ke
       elim refused [
         | inl h ↦ subst (CameToRefusal (verify_form names) shelf shelf_now rig rig) (sym h.0)
             (file_unread (verify_form names) shelf shelf_now rig 2
-            (λ t. inr (inr (refl, (board t).has, subst (λ k. HasScripts shelf.file k names.scripts (length names.scripts)) (board t).same (scripts t))))
+            (when names shelf (λ t. inr (inr (refl, (board t).has, subst (λ k. HasScripts shelf.file k names.scripts (length names.scripts)) (board t).same (scripts t)))))
             (record {
               named = record { first = omega arith; last = omega arith };
               rose = subst (λ (k : ℕ). Rose k (shelf_now.faults 2)) same h.1;
@@ -286,7 +290,7 @@ module _ (names : VerifyNames) (shelf shelf_now : ShelfView) (rig : RigView) (ke
   cost_told b texts text s read d =
       subst (CameToRefusal (verify_form names) shelf shelf_now rig rig) (sym d.same)
       (text_refused (verify_form names) shelf shelf_now rig (status.Cost (cost_of_texts b texts)) refl
-      (λ t. record {
+      (when names shelf (λ t. record {
         files = record {
           board = (read t).board_in.has;
           scripts = subst (λ k. HasScripts shelf.file k names.scripts (length names.scripts)) (read t).board_in.same (read t).scripts;
@@ -296,7 +300,7 @@ module _ (names : VerifyNames) (shelf shelf_now : ShelfView) (rig : RigView) (ke
         same = ap (λ (k : BoardView). cost_of_texts k texts) (read t).board_in.same
             ∙ ap (cost_of_texts (read t).board_in.has.board) (read t).texts_are;
         dear = d.dear;
-      }) d.dear (λ place no. absurd no) kept)
+      })) d.dear (λ place no. absurd no) kept)
 
 -- a success was the line of the journal
 pub ended_verified : (names : VerifyNames) (old new : Outside) (result : Status) → HasEndedAs (verify_form names) old new result

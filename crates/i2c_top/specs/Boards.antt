@@ -15,7 +15,12 @@ pub record IsAccepted (text : List ℕ) (board : BoardView) : Type 0 where
   pub read : board_of text ≡ Ok board
   pub rules : MeetsRules board
 
--- it has this fault, and no want of memory is one
+-- some text spells it
+pub record IsSpelled (board : BoardView) : Type 0 where
+  pub text : List ℕ
+  pub is_accepted : IsAccepted text board
+
+-- a text has this fault, and no want of memory is one
 pub record IsFaulty (text : List ℕ) (f : BoardFault) : Type 0 where
   pub read : board_of text ≡ Err f
   pub of_text : f ≢ fault.Memory

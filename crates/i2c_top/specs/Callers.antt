@@ -13,11 +13,11 @@ use Rattle.i2c_spec.specs.Plain.{IsPlainBoard}
 use Rattle.i2c_spec.specs.Rules.{MeetsRules}
 use Rattle.i2c_spec.specs.Targets.{TargetState}
 use Rattle.i2c_spec.specs.World.{World}
-use Rattle.i2c_spec.specs.History.{Asks, History, history}
-use Rattle.bus_spec.specs.Readings.{order}
+use Rattle.i2c_spec.specs.History.{Asks}
 use Rattle.bus_spec.specs.Past.{now, world_at, calls_of}
 use Rattle.bus_spec.specs.Walk.{Ends}
-use Rattle.bus_spec.specs.Legal.{IsLegal, IsComplete}
+use Rattle.bus_spec.specs.Ruled.{IsRuled, IsThrough}
+use Rattle.bus_spec.specs.Stand.{calls_by}
 use Rattle.bus_spec.specs.Stepwise.{IsStepwise}
 use Rattle.bus_spec.specs.Schedule.{Follows}
 use Rattle.bus_spec.specs.Report.{report_of}
@@ -68,22 +68,18 @@ pub record IsOver {C S : Type 0} (k : CallerGhosts C S) (b : BoardView) (callers
   pub logs_count : length logs ≡ length b.roots
   pub log : (r : ℕ) → r < length b.roots → slice_get logs r ≡ Some (calls_of b (asks_in k.asked (scripts_in k callers)) (reverse journal) r)
 
--- over an accepted board the fields of this journal of so many callers, the oldest entry first, are in range; it is legal, and each
--- entry might come where it did; it is complete; these are the calls of its ports, which failed only where the ports counted it, and
--- the devices that it leaves
+-- over an accepted board the fields of this journal of so many callers, the oldest entry first, are in range; it is legal and complete;
+-- these are the calls of its ports, which counted those that failed, and the devices that the flat world is left with
 pub record IsRunBy (b : BoardView) (callers : ℕ) (asks : Asks) (logs : List (List PortCall)) (states : List TargetState)
     (counts : List ℕ) (journal : List Entry) : Type 0 where
   pub plain : IsPlainBoard b
   pub rules : MeetsRules b
   pub in_range : All IsEntry journal
-  pub legal : IsLegal b callers asks (reverse journal)
-  pub stepwise : IsStepwise b callers asks (reverse journal)
-  pub complete : IsComplete b callers asks (reverse journal)
-  pub called : logs ≡ map (calls_of b asks (reverse journal)) (range_with_len 0 (length b.roots))
+  pub legal : IsRuled b callers asks (reverse journal)
+  pub complete : IsThrough callers asks (reverse journal)
+  pub called : logs ≡ map (calls_by b legal.deeds (reverse journal)) (range_with_len 0 (length b.roots))
   pub faults : AreCounted b logs counts
-  pub told : History
-  pub replayed : history b asks (order (reverse journal)) ≡ Some told
-  pub left : states ≡ told.states
+  pub left : states ≡ legal.replies_kept.told.states
 
 -- there is such a journal, which keeps an order, and these bytes are its report
 pub record HasRunBy (b : BoardView) (callers : ℕ) (asks : Asks) (printed : ℕ → List Reply → List ℕ) (keeps : List Entry → Type 0)

@@ -2,7 +2,7 @@
 use Rattle.std.specs.Prelude.{⊤, ◌≡◌, ◌≢◌, ℕ, ◌⊎◌, IsTrue, List, [], ◌++◌}
 use Rattle.ports.specs.Causes.{Rose}
 use Rattle.tools.specs.Readers.{word_at}
-use Rattle.i2c_top.specs.Form.{Form, IsStatusOf, IsCalm, KeepsShelf, KeepsUnreached, IsTold, IsTraced}
+use Rattle.i2c_top.specs.Form.{Form, TellsItsFiles, IsStatusOf, IsCalm, KeepsShelf, KeepsUnreached, IsTold, IsTraced}
 use Rattle.i2c_top.specs.Status.{Class, Done, Misused, Refused, Unread, NoRig, Silent, class_of, refusal_text}
 use Rattle.i2c_top.specs.Traces.{ShelfView, OutputView, RigView, Outside, IsUnread}
 use Rattle.i2c_top.specs.Written.{HasFront}
@@ -24,7 +24,7 @@ IsShown form shelf shelf_now rig rig_now s = shown_of form shelf shelf_now rig r
 -- a call came to this status before it wrote: its cause held in the call, no file was read out of turn, and the rig was
 -- left as it says
 pub record CameTo (form : Form) (shelf shelf_now : ShelfView) (rig rig_now : RigView) (s : Status) : Type 0 where
-  pub told : IsTrue shelf.tells → IsTold form shelf.file s
+  pub told : TellsItsFiles form shelf → IsTold form shelf.file s
   pub shown : IsShown form shelf shelf_now rig rig_now s
   pub unwritten : s ≢ status.Write
   pub unreached : KeepsUnreached form shelf.faults shelf_now.faults s
@@ -33,7 +33,7 @@ pub record CameTo (form : Form) (shelf shelf_now : ShelfView) (rig rig_now : Rig
 -- the same of the status that a call ends with, which is one of the form's: the output may have failed, and counted it
 pub record IsCaused (form : Form) (old new : Outside) (s : Status) : Type 0 where
   pub own : IsStatusOf form s
-  pub told : IsTrue old.shelf.tells → IsTold form old.shelf.file s
+  pub told : TellsItsFiles form old.shelf → IsTold form old.shelf.file s
   pub shown : IsShown form old.shelf new.shelf old.rig new.rig s
   pub write : s ≡ status.Write → Rose old.sink.faults new.sink.faults
   pub unreached : KeepsUnreached form old.shelf.faults new.shelf.faults s
@@ -125,7 +125,7 @@ pub record HasSaid (form : Form) (old new : Outside) : Type 0 where
 -- written is told. The shelf keeps its words and files, and its counts but for those of the files that are read
 pub record HasEndedAs (form : Form) (old new : Outside) (result : Status) : Type 0 where
   pub cause : IsCaused form old new result
-  pub complete : IsTrue old.shelf.tells → (s : Status) → form.cause old.shelf.file s → IsCalm form old new
+  pub complete : TellsItsFiles form old.shelf → (s : Status) → form.cause old.shelf.file s → IsCalm form old new
       → (result ≡ s) ⊎ (result ≡ status.Memory)
   pub said : result ≡ status.Ok → HasSaid form old new
   pub written : HasWritten form old new result

@@ -11,7 +11,7 @@ use Rattle.i2c_top.specs.declared.status.Status.TheVariants as status
 -- before it is not refused. `skips`: with a refusal the call ends before it comes to the file at this place. `refuses`: it may
 -- end with this refusal of a text. `cause`: what the files say where it ends with a status that they decide, which is a success
 -- or the refusal of a text. `plugs`: it plugs the rig. `answer`: the text that a success writes, by the files and the rig.
--- `leaves`: what is so of that text and of the rig, whatever the files are.
+-- `leaves`: what is so of that text and of the rig whatever a shelf tells.
 pub record Form : Type 1 where
   pub reads : ℕ → Type 0
   pub turn : Files → ℕ → Type 0
@@ -54,6 +54,10 @@ told_of form file s Silent = ⊤
 
 abbrev pub IsTold : Form → Files → Status → Type 0
 IsTold form file s = told_of form file s (class_of s)
+
+-- the shelf tells the files that are read for it
+abbrev pub TellsItsFiles : Form → ShelfView → Type 0
+TellsItsFiles form shelf = (place : ℕ) → form.reads place → IsTrue shelf.tells
 
 -- no count rose of what it uses: its files, the output, and the rig where it plugs one
 pub record IsCalm (form : Form) (old new : Outside) : Type 0 where

@@ -7,6 +7,11 @@ use Rattle.addr_atr.specs.declared.fault.MapFault.{MapFault}
 use Rattle.addr_atr.specs.declared.fault.MapFault.TheVariants as fault
 use Rattle.i2c_top.specs.Files.{Files}
 
+-- some text spells this map over a board, which is accepted as it is lowered
+pub record IsMapSpelled (board : BoardView) (map : MapView) : Type 0 where
+  pub text : List ℕ
+  pub is_map : IsMapOf board text map
+
 -- the file is there, and its text spells this map over the board, which is accepted as it is lowered
 pub record HasMap (file : Files) (board : BoardView) (name : List ℕ) : Type 0 where
   pub text : List ℕ

@@ -5,13 +5,13 @@ use Rattle.ports.specs.Causes.{Rose}
 use Rattle.i2c_top.specs.Boards.{HasAccepted, HasRejected}
 use Rattle.addr_atr.specs.Maps.{MapView}
 use Rattle.addr_atr.specs.declared.fault.MapFault.{MapFault}
-use Rattle.i2c_top.specs.Files.{Files}
+use Rattle.i2c_top.specs.Files.{Files, OfSomeFiles}
 use Rattle.i2c_top.specs.MapFiles.{HasMap}
 use Rattle.caller_core.specs.View.{CallerView}
-use Rattle.i2c_top.specs.Scripts.{script_name, HasScript, HasBadScript, HasScripts, HasSchedule, HasBadSchedule, HasOrder, words_in, texts_in}
+use Rattle.i2c_top.specs.Scripts.{script_name, IsInGrammar, HasScript, HasBadScript, HasScripts, HasSchedule, HasBadSchedule, HasOrder, words_in, texts_in}
 use Rattle.i2c_top.specs.Traces.{IsUnread}
-use Rattle.i2c_top.specs.forms.Replays.{Names, IsPlaceIn, IsScheduleAt, IsReadInTurn, IsReplayCause}
-use Rattle.i2c_top.specs.forms.Atrs.{AtrNames}
+use Rattle.i2c_top.specs.forms.Replays.{Names, AreLike, IsPlaceIn, IsScheduleAt, IsReadInTurn, IsReplayCause}
+use Rattle.i2c_top.specs.forms.Atrs.{AtrNames, AreAtrLike}
 use Rattle.i2c_top.specs.forms.Verifies.{VerifyNames}
 use Rattle.i2c_top.specs.Runs.{AreOpened, texts_of, MOST_COST}
 use Rattle.i2c_top.specs.declared.status.BoardRefusal.{BoardRefusal}
@@ -37,9 +37,10 @@ pub record IsScheduleIn (file : Files) (name : List ℕ) (callers : ℕ) (words 
   pub has : HasSchedule file name callers
   pub same : words ≡ has.words
 
--- the first scripts are opened over a board; where the files are told they are there, with these texts, and in the grammar
+-- the first scripts are opened over a board, and in the grammar; where the files are told they are there, with these texts
 pub record AreScriptsIn (tells : Bool) (file : Files) (names : List (List ℕ)) (board : BoardView) (scripts : List CallerView) : Type 0 where
   pub opened : AreOpened board scripts
+  pub grammar : All (λ s. IsInGrammar board s.script.text) scripts
   pub read : IsTrue tells → HasScripts file board names (length scripts)
   pub same : IsTrue tells → texts_of scripts ≡ texts_in file (take (length scripts) names)
 
@@ -60,6 +61,10 @@ pub record HasRead (file : Files) (names : Names) (board : BoardView) (texts : L
   pub texts_are : texts ≡ texts_in file names.scripts
   pub order_in : IsOrderIn file names.schedule (length names.scripts) words
 
+-- .. of some files, whatever a shelf tells
+abbrev pub HasReadSome : Names → BoardView → List (List ℕ) → Option (List ℕ) → Type 0
+HasReadSome names board texts words = OfSomeFiles AreLike names (λ file called. HasRead file called board texts words)
+
 -- .. of a journal, with the bytes of its file
 pub record HasReadJournal (file : Files) (names : VerifyNames) (board : BoardView) (texts : List (List ℕ)) (text : List ℕ) : Type 0 where
   pub board_in : IsAcceptedIn file names.board board
@@ -79,6 +84,10 @@ pub record HasReadMap (file : Files) (names : AtrNames) (board : BoardView) (map
   pub texts_are : texts ≡ texts_in file names.scripts
   pub map_in : IsMapIn file board names.map map
   pub words_in : IsScheduleIn file names.schedule (length names.scripts) words
+
+-- .. of some files, whatever a shelf tells
+abbrev pub HasReadSomeMap : AtrNames → BoardView → MapView → List (List ℕ) → List ℕ → Type 0
+HasReadSomeMap names board map texts words = OfSomeFiles AreAtrLike names (λ file called. HasReadMap file called board map texts words)
 
 -- the file at this place was not read, or there was no memory, or what was read was bad
 abbrev pub IsRefusedAt : ℕ → (Status → Type 0) → ℕ → ℕ → Status → Type 0

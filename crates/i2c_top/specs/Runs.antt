@@ -11,7 +11,7 @@ use Rattle.i2c_spec.specs.Targets.{TargetState}
 use Rattle.i2c_spec.specs.History.{Asks}
 use Rattle.bus_spec.specs.Schedule.{Follows}
 use Rattle.bus_spec.specs.Report.{report_of}
-use Rattle.bus_groups.specs.Homes.{homes_of, home_at, AreByHomes}
+use Rattle.bus_groups.specs.Homes.{homes_of, caller_home_at, AreByHomes}
 use Rattle.caller_core.specs.Callers.{IsOpened, board_of, owed_by}
 use Rattle.caller_core.specs.Roots.{HasRoots}
 use Rattle.caller_core.specs.Scripts.{asked_by, left_of, commands_of, cost_of_script, section_text}
@@ -68,7 +68,7 @@ pub record IsOfGroups (b : BoardView) (texts : List (List ℕ)) (journal : List 
   -- the roots that each script's transfers name, as bits
   pub masks : List ℕ
   pub named : AllZip (λ text mask. HasRoots b (commands_of (script_on b text)) mask) texts masks
-  pub ordered : AreByHomes (home_at (homes_of (length b.roots) masks) masks) journal
+  pub ordered : AreByHomes (caller_home_at (homes_of (length b.roots) masks) masks) journal
 
 -- it follows the schedule whose words name these callers, where there is one; else it is the groups' journals
 abbrev pub KeepsOrder : BoardView → List (List ℕ) → Option (List ℕ) → List Entry → Type 0
@@ -89,10 +89,3 @@ report_by b texts journal = report_of (printed_by b texts) (length texts) journa
 
 abbrev pub HasRun : BoardView → List (List ℕ) → Option (List ℕ) → List ℕ → List (List PortCall) → List TargetState → List ℕ → Type 0
 HasRun b texts words bytes logs states counts = HasRunTold (report_by b texts) b texts words bytes logs states counts
-
--- there are an accepted board, texts of scripts, and the words of a schedule or none, and this is a run of these
-pub record HasSomeRun (bytes : List ℕ) (logs : List (List PortCall)) (states : List TargetState) (counts : List ℕ) : Type 0 where
-  pub board : BoardView
-  pub texts : List (List ℕ)
-  pub words : Option (List ℕ)
-  pub run : HasRun board texts words bytes logs states counts

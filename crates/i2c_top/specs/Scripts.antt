@@ -10,11 +10,15 @@ use Rattle.i2c_top.specs.Schedules.{schedule_read}
 abbrev pub script_name : List (List ℕ) → ℕ → List ℕ
 script_name names c = unwrap_or (slice_get names c) []
 
--- a script's file is there, and in the grammar, where it is read over a board
+-- a text is in the grammar, where it is read over a board
+abbrev pub IsInGrammar : BoardView → List ℕ → Type 0
+IsInGrammar b text = script_read (script_on b text) ≡ Ok (commands_of (script_on b text))
+
+-- a script's file is there, and in the grammar
 pub record HasScript (file : Files) (b : BoardView) (name : List ℕ) : Type 0 where
   pub text : List ℕ
   pub there : file name ≡ Some text
-  pub read : script_read (script_on b text) ≡ Ok (commands_of (script_on b text))
+  pub read : IsInGrammar b text
 
 -- it is there, and this line is its first that is not in the grammar, with its refused word
 pub record HasBadScript (file : Files) (b : BoardView) (name : List ℕ) (line word : ℕ) : Type 0 where
@@ -29,6 +33,16 @@ HasScripts file b names n = (c : ℕ) → c < n → HasScript file b (script_nam
 -- the scripts' texts
 abbrev pub texts_in : Files → List (List ℕ) → List (List ℕ)
 texts_in file names = map (bytes_in file) names
+
+-- the words of some text name these callers, among so many
+pub record AreScheduled (callers : ℕ) (words : List ℕ) : Type 0 where
+  pub text : List ℕ
+  pub read : schedule_read callers text ≡ Ok words
+
+-- .. where there is a schedule; without one there are none
+abbrev pub AreOrdered : Option (List ℕ) → ℕ → Option (List ℕ) → Type 0
+AreOrdered None callers words = words ≡ None
+AreOrdered (Some name) callers words = (ws : List ℕ) × (words ≡ Some ws) × AreScheduled callers ws
 
 -- the schedule's file is there, and its words name these callers, among so many
 pub record HasSchedule (file : Files) (name : List ℕ) (callers : ℕ) : Type 0 where

@@ -1,4 +1,4 @@
-//! A port that accounts for its faults: none of its calls has failed while its count is 0.
+//! A port that accounts for its faults: it counted each that stands in its log.
 ghost use Rattle.std.specs.Prelude.{◌≡◌, [], IsTrue};
 ghost use Rattle.i2c_top.specs.Faults.{AccountsForFaults};
 
@@ -6,7 +6,7 @@ use i2c_base::{Addr, Answer, MuxId};
 use ports::{Failed, Port};
 use std::marker::Model;
 
-/// A port whose log has a fault only where its own count has one. A contract sees the port.
+/// A port that counted each fault of its log. A contract sees the port.
 #[derive(Drop)]
 pub struct CountedPort<P: Port> {
     port: P,

@@ -1,17 +1,17 @@
 //! The files of a call, read in order: the board, the scripts, the schedule.
-ghost use Rattle.std.specs.Prelude.{◌≡◌, ◌≢◌, ℕ, ◌+◌, ◌<◌, ◌≤◌, ◌^◌, ◌⊎◌, List, length, map, Some, Ok, Err, slice_get, string_bytes, All, [], unwrap_or, OnOk, IfOk, IfErr, IsTrue};
+ghost use Rattle.std.specs.Prelude.{◌≡◌, ℕ, ◌+◌, ◌<◌, ◌≤◌, ◌^◌, ◌⊎◌, List, length, map, Some, Ok, Err, slice_get, string_bytes, All, [], unwrap_or, OnOk, IfOk, IfErr, IsTrue};
 ghost use Rattle.std.specs.Option.{option_map};
 ghost use Rattle.i2c_base.specs.Limits.{MOST_CALLERS};
 ghost use Rattle.i2c_boardtext.specs.BoardText.{board_of};
 ghost use Rattle.ports.specs.Causes.{Rose};
 ghost use Rattle.caller_core.specs.Callers.{IsOpened};
-ghost use Rattle.caller_core.specs.Scripts.{script_read, commands_of};
+ghost use Rattle.caller_core.specs.Scripts.{script_read};
 ghost use Rattle.caller_core.specs.View.{script_on};
 ghost use Rattle.i2c_top.specs.Names.{AreNamesFrom};
-ghost use Rattle.i2c_top.specs.Readings.{IsAcceptedIn, IsRejectedIn, IsScriptIn, AreScriptsIn, IsScheduleIn, IsOrderIn, AreNamed, HasRead, IsRefusedAt, IsRefusedScript, IsRefusedOrder, IsBadBoard, IsBadScript, IsBadSchedule, IsFileRefusal};
-ghost use Rattle.i2c_top.specs.Boards.{IsAccepted, IsRejected, HasRejected};
+ghost use Rattle.i2c_top.specs.Readings.{IsAcceptedIn, IsRejectedIn, IsScriptIn, AreScriptsIn, IsScheduleIn, IsOrderIn, AreNamed, HasRead, HasReadSome, IsRefusedAt, IsRefusedScript, IsRefusedOrder, IsBadBoard, IsBadScript, IsBadSchedule, IsFileRefusal};
+ghost use Rattle.i2c_top.specs.Boards.{IsAccepted, IsSpelled, IsRejected};
 ghost use Rattle.i2c_top.specs.Form.{KeepsSkipped};
-ghost use Rattle.i2c_top.specs.Scripts.{script_name, HasBadScript, HasBadSchedule};
+ghost use Rattle.i2c_top.specs.Scripts.{script_name, IsInGrammar, AreScheduled, AreOrdered, HasBadScript, HasBadSchedule};
 ghost use Rattle.i2c_top.specs.forms.Replays.{names_told, replay_form, ArePlaced, IsScheduleWord, IsPlaceIn, IsScheduleAt};
 ghost use Rattle.i2c_top.specs.Runs.{AreOpened, texts_of, cost_of_texts, MOST_COST};
 ghost use Rattle.i2c_top.specs.Schedules.{schedule_read};
@@ -97,7 +97,7 @@ fn accepted_of(alloc: Global, text: &[u8]) -> Result<Accepted, Status>
 fn script_of(alloc: Global, board: &Accepted, text: Vec<u8>, caller: u8) -> Result<Script, Status>
     requires { length text.items ≤ 2 ^ 28 }
     ensures opened { IfOk result (IsOpened board.now text.items) }
-    ensures read { OnOk result (script_read (script_on board.now text.items) ≡ Ok (commands_of (script_on board.now text.items))) }
+    ensures read { OnOk result (IsInGrammar board.now text.items) }
     ensures refused { IfErr result (λ e. (e ≡ status.Memory) ⊎ IsBadScript caller (λ line word. script_read (script_on board.now text.items) ≡ Err (record { line = line; word = word })) e) }
 {
     match Script::open(alloc, board, text) {
@@ -124,6 +124,7 @@ fn words_of(alloc: Global, text: &[u8], callers: u8) -> Result<Vec<u8>, Status>
 pub fn read_accepted<S: Shelf>(alloc: Global, shelf: &mut S, name: &str) -> Result<Accepted, Status>
     requires named { slice_get (S.words shelf.old) 1 ≡ Some name.now }
     ensures kept { KeepsBut (λ p. p ≡ 1) (shelf_view S.Shelf shelf.old) (shelf_view S.Shelf shelf.new) }
+    ensures spelled { IfOk result IsSpelled }
     ensures board { IsTrue S.tells → IfOk result (IsAcceptedIn (S.file shelf.old) name.now) }
     ensures refused { IfErr result (IsRefusedAt 1 (IsBadBoard (IsRejectedIn S.tells (S.file shelf.old) name.now)) (S.faults shelf.old 1) (S.faults shelf.new 1)) }
 {
@@ -145,6 +146,7 @@ fn script_in<S: Shelf>(
     requires named { slice_get (S.words shelf.old) (first + caller) ≡ Some name.now }
     ensures kept { KeepsBut (λ p. p ≡ first + caller) (shelf_view S.Shelf shelf.old) (shelf_view S.Shelf shelf.new) }
     ensures opened { IfOk result (λ s. IsOpened board.now s.script.text s) }
+    ensures grammar { IfOk result (λ s. IsInGrammar board.now s.script.text) }
     ensures script { IsTrue S.tells → IfOk result (λ s. IsScriptIn (S.file shelf.old) board.now name.now s.script.text) }
     ensures refused { IfErr result (IsRefusedAt (first + caller) (IsBadScript caller (λ line word. IsTrue S.tells → HasBadScript (S.file shelf.old) board.now name.now line word))
         (S.faults shelf.old (first + caller)) (S.faults shelf.new (first + caller))) }
@@ -207,6 +209,7 @@ pub fn schedule_in<S: Shelf>(
     requires named { slice_get (S.words shelf.old) place ≡ Some name.now }
     ensures kept { KeepsBut (λ p. p ≡ place) (shelf_view S.Shelf shelf.old) (shelf_view S.Shelf shelf.new) }
     ensures named { IfOk result (λ words. All (λ c. c < callers) words.items) }
+    ensures scheduled { IfOk result (λ words. AreScheduled callers words.items) }
     ensures schedule { IsTrue S.tells → IfOk result (λ words. IsScheduleIn (S.file shelf.old) name.now callers words.items) }
     ensures refused { IfErr result (IsRefusedAt place (IsBadSchedule (λ word. IsTrue S.tells → HasBadSchedule (S.file shelf.old) name.now callers word)) (S.faults shelf.old place) (S.faults shelf.new place)) }
 {
@@ -224,6 +227,7 @@ fn order_in<S: Shelf>(
     requires named { IsScheduleWord (S.words shelf.old) (option_map (λ s. s.now) schedule) }
     ensures kept { KeepsBut (IsScheduleAt (option_map (λ s. s.now) schedule.entry)) (shelf_view S.Shelf shelf.old) (shelf_view S.Shelf shelf.new) }
     ensures named { IfOk result (λ words. AreNamed callers (option_map (λ v. v.items) words)) }
+    ensures ordered { IfOk result (λ words. AreOrdered (option_map (λ s. s.now) schedule.entry) callers (option_map (λ v. v.items) words)) }
     ensures order { IsTrue S.tells → IfOk result (λ words. IsOrderIn (S.file shelf.old) (option_map (λ s. s.now) schedule.entry) callers (option_map (λ v. v.items) words)) }
     ensures refused { IfErr result (IsRefusedOrder S.tells (S.file shelf.old) (option_map (λ s. s.now) schedule.entry) callers (S.faults shelf.old) (S.faults shelf.new)) }
 {
@@ -255,6 +259,7 @@ pub fn read_files<S: Shelf>(
     ensures few { IfOk result (λ f. length f.scripts.items ≤ MOST_CALLERS) }
     ensures named { IfOk result (λ f. AreNamed (length f.scripts.items) (option_map (λ v. v.items) f.schedule)) }
     ensures cheap { IfOk result (λ f. cost_of_texts f.board (texts_of f.scripts.items) ≤ MOST_COST) }
+    ensures some { IfOk result (λ f. HasReadSome (names_told names.now) f.board (texts_of f.scripts.items) (option_map (λ v. v.items) f.schedule)) }
     ensures read { IsTrue S.tells → IfOk result (λ f. HasRead (S.file shelf.old) (names_told names.now) f.board (texts_of f.scripts.items) (option_map (λ v. v.items) f.schedule)) }
     ensures unreached { IfErr result (KeepsSkipped (replay_form (names_told names.now)) (S.faults shelf.old) (S.faults shelf.new)) }
     ensures refused { IfErr result (IsFileRefusal S.tells (S.file shelf.old) (names_told names.now) (S.faults shelf.old) (S.faults shelf.new)) }

@@ -1,8 +1,8 @@
 //! The file of a map of address translators.
-ghost use Rattle.std.specs.Prelude.{◌≡◌, ◌≢◌, ◌⊎◌, Some, slice_get, IfOk, OnOk, IfErr, IsTrue};
+ghost use Rattle.std.specs.Prelude.{◌≡◌, ◌≢◌, ◌⊎◌, Some, slice_get, IfOk, IfErr, IsTrue};
 ghost use Rattle.addr_atr.specs.MapTexts.{Fails, IsMapOf};
 ghost use Rattle.addr_atr.specs.declared.fault.MapFault.TheVariants as fault;
-ghost use Rattle.i2c_top.specs.MapFiles.{HasBadMap};
+ghost use Rattle.i2c_top.specs.MapFiles.{HasBadMap, IsMapSpelled};
 ghost use Rattle.i2c_top.specs.Readings.{IsBadMap, IsMapIn, IsRefusedAt};
 ghost use Rattle.i2c_top.specs.Traces.{KeepsBut, shelf_view};
 ghost use Rattle.i2c_top.specs.declared.status.Status.TheVariants as status;
@@ -39,6 +39,7 @@ pub fn map_in<S: Shelf>(
     requires named { slice_get (S.words shelf.old) 2 ≡ Some name.now }
     ensures kept { KeepsBut (λ p. p ≡ 2) (shelf_view S.Shelf shelf.old) (shelf_view S.Shelf shelf.new) }
     ensures board { IfOk result (λ m. m.board ≡ board.now) }
+    ensures spelled { IfOk result (IsMapSpelled board.now) }
     ensures map { IsTrue S.tells → IfOk result (IsMapIn (S.file shelf.old) board.now name.now) }
     ensures refused { IfErr result (IsRefusedAt 2 (IsBadMap (λ why. (why ≢ fault.Memory) × (IsTrue S.tells → HasBadMap (S.file shelf.old) board.now name.now why))) (S.faults shelf.old 2) (S.faults shelf.new 2)) }
 {

@@ -16,13 +16,14 @@ use Rattle.addr_atr.specs.declared.fault.MapFault.TheVariants as fault
 use Rattle.caller_core.specs.View.{CallerView}
 use Rattle.i2c_top.specs.Boards.{HasAccepted, HasRejected}
 use Rattle.i2c_top.specs.Callers.{HasRunBy}
-use Rattle.i2c_top.specs.Files.{Files}
+use Rattle.i2c_top.specs.Files.{Files, OfSomeFiles}
 use Rattle.i2c_top.specs.Form.{Form}
 use Rattle.i2c_top.specs.MapFiles.{HasMap, HasBadMap}
 use Rattle.i2c_top.specs.Names.{are_names, AreNamesFrom}
 use Rattle.i2c_top.specs.Runs.{asks_by, printed_by, cost_of_texts, MOST_COST}
 use Rattle.i2c_top.specs.Scripts.{script_name, HasBadScript, HasScripts, HasSchedule, HasBadSchedule, texts_in}
 use Rattle.i2c_top.specs.forms.Replays.{Names, names_of, HasScriptsBefore}
+use Rattle.i2c_top.specs.Traces.{RigView}
 use Rattle.i2c_top.specs.declared.forms.atr.AtrWords.{AtrWords}
 use Rattle.i2c_top.specs.declared.status.Status.{Status}
 use Rattle.i2c_top.specs.declared.status.Status.TheVariants as status
@@ -42,6 +43,10 @@ pub record AtrNames : Type 0 where
 
 abbrev pub atr_names : List (List ℕ) → AtrNames
 atr_names words = record { board = word_at words 1; map = word_at words 2; schedule = word_at words 3; scripts = drop 4 words }
+
+-- as many scripts
+abbrev pub AreAtrLike : AtrNames → AtrNames → Type 0
+AreAtrLike names others = length names.scripts ≡ length others.scripts
 
 abbrev pub atr_told : AtrWords → AtrNames
 atr_told words = record {
@@ -162,19 +167,16 @@ pub record HasAtrReport (file : Files) (names : AtrNames) (bytes : List ℕ) (lo
   pub files : HasAtrFiles file names
   pub run : HasAtrRun files.texts.files.mapped.map (texts_in file names.scripts) files.texts.schedule.words bytes logs states counts
 
--- there are a map, texts of scripts, and the words of a schedule, and this is such a run of these
-pub record HasSomeAtrRun (bytes : List ℕ) (logs : List (List PortCall)) (states : List TargetState) (counts : List ℕ) : Type 0 where
-  pub map : MapView
-  pub texts : List (List ℕ)
-  pub words : List ℕ
-  pub run : HasAtrRun map texts words bytes logs states counts
-
 -- the report was written behind what stood there
 pub record HasTranslated (file : Files) (names : AtrNames) (before now : List ℕ) (logs : List (List PortCall)) (states : List TargetState)
     (counts : List ℕ) : Type 0 where
   pub bytes : List ℕ
   pub report : HasAtrReport file names bytes logs states counts
   pub written : now ≡ before ++ bytes
+
+-- the report over a rig, where it and its ports tell what they did
+abbrev pub IsAtrAnswer : Files → AtrNames → RigView → List ℕ → Type 0
+IsAtrAnswer file names rig text = IsTrue rig.tells → IsTrue rig.ports_tell → HasAtrReport file names text rig.logs rig.states rig.counts
 
 -- THE ROW: it reads the board, the scripts, the map and the schedule, and plugs the rig with the lowered board; a success writes the
 -- report of a run over it
@@ -186,6 +188,6 @@ atr_form names = record {
   refuses = IsAtrRefusal;
   cause = λ file s. IsAtrCause file names s;
   plugs = true;
-  answer = λ file rig text. IsTrue rig.tells → IsTrue rig.ports_tell → HasAtrReport file names text rig.logs rig.states rig.counts;
-  leaves = λ rig text. IsTrue rig.tells → IsTrue rig.ports_tell → HasSomeAtrRun text rig.logs rig.states rig.counts;
+  answer = λ file rig text. IsAtrAnswer file names rig text;
+  leaves = λ rig text. OfSomeFiles AreAtrLike names (λ file called. IsAtrAnswer file called rig text);
 }

@@ -22,6 +22,7 @@ use Rattle.i2c_top.specs.Form.{Form}
 use Rattle.i2c_top.specs.Names.{are_names}
 use Rattle.i2c_top.specs.Runs.{printed_by}
 use Rattle.i2c_top.specs.Scripts.{texts_in, words_in}
+use Rattle.i2c_top.specs.Traces.{RigView}
 use Rattle.i2c_top.specs.forms.Replays.{Names, HasFiles, reading_form}
 
 -- `cached`, and the names of a board, a schedule and at least one script, at most one for each caller
@@ -72,13 +73,6 @@ pub record HasCachedReport (file : Files) (names : Names) (bytes : List ℕ) (lo
   pub by : words_in file names.schedule (length names.scripts) files.texts.schedule ≡ Some words
   pub run : HasCachedRun files.texts.board.board (texts_in file names.scripts) words bytes logs states counts
 
--- there are a board, texts of scripts, and the words of a schedule, and this is such a run of these
-pub record HasSomeCachedRun (bytes : List ℕ) (logs : List (List PortCall)) (states : List TargetState) (counts : List ℕ) : Type 0 where
-  pub board : BoardView
-  pub texts : List (List ℕ)
-  pub words : List ℕ
-  pub run : HasCachedRun board texts words bytes logs states counts
-
 -- the report was written behind what stood there
 pub record HasCached (file : Files) (names : Names) (before now : List ℕ) (logs : List (List PortCall)) (states : List TargetState)
     (counts : List ℕ) : Type 0 where
@@ -86,8 +80,10 @@ pub record HasCached (file : Files) (names : Names) (before now : List ℕ) (log
   pub report : HasCachedReport file names bytes logs states counts
   pub written : now ≡ before ++ bytes
 
+-- the report over a rig, where it and its ports tell what they did
+abbrev pub IsCachedAnswer : Files → Names → RigView → List ℕ → Type 0
+IsCachedAnswer file names rig text = IsTrue rig.tells → IsTrue rig.ports_tell → HasCachedReport file names text rig.logs rig.states rig.counts
+
 -- THE ROW: the files are those of a replay; a success writes the report of such a run
 abbrev pub cached_form : Names → Form
-cached_form names = reading_form names
-    (λ file rig text. IsTrue rig.tells → IsTrue rig.ports_tell → HasCachedReport file names text rig.logs rig.states rig.counts)
-    (λ rig text. IsTrue rig.tells → IsTrue rig.ports_tell → HasSomeCachedRun text rig.logs rig.states rig.counts)
+cached_form names = reading_form names IsCachedAnswer

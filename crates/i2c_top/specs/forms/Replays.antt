@@ -1,6 +1,6 @@
 -- `replay BOARD SCHEDULE SCRIPT...`, and `run BOARD SCRIPT...`, which is a replay without a schedule, each with 1 to 8 scripts:
 -- their words, what the files say where they end with a status, and the report that they write.
-use Rattle.std.specs.Prelude.{⊤, ◌≡◌, ℕ, ◌+◌, ◌<◌, ◌≤◌, ◌⊎◌, nat_le, Bool, true, ◌&&◌, IsTrue, List, ◌++◌, length, drop, map, slice_get, string_bytes, codes, Option, None, Some}
+use Rattle.std.specs.Prelude.{⊤, ◌≡◌, ℕ, ◌+◌, ◌<◌, ◌≤◌, ◌⊎◌, nat_le, Bool, true, ◌&&◌, IsTrue, List, ◌++◌, length, drop, map, slice_get, string_bytes, codes, Option, None, Some, is_some}
 use Rattle.std.specs.Option.{option_map}
 use Rattle.std.specs.Str.{bytes_eq}
 use Rattle.i2c_base.specs.declared.port.PortCall.{PortCall}
@@ -9,10 +9,10 @@ use Rattle.i2c_base.specs.Limits.{MOST_CALLERS}
 use Rattle.i2c_spec.specs.Targets.{TargetState}
 use Rattle.tools.specs.Readers.{word_at}
 use Rattle.i2c_top.specs.Boards.{HasAccepted, HasRejected}
-use Rattle.i2c_top.specs.Files.{Files}
+use Rattle.i2c_top.specs.Files.{Files, OfSomeFiles}
 use Rattle.i2c_top.specs.Form.{Form}
 use Rattle.i2c_top.specs.Names.{are_names, AreNamesFrom}
-use Rattle.i2c_top.specs.Runs.{cost_of_texts, MOST_COST, HasRun, HasSomeRun}
+use Rattle.i2c_top.specs.Runs.{cost_of_texts, MOST_COST, HasRun}
 use Rattle.i2c_top.specs.Scripts.{script_name, HasBadScript, HasScripts, texts_in, HasOrder, HasBadOrder, words_in}
 use Rattle.i2c_top.specs.Traces.{RigView}
 use Rattle.i2c_top.specs.declared.names.ReplayNames.{ReplayNames}
@@ -46,6 +46,11 @@ replay_names words = names_of (word_at words 1) (Some (word_at words 2)) (drop 3
 
 abbrev pub run_names : List (List ℕ) → Names
 run_names words = names_of (word_at words 1) None (drop 2 words)
+
+-- as many scripts, and a schedule where these have one
+pub record AreLike (names others : Names) : Type 0 where
+  pub scripts : length names.scripts ≡ length others.scripts
+  pub schedule : is_some names.schedule ≡ is_some others.schedule
 
 -- names as the program has them, and as contracts see them
 abbrev pub names_told : ReplayNames → Names
@@ -165,21 +170,23 @@ pub record HasReplayed (file : Files) (names : Names) (before now : List ℕ) (l
   pub written : now ≡ before ++ bytes
 
 -- the row of a form that reads the board, the scripts and the schedule, where there is one, and plugs the rig; a success writes this
--- answer, of which this is so whatever the files are
-abbrev pub reading_form : Names → (Files → RigView → List ℕ → Type 0) → (RigView → List ℕ → Type 0) → Form
-reading_form names answer leaves = record {
+-- answer, which is that of some files whatever a shelf tells
+abbrev pub reading_form : Names → (Files → Names → RigView → List ℕ → Type 0) → Form
+reading_form names answer = record {
   reads = IsPlaceIn names;
   turn = λ file place. IsReadInTurn file names place;
   skips = IsSkipped names.schedule;
   refuses = IsReplayRefusal names;
   cause = λ file s. IsReplayCause file names s;
   plugs = true;
-  answer = answer;
-  leaves = leaves;
+  answer = λ file rig text. answer file names rig text;
+  leaves = λ rig text. OfSomeFiles AreLike names (λ file called. answer file called rig text);
 }
 
--- THE ROW, of both: a success writes the report of a run over the rig, which is some run whatever the files are
+-- the report over a rig, where it and its ports tell what they did
+abbrev pub IsReplayAnswer : Files → Names → RigView → List ℕ → Type 0
+IsReplayAnswer file names rig text = IsTrue rig.tells → IsTrue rig.ports_tell → HasReport file names text rig.logs rig.states rig.counts
+
+-- THE ROW, of both: a success writes the report of a run over the rig
 abbrev pub replay_form : Names → Form
-replay_form names = reading_form names
-    (λ file rig text. IsTrue rig.tells → IsTrue rig.ports_tell → HasReport file names text rig.logs rig.states rig.counts)
-    (λ rig text. IsTrue rig.tells → IsTrue rig.ports_tell → HasSomeRun text rig.logs rig.states rig.counts)
+replay_form names = reading_form names IsReplayAnswer

@@ -2,7 +2,7 @@
 ghost use Rattle.std.specs.Prelude.{◌≡◌, ◌<◌, ◌≤◌, true, All, length, map, string_bytes, IfOk, IfErr, IsTrue};
 ghost use Rattle.i2c_base.specs.Limits.{MOST_CALLERS};
 ghost use Rattle.i2c_top.specs.Endings.{CameToRefusal, CameToSuccess, HasEndedAs};
-ghost use Rattle.i2c_top.specs.Readings.{HasReadMap};
+ghost use Rattle.i2c_top.specs.Readings.{HasReadMap, HasReadSomeMap};
 ghost use Rattle.i2c_top.specs.Runs.{AreOpened, texts_of, cost_of_texts, MOST_COST};
 ghost use Rattle.i2c_top.specs.Traces.{RigView, KeepsBut, shelf_view, rig_view, outside};
 ghost use Rattle.i2c_top.specs.forms.Atrs.{atr_form, atr_names, atr_told, behind_of, is_atr, AreAtrPlaced, HasTranslated, IsAtrPlace};
@@ -83,6 +83,7 @@ fn read_files<S: Shelf>(
     ensures board { IfOk result (λ f. f.map.board ≡ f.board) }
     ensures named { IfOk result (λ f. All (λ c. c < length f.scripts.items) f.words.items) }
     ensures cheap { IfOk result (λ f. cost_of_texts f.board (texts_of f.scripts.items) ≤ MOST_COST) }
+    ensures some { IfOk result (λ f. HasReadSomeMap (atr_told names.now) f.board f.map (texts_of f.scripts.items) f.words.items) }
     ensures read { IsTrue S.tells → IfOk result (λ f. HasReadMap (S.file shelf.old) (atr_told names.now) f.board f.map (texts_of f.scripts.items) f.words.items) }
     ensures refused { IfErr result (λ e. (rig : RigView)
         → CameToRefusal (atr_form (atr_told names.now)) (shelf_view S.Shelf shelf.old) (shelf_view S.Shelf shelf.new) rig rig e) }

@@ -3,6 +3,10 @@ use Rattle.std.proofs.lemmas.Result.{IfOk-weaker, IfErr-weaker}
 use Rattle.i2c_top.proofs.FileLemmas.{accepted_in, board_rejected}
 use Rattle.i2c_top.proofs.files.read_accepted.Goals as goal
 
+pub returns-clause-spelled : goal.returns-clause-spelled
+returns-clause-spelled g c =
+    IfOk-weaker c.accepted_of.result _ _ (λ b h. record { text = c.as_slice.result.now; is_accepted = h }) c.accepted_of.ensures.board
+
 pub returns-clause-board : goal.returns-clause-board
 returns-clause-board g c =
     λ t. IfOk-weaker c.accepted_of.result _ _

@@ -6,6 +6,7 @@ use Rattle.i2c_top.specs.forms.Replays.{names_told}
 use Rattle.i2c_top.specs.Readings.{IsRefusedScript, IsTooDear}
 use Rattle.i2c_top.specs.Runs.{cost_of_texts, texts_of}
 use Rattle.i2c_top.proofs.FileLemmas.{all_kept, all_scripts, has_read, passed_on, scripts_refusal, schedule_before, order_refusal, cost_refusal, board_unreached, scripts_unreached, order_unreached}
+use Rattle.i2c_top.proofs.SomeFiles.{some-read}
 use Rattle.i2c_top.proofs.files.read_files.Goals as goal
 
 pub returns-in_err-scripts-clause-refused : goal.returns-in_err-scripts-clause-refused
@@ -67,6 +68,14 @@ pub returns-clause-kept : goal.returns-clause-kept
 returns-clause-kept g c =
     all_kept (names_told c.args.names.now) _ _ _ _ _ _ c.first_script.ensures (sym (length-map c.args.names.now.scripts.now string_bytes))
     c.read_accepted.ensures.kept c.scripts_in.ensures.kept c.order_in.ensures.kept
+
+pub returns-clause-some : goal.returns-clause-some
+returns-clause-some g c =
+    let names = names_told c.args.names.now in
+    let count = c.in_ok-scripts.ensures.count ∙ sym (length-map c.args.names.now.scripts.now string_bytes) in
+    some-read names c.in_ok-board.board c.in_ok-scripts.scripts.items c.callers_of.result (option_map (λ v. v.items) c.in_ok-schedule.schedule)
+    c.in_ok-board.ensures.spelled c.in_ok-scripts.ensures.scripts.grammar count
+    (c.callers_of.ensures ∙ ap length c.as_slice.ensures.value ∙ count) c.in_ok-schedule.ensures.ordered
 
 pub returns-clause-read : goal.returns-clause-read
 returns-clause-read g c =

@@ -51,7 +51,7 @@ loop-caller-preserved g c =
           at.invariant.kept.files at.invariant.count
           (subst (λ n. at.caller < n) (sym (length-map c.args.names.now string_bytes)) c.loop-caller-test.true) c.name_of-name.ensures.value
           c.in_ok-push.ensures.items at.invariant.scripts
-          c.in_ok-script.ensures.opened c.in_ok-script.ensures.script;
+          c.in_ok-script.ensures.opened c.in_ok-script.ensures.grammar c.in_ok-script.ensures.script;
     }
 
 pub script_in-requires-clause-named : goal.script_in-requires-clause-named

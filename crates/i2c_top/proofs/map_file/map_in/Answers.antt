@@ -1,6 +1,11 @@
 use Rattle.std.proofs.Common.{ap, sym, ◌∙◌, Some}
+use Rattle.std.proofs.lemmas.Result.{IfOk-weaker}
 use Rattle.i2c_top.proofs.AtrLemmas.{map_there}
 use Rattle.i2c_top.proofs.map_file.map_in.Goals as goal
+
+pub returns-clause-spelled : goal.returns-clause-spelled
+returns-clause-spelled g c =
+    IfOk-weaker c.map_of.result _ _ (λ m h. record { text = c.as_slice.result.now; is_map = h }) c.map_of.ensures.map
 
 pub returns-clause-map : goal.returns-clause-map
 returns-clause-map g c =

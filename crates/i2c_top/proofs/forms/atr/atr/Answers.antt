@@ -56,7 +56,7 @@ returns-clause-done g c =
     let counts = g.R.Rig.port_faults rig in
     let opened = subst (λ (b : BoardView). AreOpened b f.scripts.items) (sym read.board) read.opened in
     let callers = map (behind_of f.map) f.scripts.items in
-    atr_done _ _ _ _ _ f.board f.map (texts_of f.scripts.items) f.words.items read.read read.cheap c.read_files.ensures.kept run.plugs run.unplugged
+    atr_done _ _ _ _ _ f.board f.map (texts_of f.scripts.items) f.words.items read.some read.read read.cheap c.read_files.ensures.kept run.plugs run.unplugged
     c.run_callers.result (λ v. v) run.unplugs
     (λ tells ports. if-ok
     (λ text. HasRunOfAny atr_row.asked section_by (lowered f.map.board f.map.translators) (scripts_in atr_row callers) f.words.items text logs states counts)
@@ -75,5 +75,5 @@ returns-clause-refused g c =
     let f = c.in_ok-board.field-0 in
     let read = c.in_ok-board.ensures in
     let run = c.run_callers.ensures in
-    atr_failed _ _ _ _ _ f.board f.map (texts_of f.scripts.items) f.words.items read.read read.cheap c.read_files.ensures.kept run.plugs run.unplugged
+    atr_failed _ _ _ _ _ f.board f.map (texts_of f.scripts.items) f.words.items read.some read.read read.cheap c.read_files.ensures.kept run.plugs run.unplugged
     c.run_callers.result run.none run.once run.rig run.failed

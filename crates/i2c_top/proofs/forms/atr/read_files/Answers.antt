@@ -1,12 +1,13 @@
 use Rattle.i2c_top.specs.Traces.{shelf_view}
-use Rattle.std.proofs.Common.{ℕ, List, IsTrue, length, sym, ap, subst, ◌∙◌, arith}
+use Rattle.std.proofs.Common.{◌≡◌, ℕ, List, IsTrue, length, sym, ap, subst, ◌∙◌, arith}
 use Rattle.std.specs.Prelude.{string_bytes}
 use Rattle.std.proofs.lemmas.List.{length-map}
 use Rattle.i2c_top.specs.Readings.{IsTooDear}
 use Rattle.i2c_top.specs.Runs.{cost_of_texts, texts_of}
 use Rattle.i2c_top.specs.forms.Atrs.{atr_told}
 use Rattle.i2c_top.proofs.FileLemmas.{all_scripts, passed_on}
-use Rattle.i2c_top.proofs.AtrLemmas.{cost_told, kept_more, kept_scripts, map_read, map_told, same_map, script_told, word_told}
+use Rattle.i2c_top.proofs.AtrLemmas.{board_told, cost_told, kept_more, kept_scripts, map_read, map_told, same_map, script_told, some_kept, word_told}
+use Rattle.i2c_top.proofs.SomeFiles.{some-map}
 use Rattle.i2c_top.proofs.forms.atr.read_files.Goals as goal
 
 pub returns-in_err-scripts-clause-refused : goal.returns-in_err-scripts-clause-refused
@@ -99,6 +100,14 @@ returns-clause-kept g c =
     (kept_more names 2 _ _ _ (omega arith) (omega arith)
     (kept_scripts names _ _ _ _ many c.read_accepted.ensures.kept c.scripts_in.ensures.kept) c.map_in.ensures.kept) c.schedule_in.ensures.kept
 
+pub returns-clause-some : goal.returns-clause-some
+returns-clause-some g c =
+    let names = atr_told c.args.names.now in
+    let count = c.in_ok-scripts.ensures.count ∙ sym (length-map c.args.names.now.scripts.now string_bytes) in
+    some-map names c.in_ok-board.board c.in_ok-scripts.scripts.items c.in_ok-map.map c.callers_of-callers.result c.in_ok-words.words.items
+    c.in_ok-board.ensures.spelled c.in_ok-scripts.ensures.scripts.grammar c.in_ok-map.ensures.spelled count
+    (c.callers_of-callers.ensures ∙ ap length c.as_slice.ensures.value ∙ count) c.in_ok-words.ensures.scheduled
+
 pub returns-clause-read : goal.returns-clause-read
 returns-clause-read g c =
     let names = atr_told c.args.names.now in
@@ -109,3 +118,11 @@ returns-clause-read g c =
     c.in_ok-words.words.items c.callers_of-callers.result c.read_accepted.ensures.kept.files same (λ n. c.map_in.ensures.kept.files n ∙ same n) t
     (c.in_ok-board.ensures.board t) count c.in_ok-scripts.ensures.scripts (c.in_ok-map.ensures.map t)
     (c.callers_of-callers.ensures ∙ ap length c.as_slice.ensures.value ∙ count) (c.in_ok-words.ensures.schedule t)
+
+pub returns-in_err-board-clause-refused : goal.returns-in_err-board-clause-refused
+returns-in_err-board-clause-refused g c =
+    let names = atr_told c.args.names.now in
+    passed_on c.from_residual.result c.in_err-board.field-0.0 _ c.from_residual.ensures.1
+    (λ rig. board_told names _ _ rig
+    (some_kept names (λ p. p ≡ 1) _ _ (λ p e. record { first = omega (arith, e); last = omega (arith, e) }) c.read_accepted.ensures.kept)
+    c.in_err-board.field-0.0 c.read_accepted.ensures.kept.others c.in_err-board.ensures.refused)

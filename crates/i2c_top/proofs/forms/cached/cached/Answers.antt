@@ -7,11 +7,13 @@ use Rattle.caller_core.proofs.FairLemmas.{scripts_fair}
 use Rattle.reg_cache.specs.Cached.{CachedScript, cached_asked}
 use Rattle.i2c_top.specs.Callers.{HasRunOfAny}
 use Rattle.i2c_top.specs.Runs.{cost_of_texts, texts_of}
-use Rattle.i2c_top.specs.forms.Caches.{cached_scripts, HasCachedRun}
+use Rattle.i2c_top.specs.forms.Caches.{cached_scripts, HasCachedRun, IsCachedAnswer}
 use Rattle.i2c_top.proofs.CachedLemmas.{cached_done}
 use Rattle.i2c_top.proofs.CachedRun.{cached-ready, cached-run, cached_section, count-cached, left-cached}
 use Rattle.i2c_top.proofs.CoreLemmas.{if-ok}
-use Rattle.i2c_top.proofs.ReplayLemmas.{named_all, run_failed}
+use Rattle.i2c_top.proofs.ReplayLemmas.{files_refused, named_all, run_failed}
+use Rattle.i2c_top.proofs.FileLemmas.{passed_on}
+use Rattle.i2c_top.specs.forms.Replays.{names_told}
 use Rattle.i2c_top.proofs.forms.cached.cached.Goals as goal
 use Rattle.i2c_top.proofs.forms.cached.cached.Goals.{In_ok-callers}
 
@@ -63,7 +65,7 @@ returns-clause-done g c =
     let texts = texts_of f.scripts.items in
     let words = unwrap_or (option_map (λ v. v.items) f.schedule) [] in
     let listed : c.as_slice-2.result.now ≡ words = c.as_slice-2.ensures.value ∙ c.listed-words.ensures in
-    cached_done _ _ _ _ _ _ _ _ read.read read.cheap c.read_files.ensures.kept run.plugs run.unplugged c.run_callers.result
+    cached_done _ _ _ _ _ _ _ _ read.some read.read read.cheap c.read_files.ensures.kept run.plugs run.unplugged c.run_callers.result
     (λ v. v) c.requires.scheduled run.unplugs
     (λ tells ports. if-ok
     (λ text. HasRunOfAny cached_asked cached_section f.board (cached_scripts f.board texts) words text logs states counts)
@@ -78,5 +80,11 @@ pub returns-clause-refused : goal.returns-clause-refused
 returns-clause-refused g c =
     let read = c.in_ok-board.ensures in
     let run = c.run_callers.ensures in
-    run_failed _ _ _ _ _ _ _ _ _ _ read.read read.cheap c.read_files.ensures.kept run.plugs run.unplugged c.run_callers.result
+    run_failed _ IsCachedAnswer _ _ _ _ _ _ _ read.read read.cheap c.read_files.ensures.kept run.plugs run.unplugged c.run_callers.result
     run.none run.once run.rig run.failed
+
+pub returns-in_err-board-clause-refused : goal.returns-in_err-board-clause-refused
+returns-in_err-board-clause-refused g c =
+    passed_on c.from_residual.result c.in_err-board.field-0.0 _ c.from_residual.ensures.1
+    (files_refused (names_told c.args.names.now) IsCachedAnswer _ _ _ c.in_err-board.field-0.0 c.read_files.ensures.kept
+    c.in_err-board.ensures.unreached c.in_err-board.ensures.refused)

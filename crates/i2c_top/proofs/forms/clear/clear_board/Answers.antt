@@ -1,5 +1,5 @@
 use Rattle.std.proofs.Common.{◌∙◌}
-use Rattle.i2c_top.proofs.ClearLemmas.{clear_done, no_root_refused, lines_told}
+use Rattle.i2c_top.proofs.ClearLemmas.{clear_done, clear_refused, no_root_refused, lines_told}
 use Rattle.i2c_top.proofs.FileLemmas.{passed_on}
 use Rattle.i2c_top.proofs.forms.clear.clear_board.Goals as goal
 
@@ -16,3 +16,8 @@ returns-in_err-root-clause-refused g c =
     passed_on c.from_residual-in_err-root.result c.in_err-root.field-0.0 _ c.from_residual-in_err-root.ensures.1
     (λ rig. no_root_refused _ _ _ _ rig c.read_accepted.ensures.kept c.in_ok-accepted.accepted _ c.in_ok-accepted.ensures.board
     c.in_err-root.ensures.refused)
+
+pub returns-in_err-accepted-clause-refused : goal.returns-in_err-accepted-clause-refused
+returns-in_err-accepted-clause-refused g c =
+    passed_on c.from_residual.result c.in_err-accepted.field-0.0 _ c.from_residual.ensures.1
+    (λ rig. clear_refused _ _ _ _ rig c.read_accepted.ensures.kept c.in_err-accepted.field-0.0 c.in_err-accepted.ensures.refused)

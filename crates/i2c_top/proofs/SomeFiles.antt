@@ -1,0 +1,165 @@
+-- What a shelf gave, whatever it tells, as the files of other names: each file is called by the number of its place. The inductions go
+-- over the texts.
+use Rattle.std.proofs.Common.{◌≡◌, ℕ, suc, zero, ◌+◌, ◌<◌, List, [], ◌∷◌, length, map, All, Option, None, Some, Ok, refl, sym, ◌∙◌, ap, subst, unwrap_or, arith}
+use Rattle.std.specs.Prelude.{slice_get, is_some}
+use Rattle.std.specs.Option.{option_map}
+use Rattle.std.proofs.lemmas.List.{length-map}
+use Rattle.std.proofs.lemmas.List.Elements.{All-head, All-tail}
+use Rattle.addr_atr.specs.Maps.{MapView}
+use Rattle.caller_core.specs.View.{CallerView}
+use Rattle.i2c_base.specs.Board.{BoardView}
+use Rattle.i2c_top.specs.Boards.{IsSpelled}
+use Rattle.i2c_top.specs.Files.{Files}
+use Rattle.i2c_top.specs.MapFiles.{IsMapSpelled}
+use Rattle.i2c_top.specs.Readings.{IsAcceptedIn, IsOrderIn, HasReadSome, HasReadSomeMap}
+use Rattle.i2c_top.specs.Runs.{texts_of}
+use Rattle.i2c_top.specs.Schedules.{schedule_read}
+use Rattle.i2c_top.specs.Scripts.{script_name, texts_in, IsInGrammar, AreScheduled, AreOrdered, HasScript, HasScripts}
+use Rattle.i2c_top.specs.forms.Atrs.{AtrNames}
+use Rattle.i2c_top.specs.forms.Replays.{Names, names_of}
+
+-- the file of each place is one of these texts
+abbrev contents : List (List ℕ) → Files
+contents texts [] = None
+contents texts (place ∷ []) = slice_get texts place
+contents texts (place ∷ next ∷ more) = None
+
+-- the names of so many texts, from a place on
+abbrev numbered : ℕ → List (List ℕ) → List (List ℕ)
+numbered place [] = []
+numbered place (t ∷ ts) = (place ∷ []) ∷ numbered (suc place) ts
+
+length-numbered : (place : ℕ) (texts : List (List ℕ)) → length (numbered place texts) ≡ length texts
+length-numbered place [] = refl
+length-numbered place (t ∷ ts) = ap suc (length-numbered (suc place) ts)
+
+name-numbered : (place : ℕ) (texts : List (List ℕ)) (c at : ℕ) → c < length texts → at ≡ place + c
+    → script_name (numbered place texts) c ≡ at ∷ []
+name-numbered place [] c at low is = absurd (omega (arith, low))
+name-numbered place (t ∷ ts) zero at low is = ap (λ (n : ℕ). n ∷ []) (let e : place ≡ at = omega (arith, is) in e)
+name-numbered place (t ∷ ts) (suc c) at low is = name-numbered (suc place) ts c at (omega (arith, low)) (omega (arith, is))
+
+-- from a place on these are the texts
+abbrev AreFrom : List (List ℕ) → ℕ → List (List ℕ) → Type 0
+AreFrom all place texts = (c at : ℕ) → at ≡ place + c → slice_get all at ≡ slice_get texts c
+
+texts-numbered : (all : List (List ℕ)) (place : ℕ) (texts : List (List ℕ)) → AreFrom all place texts
+    → texts_in (contents all) (numbered place texts) ≡ texts
+texts-numbered all place [] are = refl
+texts-numbered all place (t ∷ ts) are =
+    ap (λ (o : Option (List ℕ)). unwrap_or o [] ∷ texts_in (contents all) (numbered (suc place) ts)) (are 0 place (omega arith))
+    ∙ ap (λ (xs : List (List ℕ)). t ∷ xs) (texts-numbered all (suc place) ts (λ c at is. are (suc c) at (omega (arith, is))))
+
+-- texts in the grammar are scripts there
+text-at : (b : BoardView) (scripts : List CallerView) → All (λ s. IsInGrammar b s.script.text) scripts → (c : ℕ) → c < length (texts_of scripts)
+    → (text : List ℕ) × (slice_get (texts_of scripts) c ≡ Some text) × IsInGrammar b text
+text-at b [] grammar c low = absurd (omega (arith, low))
+text-at b (s ∷ ss) grammar zero low = (s.script.text, refl, All-head (λ x. IsInGrammar b x.script.text) s ss grammar)
+text-at b (s ∷ ss) grammar (suc c) low =
+    text-at b ss (All-tail (λ x. IsInGrammar b x.script.text) s ss grammar) c (omega (arith, low))
+
+scripts-numbered : (all : List (List ℕ)) (place : ℕ) (b : BoardView) (scripts : List CallerView)
+    → All (λ s. IsInGrammar b s.script.text) scripts → AreFrom all place (texts_of scripts)
+    → HasScripts (contents all) b (numbered place (texts_of scripts)) (length (numbered place (texts_of scripts)))
+scripts-numbered all place b scripts grammar are c low =
+    let below : c < length (texts_of scripts) = subst (λ (n : ℕ). c < n) (length-numbered place (texts_of scripts)) low in
+    let t = text-at b scripts grammar c below in
+    subst (λ (name : List ℕ). HasScript (contents all) b name) (sym (name-numbered place (texts_of scripts) c (place + c) below refl))
+    (record { text = t.0; there = are c (place + c) refl ∙ t.1; read = t.2 })
+
+-- .. as many as they were asked for
+many-numbered : (place : ℕ) (scripts : List CallerView) (n : ℕ) → length scripts ≡ n → length (numbered place (texts_of scripts)) ≡ n
+many-numbered place scripts n count =
+    length-numbered place (texts_of scripts) ∙ length-map scripts (λ (s : CallerView). s.script.text) ∙ count
+
+abbrev schedule_called : Option (List ℕ) → Option (List ℕ)
+schedule_called schedule = option_map (λ name. 1 ∷ []) schedule
+
+called-some : (schedule : Option (List ℕ)) → is_some (schedule_called schedule) ≡ is_some schedule
+called-some None = refl
+called-some (Some name) = refl
+
+-- the text of the schedule, where there is one
+schedule-text : (schedule : Option (List ℕ)) (callers : ℕ) (words : Option (List ℕ)) → AreOrdered schedule callers words → List ℕ
+schedule-text None callers words are = []
+schedule-text (Some name) callers words are = are.2.text
+
+order-numbered : (board : List ℕ) (texts : List (List ℕ)) (schedule : Option (List ℕ)) (callers : ℕ) (words : Option (List ℕ))
+    (are : AreOrdered schedule callers words)
+    → IsOrderIn (contents (board ∷ schedule-text schedule callers words are ∷ texts)) (schedule_called schedule) callers words
+unfolding schedule-text
+order-numbered board texts None callers words are = record { has = tt; same = are }
+order-numbered board texts (Some name) callers words are =
+    record { has = record { text = are.2.text; words = are.0; there = refl; read = are.2.read }; same = are.1 }
+
+accepted-numbered : (b : BoardView) (spelled : IsSpelled b) (texts : List (List ℕ)) → IsAcceptedIn (contents (spelled.text ∷ texts)) (0 ∷ []) b
+accepted-numbered b spelled texts =
+    record { has = record { board = b; text = spelled.text; there = refl; is_accepted = spelled.is_accepted }; same = refl }
+
+-- THE FILES of a replay
+pub some-read : (names : Names) (b : BoardView) (scripts : List CallerView) (callers : ℕ) (words : Option (List ℕ)) → IsSpelled b
+    → All (λ s. IsInGrammar b s.script.text) scripts → length scripts ≡ length names.scripts → callers ≡ length names.scripts
+    → AreOrdered names.schedule callers words → HasReadSome names b (texts_of scripts) words
+some-read names b scripts callers words spelled grammar count known order =
+    record {
+      file = contents all;
+      called = names_of (0 ∷ []) (schedule_called names.schedule) (numbered 2 texts);
+      like = record { scripts = many; schedule = called-some names.schedule };
+      so = record {
+        board_in = accepted-numbered b spelled (schedule-text names.schedule callers words order ∷ texts);
+        scripts = scripts-numbered all 2 b scripts grammar from;
+        texts_are = sym (texts-numbered all 2 texts from);
+        order_in = subst (λ (n : ℕ). IsOrderIn (contents all) (schedule_called names.schedule) n words) (known ∙ sym many)
+            (order-numbered spelled.text texts names.schedule callers words order);
+      };
+    }
+  where
+    texts : List (List ℕ)
+    texts = texts_of scripts
+
+    all : List (List ℕ)
+    all = spelled.text ∷ schedule-text names.schedule callers words order ∷ texts
+
+    many : length (numbered 2 texts) ≡ length names.scripts
+    many = many-numbered 2 scripts (length names.scripts) count
+
+    from : AreFrom all 2 texts
+    from c at is = ap (slice_get all) (let e : at ≡ suc (suc c) = omega (arith, is) in e)
+
+-- THE FILES of a call of `atr`
+pub some-map : (names : AtrNames) (b : BoardView) (scripts : List CallerView) (m : MapView) (callers : ℕ) (words : List ℕ) → IsSpelled b
+    → All (λ s. IsInGrammar b s.script.text) scripts → IsMapSpelled b m → length scripts ≡ length names.scripts
+    → callers ≡ length names.scripts → AreScheduled callers words → HasReadSomeMap names b m (texts_of scripts) words
+some-map names b scripts m callers words spelled grammar mapped count known order =
+    record {
+      file = contents all;
+      called = record { board = 0 ∷ []; map = 1 ∷ []; schedule = 2 ∷ []; scripts = numbered 3 texts };
+      like = many;
+      so = record {
+        board_in = accepted-numbered b spelled (mapped.text ∷ order.text ∷ texts);
+        scripts = scripts-numbered all 3 b scripts grammar from;
+        texts_are = sym (texts-numbered all 3 texts from);
+        map_in = record { has = record { text = mapped.text; there = refl; map = m; is_map = mapped.is_map }; same = refl };
+        words_in = record {
+          has = record {
+            text = order.text;
+            words = words;
+            there = refl;
+            read = subst (λ (n : ℕ). schedule_read n order.text ≡ Ok words) (known ∙ sym many) order.read;
+          };
+          same = refl;
+        };
+      };
+    }
+  where
+    texts : List (List ℕ)
+    texts = texts_of scripts
+
+    all : List (List ℕ)
+    all = spelled.text ∷ mapped.text ∷ order.text ∷ texts
+
+    many : length (numbered 3 texts) ≡ length names.scripts
+    many = many-numbered 3 scripts (length names.scripts) count
+
+    from : AreFrom all 3 texts
+    from c at is = ap (slice_get all) (let e : at ≡ suc (suc (suc c)) = omega (arith, is) in e)

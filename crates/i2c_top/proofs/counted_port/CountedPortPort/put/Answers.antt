@@ -1,0 +1,11 @@
+use Rattle.std.proofs.Common.{◌<◌, length, refl, subst, sym}
+use Rattle.i2c_base.specs.declared.port.PortCall.TheVariants as call
+use Rattle.i2c_base.specs.Limits.{MOST_CALLS}
+use Rattle.i2c_top.proofs.FaultLemmas.{call-counted}
+use Rattle.i2c_top.proofs.counted_port.CountedPortPort.put.Goals as goal
+
+pub invariant_of-self : goal.invariant_of-self
+invariant_of-self g c =
+    λ tells. call-counted _ _ _ _ (c.self.invariant tells) c.put.ensures.later c.put.result (call.Put c.args.byte) refl
+    (subst (λ p. length (g.P.Port.log p) < MOST_CALLS) (sym c.self.view_is) (c.requires.room tells))
+    c.put.ensures.cause (c.put.ensures.log tells) (c.put.ensures.log_failed tells)
