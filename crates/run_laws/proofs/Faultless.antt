@@ -1,6 +1,6 @@
 -- Where no port counted a call that failed, none did, and so no entry failed. The inductions go over the calls and over the entries.
-use Rattle.std.proofs.Common.{◌≡◌, ℕ, suc, ◌+◌, ◌<◌, Bool, true, false, ◌&&◌, List, [], ◌∷◌, length, map, Some, refl, sym, ◌∙◌, ap, subst, arith}
-use Rattle.std.specs.Prelude.{All}
+use Rattle.std.proofs.Common.{◌≡◌, ℕ, zero, suc, ◌+◌, ◌<◌, ◌≤◌, Bool, true, false, ◌&&◌, List, [], ◌∷◌, length, map, reverse, Some, None, refl, sym, ◌∙◌, ap, subst, arith}
+use Rattle.std.specs.Prelude.{All, slice_get}
 use Rattle.std.specs.List.{range_with_len}
 use Rattle.std.proofs.lemmas.Bool.{eq-eqb}
 use Rattle.std.proofs.lemmas.List.Elements.{All-get_or}
@@ -13,8 +13,14 @@ use Rattle.i2c_base.specs.declared.port.PortCall.TheVariants as call
 use Rattle.i2c_base.specs.Board.{BoardView}
 use Rattle.i2c_spec.specs.Tree.{root_of, home_of_mux}
 use Rattle.bus_spec.specs.Readings.{is_on_root}
-use Rattle.journal_laws.specs.Counts.{count_if, is_fault, is_failed, faults_in, failed_on, failures}
-use Rattle.i2c_top.specs.Faults.{IsFaultAt, FaultAt, AreCounted}
+use Rattle.bus_spec.specs.Faults.{count_if, is_fault, faults_in}
+use Rattle.journal_laws.specs.Counts.{is_failed, failed_on, failures}
+use Rattle.bus_spec.specs.Stand.{calls_by}
+use Rattle.i2c_spec.specs.History.{Asks}
+use Rattle.i2c_spec.specs.Targets.{TargetState}
+use Rattle.i2c_top.specs.Callers.{IsRunBy}
+use Rattle.i2c_top.specs.Faults.{FaultAt, AreCounted}
+use Rattle.run_laws.specs.Alike.{FaultsAlike}
 
 -- CALLS: of which none is a fault
 not_fault : (c : PortCall) → (c ≡ call.Fault → ⊥) → is_fault c ≡ false
@@ -25,12 +31,22 @@ not_fault (call.Get ack) none = refl
 not_fault call.Stop none = refl
 not_fault (call.Line m level) none = refl
 
-pub no-faults : (cs : List PortCall) → ((n : ℕ) → IsFaultAt cs n → ⊥) → faults_in cs ≡ 0
+pub no-faults : (cs : List PortCall) → ((n : ℕ) → slice_get cs n ≡ Some call.Fault → ⊥) → faults_in cs ≡ 0
 no-faults [] none = refl
 no-faults (c ∷ cs) none =
     let here : count_if (is_fault c) ≡ 0 = ap count_if (not_fault c (λ is. none 0 (ap (λ (x : PortCall). Some x) is))) in
     let rest : faults_in cs ≡ 0 = no-faults cs (λ n. none (suc n)) in
     omega (arith, here, rest)
+
+none-at : (cs : List PortCall) → faults_in cs ≡ 0 → (n : ℕ) → slice_get cs n ≡ Some call.Fault → ⊥
+none-at [] none n at = absurd (let f : None ≡ Some call.Fault = at in cc)
+none-at (c ∷ cs) none zero at =
+    let is : c ≡ call.Fault = (let f : Some c ≡ Some call.Fault = at in cc) in
+    let one : count_if (is_fault c) ≡ 1 = ap (λ (x : PortCall). count_if (is_fault x)) is in
+    let sum : count_if (is_fault c) + faults_in cs ≡ 0 = none in
+    absurd (omega (arith, one, sum))
+none-at (c ∷ cs) none (suc n) at =
+    none-at cs (let sum : count_if (is_fault c) + faults_in cs ≡ 0 = none in omega (arith, sum)) n at
 
 -- a root whose port counted none has none in its log
 pub none-counted : (b : BoardView) (calls : ℕ → List PortCall) (logs : List (List PortCall)) (counts : List ℕ)
@@ -41,8 +57,19 @@ none-counted b calls logs counts called counted none r n at =
     let many : length logs ≡ length b.roots = ap (λ (xs : List (List PortCall)). length xs) called
     ∙ length-map-range_with_len calls 0 (length b.roots) in
     let low : r < length counts = subst (λ (k : ℕ). r < k) (many ∙ sym counted.all) within in
-    counted.caused r n
-    (slice_get-get_or counts r 0 low ∙ ap (λ (k : ℕ). Some k) (All-get_or (λ (k : ℕ). k ≡ 0) counts r 0 low none)) at
+    let few : faults_in at.log ≤ 0 = counted.each r 0 at.log
+    (slice_get-get_or counts r 0 low ∙ ap (λ (k : ℕ). Some k) (All-get_or (λ (k : ℕ). k ≡ 0) counts r 0 low none)) at.here in
+    none-at at.log (omega (arith, few)) n at.fault
+
+-- two runs whose ports counted none have the same faults, which is none
+pub none-alike : (b other : BoardView) (callers more : ℕ) (asks turns : Asks) (logs others : List (List PortCall))
+    (states ends : List TargetState) (counts rises : List ℕ) (journal entries : List Entry)
+    → IsRunBy b callers asks logs states counts journal → IsRunBy other more turns others ends rises entries
+    → All (λ n. n ≡ 0) counts → All (λ n. n ≡ 0) rises → FaultsAlike logs others
+none-alike b other callers more asks turns logs others states ends counts rises journal entries one two none never r n = (
+  λ at. absurd (none-counted b (calls_by b one.legal.deeds (reverse journal)) logs counts one.called one.faults none r n at),
+  λ at. absurd (none-counted other (calls_by other two.legal.deeds (reverse entries)) others rises two.called two.faults never r n at),
+)
 
 -- ENTRIES: one that failed is on a root
 on_own : (b : BoardView) (e : Entry) → is_failed e ≡ true → (r : ℕ) × (is_on_root b r e ≡ true)

@@ -1,6 +1,8 @@
--- A run's journal is legal, and its scripts ask for messages within the limits, so each entry of it might come where it did: what is so
--- of all such journals is so of it. No induction.
-use Rattle.std.proofs.Common.{ℕ, List, Option, length, reverse}
+-- A run's journal keeps the rules, so it is legal, complete, and its ports' logs are its calls, also as the walk tree tells them; and its
+-- scripts ask for messages within the limits, so each entry of it might come where it did: what is so of all such journals is so of it.
+-- No induction.
+use Rattle.std.proofs.Common.{◌≡◌, ℕ, List, Option, length, map, reverse, sym, ◌∙◌, ap}
+use Rattle.std.specs.List.{range_with_len}
 use Rattle.i2c_base.specs.declared.entry.Entry.{Entry}
 use Rattle.i2c_base.specs.declared.port.PortCall.{PortCall}
 use Rattle.i2c_base.specs.Board.{BoardView}
@@ -8,10 +10,32 @@ use Rattle.i2c_spec.specs.Plain.{IsPlainBoard}
 use Rattle.i2c_spec.specs.Rules.{MeetsRules}
 use Rattle.i2c_spec.specs.Targets.{TargetState}
 use Rattle.i2c_spec.specs.History.{Asks}
-use Rattle.bus_spec.specs.Legal.{IsLegal}
+use Rattle.bus_spec.specs.Legal.{IsComplete, IsLegal}
+use Rattle.bus_spec.specs.Past.{calls_of}
+use Rattle.bus_laws.proofs.world.LineFacts.{lines-locked}
+use Rattle.i2c_spec.proofs.AddressLemmas.{tree_of}
 use Rattle.bus_spec.specs.Stepwise.{IsStepwise}
 use Rattle.bus_laws.specs.Reach.{AsksForMessages, AsksWithinLimits}
+use Rattle.journal_laws.proofs.past.Complete.{complete-ruled}
+use Rattle.journal_laws.proofs.past.RuledLegal.{calls-so, legal-of}
+use Rattle.i2c_top.specs.Callers.{IsRunBy}
 use Rattle.i2c_top.specs.Runs.{asks_by, HasRunTold}
+
+module _ (b : BoardView) (callers : ℕ) (asks : Asks) (logs : List (List PortCall)) (states : List TargetState) (counts : List ℕ)
+    (journal : List Entry) (run : IsRunBy b callers asks logs states counts journal) where
+  pub run-legal : IsLegal b callers asks (reverse journal)
+  run-legal = legal-of b callers asks (reverse journal) run.legal
+
+  pub run-complete : AsksForMessages asks → AsksWithinLimits asks → IsComplete b callers asks (reverse journal)
+  run-complete some limits =
+      complete-ruled b (tree_of b run.plain run.rules) run.plain (lines-locked b run.rules) asks some limits callers (reverse journal)
+      run.legal run.complete
+
+  pub run-logs : logs ≡ map (calls_of b asks (reverse journal)) (range_with_len 0 (length b.roots))
+  run-logs =
+      run.called
+      ∙ ap (λ (calls : ℕ → List PortCall). map calls (range_with_len 0 (length b.roots)))
+      (λ i. λ r. sym (calls-so b callers asks (reverse journal) run.legal r) i)
 
 module _ (messages : (b : BoardView) (texts : List (List ℕ)) → AsksForMessages (asks_by b texts))
     (limits : (b : BoardView) (texts : List (List ℕ)) → AsksWithinLimits (asks_by b texts))
@@ -22,7 +46,7 @@ module _ (messages : (b : BoardView) (texts : List (List ℕ)) → AsksForMessag
       → IsStepwise b (length texts) (asks_by b texts) (reverse run.journal)
   run-steps told b texts words x logs states counts run =
       stepwise b (length texts) (asks_by b texts) (reverse run.journal) run.is_run.plain run.is_run.rules (messages b texts)
-      (limits b texts) run.is_run.legal
+      (limits b texts) (run-legal b (length texts) (asks_by b texts) logs states counts run.journal run.is_run)
 
   pub run-keeps : (P : BoardView → Asks → List Entry → Type 0)
       → ((b : BoardView) (callers : ℕ) (asks : Asks) (past : List Entry) → IsPlainBoard b → MeetsRules b → AsksForMessages asks

@@ -17,20 +17,21 @@ use Rattle.i2c_top.specs.Scripts.{HasSchedule, HasOrder, words_in, texts_in}
 use Rattle.i2c_top.specs.forms.Replays.{Names, HasReport}
 use Rattle.i2c_top.proofs.BoardLemmas.{one_board_in, one_text}
 use Rattle.run_laws.specs.Alike.{ComesToTheSame}
+use Rattle.run_laws.proofs.Ruled.{run-logs}
 
 pub same-come : (told : List Entry → List ℕ) (b : BoardView) (texts : List (List ℕ)) (x y : List ℕ) (logs others : List (List PortCall))
     (states ends : List TargetState) (counts rises : List ℕ) (journal other : List Entry) → x ≡ told journal → y ≡ told other
     → IsRunOf b texts logs states counts journal → IsRunOf b texts others ends rises other → journal ≡ other
     → ComesToTheSame x y logs others states ends
 same-come told b texts x y logs others states ends counts rises journal other x_told y_told one two same =
-    let replayed : Some one.told ≡ Some two.told = sym one.replayed
-    ∙ ap (λ (es : List Entry). history b (asks_by b texts) (order (reverse es))) same ∙ two.replayed in
-    let histories : one.told ≡ two.told = cc in
+    let replayed : Some one.legal.replies_kept.told ≡ Some two.legal.replies_kept.told = sym one.legal.replies_kept.defined
+    ∙ ap (λ (es : List Entry). history b (asks_by b texts) (order (reverse es))) same ∙ two.legal.replies_kept.defined in
+    let histories : one.legal.replies_kept.told ≡ two.legal.replies_kept.told = cc in
     record {
       bytes = x_told ∙ ap told same ∙ sym y_told;
-      logs_are = one.called
+      logs_are = run-logs b (length texts) (asks_by b texts) logs states counts journal one
           ∙ ap (λ (es : List Entry). map (calls_of b (asks_by b texts) (reverse es)) (range_with_len 0 (length b.roots))) same
-          ∙ sym two.called;
+          ∙ sym (run-logs b (length texts) (asks_by b texts) others ends rises other two);
       states_are = one.left ∙ ap (λ (h : History). h.states) histories ∙ sym two.left;
     }
 

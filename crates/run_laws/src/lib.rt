@@ -16,7 +16,8 @@ pub use rules::{
     a_run_where_no_port_counts_has_no_failed_entry, scripts_ask_for_messages,
 };
 pub use runs::{
-    a_replay_has_one_report, a_run_behind_translators_changes_no_other_device,
+    a_replay_has_one_report, a_replay_over_ports_that_never_fail_is_a_function_of_its_files,
+    a_run_behind_translators_changes_no_other_device,
     a_run_behind_translators_is_one_of_the_board_as_written, a_run_is_a_replay_of_its_own_steps,
     what_a_run_reports_is_verified,
 };

@@ -1,5 +1,5 @@
 //! One report at most: what the files and the failures of the ports leave open of a run.
-ghost use Rattle.std.specs.Prelude.{◌≡◌, ℕ, List, Option, None, Some, length, map, reverse, slice_get};
+ghost use Rattle.std.specs.Prelude.{◌≡◌, ℕ, All, List, Option, None, Some, length, map, reverse, slice_get};
 ghost use Rattle.addr_atr.specs.Lowering.{IsMap};
 ghost use Rattle.addr_atr.specs.Maps.{MapView};
 ghost use Rattle.addr_atr.specs.Runs.{AsksBehind};
@@ -50,6 +50,7 @@ pub fn a_replay_has_one_report()
         (counts rises : List ℕ) → HasSummary plan x logs states counts → HasSummary plan y others ends rises
         → FaultsAlike logs others → ComesToTheSame x y logs others states ends }
 {
+    a_legal_journal_is_stepwise();
     a_schedule_has_one_legal_journal();
     an_accepted_board_is_a_tree();
     scripts_are_fair();
@@ -81,7 +82,26 @@ pub fn what_a_run_reports_is_verified()
     ensures report { (file : Files) (names : Names) (journal x : List ℕ) (logs : List (List PortCall)) (states : List TargetState)
         (counts : List ℕ) → (report : HasReport file names x logs states counts) → file journal ≡ Some x
         → HasVerdict file (beside names journal) (length report.run.journal) }
-{}
+{
+    scripts_are_fair();
+}
+
+/// Over ports that counted no failed call, as those of the program's own rig never do, a replay is a function of its files alone: two
+/// reports of the same files, whatever stood on the outputs before, are the same bytes, with the same calls on each port and the same
+/// devices left; and so are two summaries of one plan.
+///
+/// Without a schedule, as in `run`, the order of the callers is free.
+pub fn a_replay_over_ports_that_never_fail_is_a_function_of_its_files()
+    ensures report { (file : Files) (names : Names) (schedule x y : List ℕ) (logs others : List (List PortCall))
+        (states ends : List TargetState) (counts rises : List ℕ) → names.schedule ≡ Some schedule → HasReport file names x logs states counts
+        → HasReport file names y others ends rises → All (λ n. n ≡ 0) counts → All (λ n. n ≡ 0) rises
+        → ComesToTheSame x y logs others states ends }
+    ensures summary { (plan : Plan) (x y : List ℕ) (logs others : List (List PortCall)) (states ends : List TargetState)
+        (counts rises : List ℕ) → HasSummary plan x logs states counts → HasSummary plan y others ends rises
+        → All (λ n. n ≡ 0) counts → All (λ n. n ≡ 0) rises → ComesToTheSame x y logs others states ends }
+{
+    a_replay_has_one_report();
+}
 
 /// A run behind address translators, of scripts that ask for paired addresses on child buses alone, is one of the board as it is written:
 /// its replies, and the devices left, are those that the flat world of that board gives to the scripts' own transfers, in the order of the
@@ -92,7 +112,8 @@ pub fn a_run_behind_translators_is_one_of_the_board_as_written()
     ensures { (m : MapView) (texts : List (List ℕ)) (words x : List ℕ) (logs : List (List PortCall)) (states : List TargetState)
         (counts : List ℕ) → IsPlainBoard m.board → MeetsRules m.board → IsMap m.board m.translators
         → AsksBehind m.board m.translators (asks_by m.board texts) → (run : HasAtrRun m texts words x logs states counts)
-        → (history m.board (asks_by m.board texts) (order (reverse run.journal)) ≡ Some run.is_run.told) × (states ≡ run.is_run.told.states) }
+        → (history m.board (asks_by m.board texts) (order (reverse run.journal)) ≡ Some run.is_run.legal.replies_kept.told)
+        × (states ≡ run.is_run.legal.replies_kept.told.states) }
 {
     a_history_behind_translators_is_the_same();
 }

@@ -2,13 +2,14 @@ use Rattle.std.proofs.Common.{◌≤◌, ℕ, [], length, reverse, ◌∙◌, ap
 use Rattle.bus_spec.specs.Legal.{KeepsWhole, Reaches}
 use Rattle.bus_spec.specs.Readings.{replies}
 use Rattle.bus_laws.specs.Reach.{KeepsPathsOpen}
-use Rattle.journal_laws.specs.Counts.{failures, faults_in, remotes}
+use Rattle.bus_spec.specs.Faults.{faults_in}
+use Rattle.journal_laws.specs.Counts.{failures, remotes}
 use Rattle.journal_laws.specs.Faulty.{KeepsCuts}
 use Rattle.journal_laws.specs.Selected.{GoesThroughSelected}
 use Rattle.journal_laws.specs.Spent.{IsWithinCost, KeepsFits, cost_from, its_bytes, its_calls, of_caller, one_entry}
 use Rattle.i2c_top.specs.Runs.{asks_by}
 use Rattle.run_laws.proofs.Rooted.{log-told}
-use Rattle.run_laws.proofs.Ruled.{run-keeps}
+use Rattle.run_laws.proofs.Ruled.{run-keeps, run-legal, run-logs}
 use Rattle.run_laws.proofs.rules.a_run_keeps_the_rules_of_the_bus.Goals as goal
 
 pub returns : goal.returns
@@ -26,9 +27,12 @@ returns c =
       remote = run-keeps messages limits stepwise (λ b asks past. remotes past ≤ failures past)
           c.one_failure_fails_one_reply_at_most.ensures.stepwise;
       faults = λ told b texts words x logs states counts run r log here.
-          ap faults_in (log-told b (asks_by b texts) (reverse run.journal) logs run.is_run.called r log here)
+          let asks = asks_by b texts in
+          ap faults_in (log-told b asks (reverse run.journal) logs
+          (run-logs b (length texts) asks logs states counts run.journal run.is_run) r log here)
           ∙ c.each_fault_is_a_failed_entry.ensures.legal b (length texts) (asks_by b texts) (reverse run.journal) run.is_run.plain
-          run.is_run.rules (messages b texts) (limits b texts) run.is_run.legal r;
+          run.is_run.rules (messages b texts) (limits b texts)
+          (run-legal b (length texts) asks logs states counts run.journal run.is_run) r;
       fits = run-keeps messages limits stepwise (λ b asks past. KeepsFits asks past)
           (λ b callers asks past plain rules some steps. c.each_reply_fits_its_transfer.ensures b callers asks past some steps);
       costs = run-keeps messages limits stepwise

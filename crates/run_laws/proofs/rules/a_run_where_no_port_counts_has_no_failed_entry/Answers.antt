@@ -10,7 +10,7 @@ use Rattle.journal_laws.specs.Counts.{failures, remotes}
 use Rattle.i2c_top.specs.Runs.{asks_by, HasRunTold}
 use Rattle.run_laws.proofs.Faultless.{no-faults, none-counted, none-failed}
 use Rattle.run_laws.proofs.Rooted.{failed-fault}
-use Rattle.run_laws.proofs.Ruled.{run-steps}
+use Rattle.run_laws.proofs.Ruled.{run-logs, run-steps}
 use Rattle.run_laws.proofs.rules.a_run_where_no_port_counts_has_no_failed_entry.Goals as goal
 
 pub returns : goal.returns
@@ -27,9 +27,11 @@ returns c =
     (λ r. sym (c.each_fault_is_a_failed_entry.ensures.stepwise b (length texts) (asks_by b texts) (reverse run.journal) plain rules
     (messages b texts) steps r)
     ∙ no-faults (calls_of b (asks_by b texts) (reverse run.journal) r)
-    (λ n failed. none-counted b (calls_of b (asks_by b texts) (reverse run.journal)) logs counts run.is_run.called run.is_run.faults none r n
+    (λ n failed. none-counted b (calls_of b (asks_by b texts) (reverse run.journal)) logs counts
+    (run-logs b (length texts) (asks_by b texts) logs states counts run.journal run.is_run) run.is_run.faults none r n
     (failed-fault b (c.an_accepted_board_is_a_tree.ensures b plain rules) plain (lines-locked b rules) (asks_by b texts)
-    (messages b texts) (length texts) (reverse run.journal) steps logs run.is_run.called r n failed))) in
+    (messages b texts) (length texts) (reverse run.journal) steps logs
+    (run-logs b (length texts) (asks_by b texts) logs states counts run.journal run.is_run) r n failed))) in
     record {
       entries = entries;
       remote = λ told b texts words x logs states counts run none.

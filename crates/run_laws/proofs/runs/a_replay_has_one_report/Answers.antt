@@ -6,6 +6,7 @@ use Rattle.i2c_base.specs.Board.{BoardView}
 use Rattle.i2c_gen.specs.Boards.{made_board}
 use Rattle.i2c_gen.specs.Scripts.{scripts_of, schedule_of}
 use Rattle.i2c_spec.specs.Targets.{TargetState}
+use Rattle.bus_spec.specs.Legal.{IsLegal}
 use Rattle.bus_spec.specs.Schedule.{Follows}
 use Rattle.bus_laws.proofs.world.LineFacts.{lines-locked}
 use Rattle.i2c_top.specs.Runs.{asks_by, report_by, HasRunTold}
@@ -13,6 +14,7 @@ use Rattle.i2c_top.specs.forms.Generations.{summary_of}
 use Rattle.run_laws.specs.Alike.{FaultsAlike}
 use Rattle.run_laws.proofs.Asked.{messages-asked, limits-kept}
 use Rattle.run_laws.proofs.Rooted.{fail-alike}
+use Rattle.run_laws.proofs.Ruled.{run-complete, run-legal, run-logs}
 use Rattle.run_laws.proofs.Same.{AreTwoRuns, same-come, two-runs}
 use Rattle.run_laws.proofs.runs.a_replay_has_one_report.Goals as goal
 
@@ -26,12 +28,20 @@ returns c =
     let some = messages-asked c.scripts_are_fair.ensures b texts in
     let follows = λ (journal : List Entry) (kept : Follows words journal).
     subst (λ (es : List Entry). Follows words es) (sym (reverse-reverse journal)) kept in
+    let asks = asks_by b texts in
+    let limits = limits-kept c.scripts_are_fair.ensures b texts in
+    let first_legal = run-legal b (length texts) asks logs states counts one.journal one.is_run in
+    let second_legal = run-legal b (length texts) asks others ends rises two.journal two.is_run in
+    let steps = λ (past : List Entry) (legal : IsLegal b (length texts) asks past).
+    c.a_legal_journal_is_stepwise.ensures.stepwise b (length texts) asks past plain rules some limits legal in
     let pasts = c.a_schedule_has_one_legal_journal.ensures b (length texts) (asks_by b texts) words (reverse one.journal)
-    (reverse two.journal) plain rules some (limits-kept c.scripts_are_fair.ensures b texts) one.is_run.legal two.is_run.legal
-    one.is_run.complete two.is_run.complete (follows one.journal one.ordered) (follows two.journal two.ordered)
+    (reverse two.journal) plain rules some limits first_legal second_legal
+    (run-complete b (length texts) asks logs states counts one.journal one.is_run some limits)
+    (run-complete b (length texts) asks others ends rises two.journal two.is_run some limits) (follows one.journal one.ordered) (follows two.journal two.ordered)
     (fail-alike b (c.an_accepted_board_is_a_tree.ensures b plain rules) plain (lines-locked b rules) (asks_by b texts) some
-    (length texts) (reverse one.journal) (reverse two.journal) one.is_run.stepwise two.is_run.stepwise logs others one.is_run.called
-    two.is_run.called alike) in
+    (length texts) (reverse one.journal) (reverse two.journal) (steps (reverse one.journal) first_legal)
+    (steps (reverse two.journal) second_legal) logs others (run-logs b (length texts) asks logs states counts one.journal one.is_run)
+    (run-logs b (length texts) asks others ends rises two.journal two.is_run) alike) in
     same-come told b texts x y logs others states ends counts rises one.journal two.journal one.is_told two.is_told one.is_run two.is_run
     (sym (reverse-reverse one.journal) ∙ ap (λ (es : List Entry). reverse es) pasts ∙ reverse-reverse two.journal) in
     record {

@@ -13,5 +13,5 @@ returns c =
     ap (λ (xs : List TargetState). slice_get xs d) run.is_run.left
     ∙ others-stay m.board m.translators (asks_by m.board texts) behind d
     (λ t r at paired xs cut away. c.a_translated_transfer_does_the_same.ensures.others m.board m.translators plain rules is_map low t r at paired xs cut d away)
-    unnamed (order (reverse run.journal)) run.is_run.told run.is_run.replayed
+    unnamed (order (reverse run.journal)) run.is_run.legal.replies_kept.told run.is_run.legal.replies_kept.defined
     ∙ ap (λ (xs : List TargetState). slice_get xs d) (c.a_lowered_board_opens_the_same.ensures.opened m.board m.translators plain rules is_map)

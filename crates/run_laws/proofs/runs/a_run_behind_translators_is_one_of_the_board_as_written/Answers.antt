@@ -8,6 +8,6 @@ returns c =
     λ m texts words x logs states counts plain rules is_map behind run. (
       sym (c.a_history_behind_translators_is_the_same.ensures m.board m.translators plain rules is_map run.is_run.rules (asks_by m.board texts)
           behind (order (reverse run.journal)))
-          ∙ run.is_run.replayed,
+          ∙ run.is_run.legal.replies_kept.defined,
       run.is_run.left,
     )
