@@ -16,7 +16,7 @@ none_rose ps still =
     All-weaker IsStill (λ (p : BitPortView). p.counts.edges ≤ 0) (λ p is. let e = ap (λ c. c.edges) is in omega (arith, e)) ps still in
     omega (arith, sum_by-le (λ (p : BitPortView). p.counts.edges) 0 ps none)
 
--- behind calls on the first of them
+-- where it rose so often on the first of them alone, it rose so often on all
 pub edges_of_one : (ps : List BitPortView) (old new : BitPortView) (n : ℕ) → 0 < length ps → All IsStill ps → n < 256 → old ≡ get_or ps 0 old
     → new.counts.edges ≡ old.counts.edges + n → edges_of (set ps 0 new) ≡ n
 edges_of_one ps old new n some still small first rose =
