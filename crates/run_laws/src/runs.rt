@@ -86,9 +86,9 @@ pub fn what_a_run_reports_is_verified()
     scripts_are_fair();
 }
 
-/// Over ports that counted no failed call, as those of the program's own rig never do, a replay is a function of its files alone: two
-/// reports of the same files, whatever stood on the outputs before, are the same bytes, with the same calls on each port and the same
-/// devices left; and so are two summaries of one plan.
+/// Over ports that counted no failed call, and the program's own never count one, a replay is a function of its files alone: two reports
+/// of the same files are the same bytes, with the same calls on each port and the same devices left; and so are two summaries of one
+/// plan.
 ///
 /// Without a schedule, as in `run`, the order of the callers is free.
 pub fn a_replay_over_ports_that_never_fail_is_a_function_of_its_files()
