@@ -1,8 +1,8 @@
 -- A device may go to another thread, whatever its kind.
 use denote.Param.Send.{IsSend, sendable}
 use Rattle.std.proofs.Crossing.{crosses}
-use Rattle.tgt_eeprom.proofs.SendLemmas.{eeprom-send}
-use Rattle.tgt_small.proofs.SendLemmas.{smbus-send}
+use Rattle.targets.proofs.EepromSends.{eeprom-send}
+use Rattle.targets.proofs.SmallSends.{smbus-send}
 use Rattle.targets.specs.contracts.device.DeviceState as DeviceState
 use Rattle.targets.specs.contracts.device.Device as Device
 

@@ -4,11 +4,10 @@ ghost use Rattle.i2c_spec.specs.Plain.{IsPlainDevice};
 ghost use Rattle.i2c_spec.specs.Targets as target;
 ghost use Rattle.i2c_spec.specs.Targets.{opening_state, silent_answer, state_answer, state_sends, state_hold};
 
+use crate::{Eeprom, Lm75, Regs, SmbusDevice};
 use i2c_base::{Answer, DeviceKind, DeviceSpec, Event, NoMemory, Target};
 use std::alloc::Global;
 use std::marker::Model;
-use tgt_eeprom::Eeprom;
-use tgt_small::{Lm75, Regs, SmbusDevice};
 
 // The target of each kind.
 #[derive(Drop)]

@@ -1,9 +1,23 @@
-//! The devices of a board as one type, whatever their kinds.
+//! The targets of a board: the mux chips PCA9548, PCA9546, PCA9544 and PCA9541 with the line of a gpio mux; the EEPROMs 24C02, 24C32
+//! and 24C256; the sensor LM75, a device of 256 registers that can hold the clock, and one that takes and gives data with an error
+//! code; and all devices as one type.
 //!
-//! Its public contract: `DeviceState` opens as its board says, does on each event what the table of its kind says, and tells
-//! the byte that it would send and for how long it holds the clock. Definitions: `TargetState` and `state_table` of `i2c_spec`.
+//! Their public contract: each does on each event what the table of its kind says, tells the byte that it would send and for how
+//! long it holds the clock, and takes no memory for an event; a channel of a mux is open exactly where the definition says so.
+//! Definitions: `Chips`, `Eeprom`, `Lm75`, `Regs`, `SmbusDevice`, `TargetState` and `state_table` of `i2c_spec`, by the data sheets of
+//! NXP, Microchip and TI, and SMBus 3.2, sections 6.4 and 6.5.
 #![tactic(auto)]
 
+mod chip;
 mod device;
+mod eeprom;
+mod lm75;
+mod registers;
+mod smbus;
 
+pub use chip::Chip;
 pub use device::{DeviceState, silence};
+pub use eeprom::Eeprom;
+pub use lm75::Lm75;
+pub use registers::Regs;
+pub use smbus::SmbusDevice;

@@ -1,7 +1,0 @@
--- An EEPROM may go to another thread.
-use denote.Param.Send.{IsSend, sendable}
-use Rattle.std.proofs.Crossing.{crosses}
-use Rattle.tgt_eeprom.specs.contracts.eeprom.Eeprom as Eeprom
-
-pub eeprom-send : IsSend (Eeprom.the_field).row
-eeprom-send = search (crosses, sendable) depth 20

@@ -1,6 +1,0 @@
-use Rattle.std.proofs.Common.{arith}
-use Rattle.std.proofs.lemmas.Grind.{common_steps}
-use Rattle.tgt_mux.proofs.chip.ChipTarget.on.Goals as goal
-
-pub returns-in-Put-clause-after : goal.returns-in-Put-clause-after
-returns-in-Put-clause-after c = grind (arith, common_steps)

@@ -1,2 +1,0 @@
-pub mod SendLemmas
-mod Starts
