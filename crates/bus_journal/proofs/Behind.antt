@@ -1,7 +1,7 @@
--- What is put into a room behind a text, piece by piece, stands behind it in the order of the pieces.
+-- What is put into a room after a text, piece by piece, stands behind it in the order of the pieces.
 use Rattle.std.proofs.Common.{◌≡◌, ℕ, List, ◌++◌, append_assoc, sym, ap, ◌∙◌}
 
--- the end of a line, behind its front
+-- the end of a line, after its front
 pub put_behind : (out new room all front more : List ℕ) → new ++ room ≡ out ++ front → all ≡ room ++ more
     → new ++ all ≡ out ++ (front ++ more)
 put_behind out new room all front more is is_all =

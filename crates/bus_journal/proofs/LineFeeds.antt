@@ -27,7 +27,7 @@ use Rattle.i2c_base.specs.declared.entry.Entry.TheVariants as entry
 pub line-append : (a b : List ℕ) → IsLine a → IsLine b → IsLine (a ++ b)
 line-append a b is_a is_b = list_any-append (λ c. c == 10) a b ∙ or_from _ _ is_a is_b
 
--- a sign that is no line feed, and a line behind it
+-- a sign that is no line feed, and a line after it
 line-cons : (c : ℕ) (a : List ℕ) → (c == 10) ≡ false → IsLine a → IsLine (c ∷ a)
 line-cons c a is_c is_a = or_from _ _ is_c is_a
 

@@ -81,7 +81,7 @@ behind_number-decimal : (n : ℕ) (text : List ℕ) → n < 65536 → behind_num
 unfolding StandsBehind
 behind_number-decimal n text small = decimal_by_steps StandsBehind behind_one behind_more n (omega arith) text
 
--- a number with another sign behind it
+-- a number with another sign after it
 pub number_of-then : (n c : ℕ) (text : List ℕ) → n < 65536 → is_digit c ≡ false → number_from 0 (decimal n ++ c ∷ text) ≡ n
 unfolding number_from
 number_of-then n c text small other = number_from-decimal n (c ∷ text) small ∙ rw other

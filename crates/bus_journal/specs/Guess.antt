@@ -33,7 +33,7 @@ is_hex c = is_digit c || (nat_lt 96 c && nat_lt c 103)
 abbrev pub hex_value : ℕ → ℕ
 hex_value c = cond (nat_lt c 58) (c - 48) (c - 87)
 
--- the digits at the front, behind the digits of n, as a number of 16 bits
+-- the digits at the front, after the digits of n, as a number of 16 bits
 unfoldable pub number_from : ℕ → List ℕ → ℕ
 number_from n [] = n
 number_from n (c ∷ text) = cond (is_digit c) (number_from ((10 * n + (c - 48)) % 65536) text) n

@@ -19,7 +19,7 @@ impl<'a> Model for Cursor<'a> {
     ghost view = { λ c. c.rest.now };
 }
 
-// The text behind its first so many bytes.
+// The text after its first so many bytes.
 fn behind(text: &[u8], count: usize) -> &[u8]
     ensures { result.now ≡ drop count text.now }
 {
@@ -130,7 +130,7 @@ impl<'a> Cursor<'a> {
         Some(16 * high + low)
     }
 
-    /// Reads the bytes that stand next, each behind a mark, into a list that was empty. Those past so many are dropped.
+    /// Reads the bytes that stand next, each after a mark, into a list that was empty. Those past so many are dropped.
     #[tactic(auto, using(crate::proofs::Nexts::take_one_more, crate::proofs::Nexts::take_when_full, crate::proofs::Nexts::take_at_end))]
     pub fn bytes(&mut self, most: usize, bytes: &mut Bytes)
         requires empty { bytes.old ≡ [] }

@@ -301,7 +301,7 @@ fn put_level(room: &mut Room, mux: MuxId, level: u8, failed: bool)
     room.extend(if failed { b" cut" } else { b" ok" });
 }
 
-// Puts what is in the room behind the text, and empties the room.
+// Puts what is in the room after the text, and empties the room.
 #[inline(always)]
 fn flush(out: &mut Vec<u8>, room: &mut Room) -> Result<(), NoMemory>
     ensures text { OnOk result ((out.new.items ≡ out.old.items ++ room.old) × (room.new ≡ [])) }
@@ -317,7 +317,7 @@ fn flush(out: &mut Vec<u8>, room: &mut Room) -> Result<(), NoMemory>
 /// So many bytes are put into the room at once.
 const MANY: usize = 128;
 
-// Bytes with a space before each, behind what is in the room. The text gets the front of it where the bytes are many.
+// Bytes with a space before each, after what is in the room. The text gets the front of it where the bytes are many.
 fn push_spaced(out: &mut Vec<u8>, room: &mut Room, bytes: &[u8]) -> Result<(), NoMemory>
     requires { length room.old ≤ 46 }
     ensures text { OnOk result (out.new.items ++ room.new ≡ out.old.items ++ (room.old ++ spaced bytes.now)) }
@@ -418,7 +418,7 @@ fn push_reply(
     }
 }
 
-/// Puts the line of an entry, without its line feed, behind a text: the end of it into the room, which was empty.
+/// Puts the line of an entry, without its line feed, after a text: the end of it into the room, which was empty.
 #[inline(always)]
 pub fn put_entry(out: &mut Vec<u8>, room: &mut Room, entry: &EntryRef<'_>) -> Result<(), NoMemory>
     requires { room.old ≡ [] }
@@ -496,7 +496,7 @@ fn push_entry(out: &mut Vec<u8>, entry: &EntryRef<'_>) -> Result<(), NoMemory>
     flush(out, &mut room)
 }
 
-/// The line of an entry in the journal's text, without its line feed. It fails only for want of memory.
+/// The line of an entry in the journal's text, without its line feed. It fails only when out of memory.
 pub fn entry_text(alloc: Global, entry: &Entry) -> Result<Vec<u8>, NoMemory>
     ensures text { IfOk result (λ text. text.items ≡ entry_line entry.now) }
     ensures in_range { IsEntry entry.now }

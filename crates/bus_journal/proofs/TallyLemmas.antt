@@ -14,8 +14,8 @@ use Rattle.bus_journal.proofs.LineFeeds.{entry-line}
 use Rattle.bus_journal.proofs.Whole.{entry-read}
 use Rattle.bus_spec.specs.Lines.{entry_line, cut_text, spaced}
 use Rattle.bus_spec.specs.Report.{ended_line}
-use Rattle.bus_tally.specs.Tallies.{transfers_in, messages_in, locks_in, errors_in, bytes_in, tally_of, plus, IsAtMost, Fits}
-use Rattle.bus_tally.specs.declared.tally.Tally.{Tally}
+use Rattle.bus_journal.specs.Tallies.{transfers_in, messages_in, locks_in, errors_in, bytes_in, tally_of, plus, IsAtMost, Fits}
+use Rattle.bus_journal.specs.declared.tally.Tally.{Tally}
 use Rattle.i2c_base.specs.declared.entry.Entry.{Entry}
 use Rattle.i2c_base.specs.declared.entry.Entry.TheVariants as entry
 use Rattle.i2c_base.specs.declared.reply.Reply.TheVariants as reply

@@ -1,7 +1,7 @@
 //! The counts of one line.
 ghost use Rattle.std.specs.Prelude.{◌≡◌, [], ◌∷◌};
 ghost use Rattle.bus_journal.specs.Guess.{reply_of, settle_of, entry_of};
-ghost use Rattle.bus_tally.specs.Tallies.{errors_of, bytes_of, tally_of};
+ghost use Rattle.bus_journal.specs.Tallies.{errors_of, bytes_of, tally_of};
 
 use crate::Tally;
 use crate::front::{behind, behind_number, byte_at, bytes_at};
@@ -16,7 +16,7 @@ pub const NONE: Tally = Tally {
 };
 
 // Whether a reply is an error, and how many bytes it gives.
-#[tactic(auto, using(std::proofs::lemmas::Bool::Decides::nat_tests), unfolding(bus_journal::specs::Guess::reply_of))]
+#[tactic(auto, using(std::proofs::lemmas::Bool::Decides::nat_tests), unfolding(crate::specs::Guess::reply_of))]
 fn reply_counts(text: &[u8]) -> (u64, u64)
     ensures errors { result.0 ≡ errors_of (reply_of text.now) }
     ensures bytes { result.1 ≡ bytes_of (reply_of text.now) }
@@ -28,8 +28,8 @@ fn reply_counts(text: &[u8]) -> (u64, u64)
     }
 }
 
-// The line of a settle, behind its first word.
-#[tactic(auto, unfolding(bus_journal::specs::Guess::settle_of))]
+// The line of a settle, after its first word.
+#[tactic(auto, unfolding(crate::specs::Guess::settle_of))]
 fn settle_counts(text: &[u8]) -> Tally
     ensures { result ≡ tally_of (settle_of text.now ∷ []) }
 {
@@ -43,7 +43,7 @@ fn settle_counts(text: &[u8]) -> Tally
 }
 
 /// What the entry of a line counts.
-#[tactic(auto, using(std::proofs::lemmas::Bool::Decides::nat_tests), unfolding(bus_journal::specs::Guess::entry_of, bus_journal::specs::Guess::message_of, bus_journal::specs::Guess::line_of))]
+#[tactic(auto, using(std::proofs::lemmas::Bool::Decides::nat_tests), unfolding(crate::specs::Guess::entry_of, crate::specs::Guess::message_of, crate::specs::Guess::line_of))]
 pub fn tally_of_line(line: &[u8]) -> Tally
     ensures { result ≡ tally_of (entry_of line.now ∷ []) }
 {

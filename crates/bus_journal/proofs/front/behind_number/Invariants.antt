@@ -1,6 +1,6 @@
 use Rattle.std.proofs.Common.{◌≡◌, length}
 use Rattle.bus_journal.specs.Guess.{behind_number}
-use Rattle.bus_tally.proofs.front.behind_number.Given as goal
+use Rattle.bus_journal.proofs.front.behind_number.Given as goal
 
 abbrev pub invariant-loop-rest : goal.invariant-loop-rest
 invariant-loop-rest l = behind_number l.rest ≡ behind_number l.text

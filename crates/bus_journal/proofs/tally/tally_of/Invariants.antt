@@ -1,6 +1,6 @@
 use Rattle.std.proofs.Common.{length}
-use Rattle.bus_tally.proofs.TallyLemmas.{IsCounted}
-use Rattle.bus_tally.proofs.tally.tally_of.Given as goal
+use Rattle.bus_journal.proofs.TallyLemmas.{IsCounted}
+use Rattle.bus_journal.proofs.tally.tally_of.Given as goal
 
 abbrev pub decreases-loop-rest : goal.decreases-loop-rest
 decreases-loop-rest l = length l.rest

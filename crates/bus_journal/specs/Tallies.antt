@@ -1,7 +1,7 @@
 -- What the entries of a journal come to, in five counts.
 use Rattle.std.specs.Prelude.{ℕ, ◌+◌, ◌-◌, ◌^◌, ◌≤◌, List, length}
 use Rattle.std.specs.List.{sum_by}
-use Rattle.bus_tally.specs.declared.tally.Tally.{Tally}
+use Rattle.bus_journal.specs.declared.tally.Tally.{Tally}
 use Rattle.i2c_base.specs.declared.entry.Entry.{Entry}
 use Rattle.i2c_base.specs.declared.entry.Entry.TheVariants as entry
 use Rattle.i2c_base.specs.declared.reply.Reply.{Reply}

@@ -1,7 +1,7 @@
 use Rattle.std.proofs.Common.{◌≡◌, ℕ, suc, ◌+◌, List, Option, Some, length, take, drop, unwrap_or, ◌∙◌, ap, subst, arith}
 use Rattle.memchr.specs.Find.{IsFirstByte, is_byte}
-use Rattle.bus_tally.proofs.FrontLemmas.{feed_found, take_line, drop_line}
-use Rattle.bus_tally.proofs.front.cut.Goals as goal
+use Rattle.bus_journal.proofs.FrontLemmas.{feed_found, take_line, drop_line}
+use Rattle.bus_journal.proofs.front.split_line.Goals as goal
 
 pub returns-clause-parts : goal.returns-clause-parts
 returns-clause-parts c =

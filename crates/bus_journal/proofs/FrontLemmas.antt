@@ -6,7 +6,7 @@ use Rattle.std.proofs.lemmas.Bool.{cases_lt}
 use Rattle.bus_journal.specs.Guess.{byte_at, is_hex, bytes_of}
 use Rattle.bus_journal.specs.Reports.{IsLine}
 use Rattle.bus_journal.proofs.Nexts.{bytes_next, bytes_end, bytes_end_low, hex_is_third}
-use Rattle.bus_tally.specs.Fronts.{begins_with_byte}
+use Rattle.bus_journal.specs.Fronts.{begins_with_byte}
 use Rattle.i2c_base.specs.Limits.{MOST_BYTES}
 use Rattle.memchr.specs.Find.{IsFirstByte, is_byte}
 
@@ -38,7 +38,7 @@ no_byte_more text is = ap length (none (is_hex (byte_at 1 text)) refl (is_hex (b
 pub taken : (bytes : List ℕ) → length (take MOST_BYTES bytes) ≡ min MOST_BYTES (length bytes)
 taken bytes = length-take MOST_BYTES bytes
 
--- the sign behind a line
+-- the sign after a line
 sign_behind : (line more : List ℕ) → byte_at (length line) (line ++ (10 ∷ more)) ≡ 10
 sign_behind [] more = refl
 sign_behind (c ∷ cs) more = sign_behind cs more

@@ -1,7 +1,7 @@
 use Rattle.std.proofs.Common.{sym, ◌∙◌, arith}
 use Rattle.bus_journal.specs.Guess.{bytes_of}
-use Rattle.bus_tally.proofs.FrontLemmas.{no_byte_more, taken}
-use Rattle.bus_tally.proofs.front.bytes_at.Goals as goal
+use Rattle.bus_journal.proofs.FrontLemmas.{no_byte_more, taken}
+use Rattle.bus_journal.proofs.front.bytes_at.Goals as goal
 
 pub returns : goal.returns
 returns c =

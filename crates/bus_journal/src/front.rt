@@ -2,7 +2,7 @@
 ghost use Rattle.std.specs.Prelude.{◌≡◌, ◌≤◌, ◌∷◌, ◌++◌, ℕ, List, length, take, drop};
 ghost use Rattle.bus_journal.specs.Guess.{byte_at, is_digit, is_hex, behind_number, bytes_of};
 ghost use Rattle.bus_journal.specs.Reports.{IsLine};
-ghost use Rattle.bus_tally.specs.Fronts.{begins_with_byte};
+ghost use Rattle.bus_journal.specs.Fronts.{begins_with_byte};
 ghost use Rattle.i2c_base.specs.Limits.{MOST_BYTES};
 
 use i2c_base::MOST_BYTES;
@@ -15,7 +15,7 @@ pub fn byte_at(text: &[u8], place: usize) -> u8
     if place < text.len() { text[place] } else { 0 }
 }
 
-/// The text behind its first so many bytes.
+/// The text after its first so many bytes.
 pub fn behind(text: &[u8], count: usize) -> &[u8]
     ensures { result.now ≡ drop count text.now }
 {
@@ -38,8 +38,8 @@ fn is_hex(byte: u8) -> bool
     is_digit(byte) || (b'a' <= byte && byte <= b'f')
 }
 
-/// The text behind the digits that stand at its front.
-#[tactic(auto, using(bus_journal::proofs::Nexts::behind_number_next, bus_journal::proofs::Nexts::behind_number_end, bus_journal::proofs::Nexts::digit_is_first))]
+/// The text after the digits that stand at its front.
+#[tactic(auto, using(crate::proofs::Nexts::behind_number_next, crate::proofs::Nexts::behind_number_end, crate::proofs::Nexts::digit_is_first))]
 pub fn behind_number(text: &[u8]) -> &[u8]
     ensures { result.now ≡ behind_number text.now }
 {
@@ -71,8 +71,8 @@ pub fn bytes_at(text: &[u8]) -> u64
     count.min(MOST_BYTES) as u64
 }
 
-/// The first line of a text, without its line feed, and the text behind it.
-pub fn cut(text: &[u8]) -> (&[u8], &[u8])
+/// The first line of a text, without its line feed, and the text after it.
+pub fn split_line(text: &[u8]) -> (&[u8], &[u8])
     ensures parts { (line more : List ℕ) → IsLine line → text.now ≡ line ++ (10 ∷ more) → (result.0.now ≡ line) × (result.1.now ≡ more) }
     ensures shorter { length result.1.now ≤ length text.now }
 {

@@ -1,10 +1,10 @@
 //! The five counts of a journal.
 ghost use Rattle.std.specs.Prelude.{◌≡◌, ◌+◌, ◌<◌, ◌^◌};
-ghost use Rattle.bus_tally.specs.Tallies.{tally_of, Fits, plus};
+ghost use Rattle.bus_journal.specs.Tallies.{tally_of, Fits, plus};
 
-use crate::front::cut;
-use crate::line::{NONE, tally_of_line};
-use bus_journal::Journal;
+use crate::Journal;
+use crate::counts::{NONE, tally_of_line};
+use crate::front::split_line;
 
 /// The five counts of a journal.
 #[derive(Clone, Copy)]
@@ -45,7 +45,7 @@ pub fn tally_of(journal: &Journal) -> Tally
     let mut tally = NONE;
     let mut rest = journal.text();
     while !rest.is_empty() {
-        let (line, behind) = cut(rest);
+        let (line, behind) = split_line(rest);
         tally = tally.plus(tally_of_line(line));
         rest = behind;
     }

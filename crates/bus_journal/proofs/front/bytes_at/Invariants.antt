@@ -1,6 +1,6 @@
 use Rattle.std.proofs.Common.{◌≡◌, ◌+◌, ◌≤◌, length}
 use Rattle.bus_journal.specs.Guess.{bytes_of}
-use Rattle.bus_tally.proofs.front.bytes_at.Given as goal
+use Rattle.bus_journal.proofs.front.bytes_at.Given as goal
 
 abbrev pub invariant-loop-rest : goal.invariant-loop-rest
 invariant-loop-rest l = record {

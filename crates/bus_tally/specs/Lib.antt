@@ -1,3 +1,0 @@
--- The five counts of a journal.
-pub mod Fronts
-pub mod Tallies
