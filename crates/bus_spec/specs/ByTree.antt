@@ -54,7 +54,7 @@ AreTold b (Did deed out ∷ ps) [] = ⊥
 AreTold b (Did deed out ∷ ps) (s ∷ steps) =
     TellsAct b s.before deed.act s.entry × (out ≡ outcome_of s.entry) × (s.deed ≡ deed) × AreTold b ps steps
 
--- they are the walks of what the caller asks for, one after the other, each behind the replies of those before; the last one
+-- they are the walks of what the caller asks for, one after the other, each after the replies of those before; the last one
 -- may be the front of a walk, which doesn't end before a settle
 pub data AreTransfers (b : BoardView) (asks : List Reply → Option TransferView) : List Reply → List Step → Type 0 where
   no_more : (rs : List Reply) → AreTransfers b asks rs []

@@ -21,7 +21,7 @@ Doer = Job → Note → (JobOutcome → WalkTree) → WalkTree
 abbrev pub plain : Note
 plain = record { marks = []; forward = true }
 
--- a settle stands directly behind the step that decides
+-- a settle stands directly after the step that decides
 abbrev pub settled : Bool → Option Errno → WalkTree → WalkTree
 settled true verdict w = Then (Settle verdict) plain (λ o. w)
 settled false verdict w = w
@@ -94,7 +94,7 @@ abbrev pub closing : BoardView → Hop → Doer → Note → (JobOutcome → Wal
 closing b h on note k w None = w
 closing b h on note k w (Some m) = on (SwitchOff (Close h.on m (kind_of b m))) (with_mark h.on m note) (λ o. if_sent o w k)
 
--- behind the job the deselect, whatever came of the job; a mux that stays as it is keeps its channel
+-- after the job the deselect, whatever came of the job; a mux that stays as it is keeps its channel
 abbrev pub left_behind : Bool → Hop → Doer → (JobOutcome → WalkTree) → JobOutcome → WalkTree
 left_behind true h on k out = k out
 left_behind false h on k out = on (SwitchOff (Deselect h)) (aside h) (λ o. k out)
@@ -102,7 +102,7 @@ left_behind false h on k out = on (SwitchOff (Deselect h)) (aside h) (λ o. k ou
 abbrev pub opened : Hop → Doer → Doer
 opened h on job note k = on job note (left_behind h.stays h on k)
 
--- the select, and behind it the job; a select that isn't good is not followed by a deselect
+-- the select, and after it the job; a select that isn't good is not followed by a deselect
 abbrev pub chosen : Hop → Doer → Doer
 chosen h on job note k = on (Select h) (with_mark h.on h.mux note) (λ o. if_good o (opened h on job note k) k)
 

@@ -85,7 +85,7 @@ moved b asks old new c e out =
       cut = changed_at old.cut c (cut_told e);
     }
 
--- behind a message or a line step that decides, the settle is due
+-- after a message or a line step that decides, the settle is due
 abbrev pub with_due : ℕ → Now → Now
 with_due c n = record n { due = if is_due (first_act (n.walk c)) then Some c else None }
 

@@ -29,7 +29,7 @@ none_fails r k = false
 abbrev pub fails_at : ℕ → ℕ → Failing
 fails_at root call r k = if r == root then k == call else false
 
--- the first failing call of so many that a message would make behind those that were made before
+-- the first failing call of so many that a message would make after those that were made before
 abbrev pub first_failing : (ℕ → Bool) → ℕ → ℕ → Option ℕ
 first_failing fails made calls = find (λ i. fails (made + i)) (range_with_len 0 calls)
 

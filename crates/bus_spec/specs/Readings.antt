@@ -117,7 +117,7 @@ abbrev pub is_settle_of : ℕ → Entry → Bool
 is_settle_of c (entry.Settle k reply cut) = k == c
 is_settle_of c e = false
 
--- the cut that an entry tells for a settle of its caller directly behind it
+-- the cut that an entry tells for a settle of its caller directly after it
 abbrev pub message_cut : Purpose → ℕ → End → Cut
 message_cut purpose.Call part (end.Cut q) = cut.At (part - 1) q
 message_cut (purpose.Control m) part (end.Cut q) = cut.Way

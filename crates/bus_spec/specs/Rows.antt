@@ -20,7 +20,7 @@ use Rattle.i2c_base.specs.declared.errno.Errno.TheVariants.{Ebusy, Enxio, Etimed
 use Rattle.i2c_base.specs.declared.reply.Reply.TheVariants as reply
 use Rattle.i2c_base.specs.declared.reply.Cut.{Cut}
 use Rattle.i2c_base.specs.declared.reply.Cut.TheVariants as cut
-use Rattle.i2c_base.specs.declared.transfer.Kind.TheVariants as transfer_kind
+use Rattle.i2c_base.specs.declared.transfer.TransferKind.TheVariants as transfer_kind
 use Rattle.i2c_base.specs.Board.{BoardView, DeviceView}
 use Rattle.i2c_base.specs.Transfer.{TransferView, written, plain_read}
 use Rattle.bus_spec.specs.Readings.{of_message, is_call, is_settle_of}

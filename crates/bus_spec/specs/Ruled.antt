@@ -73,7 +73,7 @@ AreSaid b (Did deed out ∷ ps) [] = ⊥
 AreSaid b (Did deed out ∷ ps) (s ∷ steps) =
     SaysAct b s.before.worlds deed.act s.entry × (out ≡ outcome_of s.entry) × (s.deed ≡ deed) × AreSaid b ps steps
 
--- they are the walks of what the caller asks for, one after the other, each behind the replies of those before; the last one
+-- they are the walks of what the caller asks for, one after the other, each after the replies of those before; the last one
 -- may be the front of a walk, which doesn't end before a settle
 pub data AreDone (b : BoardView) (asks : List Reply → Option TransferView) : List Reply → List Doing → Type 0 where
   nothing : (rs : List Reply) → AreDone b asks rs []

@@ -1,5 +1,5 @@
 -- When a journal follows a schedule (this project's own): a list of callers' numbers, each of which steps where it
--- can; behind the last of them always the least that can.
+-- can; after the last of them always the least that can.
 use Rattle.std.specs.Prelude.{◌≡◌, ℕ, ◌<◌, ◌==◌, Bool, true, false, not, ◌&&◌, List, [], ◌∷◌, ◌++◌, reverse, Option, Some, None, if◌then◌else◌, MatchBool}
 use Rattle.std.specs.List.{find}
 use Rattle.std.specs.Option.{option_map_or}
@@ -8,7 +8,7 @@ use Rattle.i2c_base.specs.declared.entry.Entry.TheVariants as entry
 use Rattle.bus_spec.specs.Readings.{caller_of, holder}
 use Rattle.bus_spec.specs.Legal.{is_stepping}
 
--- a step: an entry, with the settle of the same caller that stands directly behind a message or a line step
+-- a step: an entry, with the settle of the same caller that stands directly after a message or a line step
 pub record Turn : Type 0 where
   pub caller : ℕ
   pub entries : List Entry
@@ -52,7 +52,7 @@ is_ready past later c = option_map_or (λ t. not (waits_for past t.entries)) (fi
 abbrev pub past_after : List Entry → Turn → List Entry
 past_after past t = reverse t.entries ++ past
 
--- behind the last word, each step is of the least caller that is ready
+-- after the last word, each step is of the least caller that is ready
 abbrev pub FollowsRest : List Entry → List Turn → Type 0
 FollowsRest past [] = Unit {0}
 FollowsRest past (t ∷ ts) =

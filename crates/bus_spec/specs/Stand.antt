@@ -52,12 +52,12 @@ line_done b s (Shift job) marks failed =
     }
 line_done b s act marks failed = s
 
--- behind one entry more, which did this
+-- after one entry more, which did this
 abbrev pub stand_behind : BoardView → Stand → Deed → Entry → Stand
 stand_behind b s deed (entry.Line c mux level failed) = line_done b s deed.act deed.marks failed
 stand_behind b s deed e = of_message s (λ m. message_done b s deed.act deed.marks m.bytes m.end) e
 
--- behind a past, whose entries did these
+-- after a past, whose entries did these
 abbrev pub stand : BoardView → List Deed → List Entry → Stand
 stand b deeds [] = first_stand b
 stand b [] (e ∷ past) = stand b [] past

@@ -22,7 +22,7 @@ pub record Mark : Type 0 where
   pub on : ℕ
   pub mux : ℕ
 
--- a mux is switched off: its channel is deselected, behind a job on it; or it is closed, because a mark says that it may
+-- a mux is switched off: its channel is deselected, after a job on it; or it is closed, because a mark says that it may
 -- be open
 pub data Off : Type 0 where
   Deselect : (hop : Hop) → Off
@@ -161,7 +161,7 @@ is_last (Call bus messages) left = left == 0
 is_last (Select h) left = true
 is_last (SwitchOff off) left = true
 
--- how a job goes on behind one of its messages: with the next one, with its last one, or not at all
+-- how a job goes on after one of its messages: with the next one, with its last one, or not at all
 pub data Go : Type 0 where
   On : Go
   Last : Go

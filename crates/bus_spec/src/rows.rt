@@ -102,7 +102,7 @@ pub fn a_mux_locked_journal_settles_as_the_flat_world()
         (order (reverse row.mux_locked_journal))) ≡ Some (reply.Read (0x7e ∷ []) ∷ []) }
 {}
 
-/// A lock belongs to the caller of its last take that no free follows: of the same journal, behind the select, while the
+/// A lock belongs to the caller of its last take that no free follows: of the same journal, after the select, while the
 /// other caller reads, and at the end.
 pub fn a_lock_belongs_to_the_caller_of_its_last_take()
     ensures root_taken { holder (reverse (take 2 row.mux_locked_journal)) (lock.Bus 0) ≡ Some 0 }

@@ -1,4 +1,4 @@
--- A board as plain data: what contracts see of `Run`, `DeviceSpec` and `Board`.
+-- A board as plain data: what contracts see of `MemoryRun`, `DeviceSpec` and `Board`.
 use Rattle.std.specs.Prelude.{ℕ, Bool, List}
 use Rattle.i2c_base.specs.declared.board.RootSpec.{RootSpec}
 use Rattle.i2c_base.specs.declared.board.MuxSpec.{MuxSpec}

@@ -1,13 +1,13 @@
 -- What contracts see of a transfer, and what fits one.
 use Rattle.std.specs.Prelude.{◌≡◌, ℕ, ◌+◌, ◌<◌, ◌≤◌, ◌==◌, Bool, true, List, [], ◌∷◌, ◌++◌, length, sum_by, All, if◌then◌else◌, bit_and}
-use Rattle.i2c_base.specs.declared.transfer.Kind.{Kind}
+use Rattle.i2c_base.specs.declared.transfer.TransferKind.{TransferKind}
 use Rattle.i2c_base.specs.declared.transfer.Msg.{Msg}
 use Rattle.i2c_base.specs.Bytes.{AreBytes}
 use Rattle.i2c_base.specs.Limits.{MOST_MESSAGES, MOST_LENGTH, MOST_BYTES}
 
 pub record TransferView : Type 0 where
   pub bus : ℕ
-  pub kind : Kind
+  pub kind : TransferKind
   pub force : Bool
   pub msgs : List Msg
   pub out : List ℕ

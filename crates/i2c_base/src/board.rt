@@ -96,12 +96,12 @@ pub enum DeviceKind {
 
 /// Bytes of a device's memory from a place on.
 #[derive(Drop)]
-pub struct Run {
+pub struct MemoryRun {
     pub start: u16,
     pub bytes: Vec<u8>,
 }
 
-impl Model for Run {
+impl Model for MemoryRun {
     ghost use Rattle.i2c_base.specs.Board.{RunView};
 
     ghost Value = { RunView };
@@ -117,7 +117,7 @@ pub struct DeviceSpec {
     /// A driver is bound to it, so that only a forced transfer reaches it.
     pub bound: bool,
     pub kind: DeviceKind,
-    pub set: Vec<Run>,
+    pub set: Vec<MemoryRun>,
 }
 
 impl Model for DeviceSpec {

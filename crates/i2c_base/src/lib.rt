@@ -29,7 +29,9 @@ mod tree;
 
 pub use addr::Addr;
 pub use alias::{AliasPair, alias_of};
-pub use board::{DeviceKind, DeviceSpec, Idle, LockMode, MuxKind, MuxSpec, RootSpec, Run, Size};
+pub use board::{
+    DeviceKind, DeviceSpec, Idle, LockMode, MemoryRun, MuxKind, MuxSpec, RootSpec, Size,
+};
 pub use bytes::{ByteList, ByteStore, Bytes};
 pub use caller::Caller;
 pub use entry::{End, Entry, Purpose};
@@ -49,5 +51,5 @@ pub use port::{Phase, PortCall};
 pub use reply::{Cut, Reply, ReplyHead};
 pub use row::Row;
 pub use rules::{Item, RuleBroken};
-pub use transfer::{Kind, Msg, TooLong, Transfer};
+pub use transfer::{Msg, TooLong, Transfer, TransferKind};
 pub use tree::{Grant, Way};

@@ -1,4 +1,4 @@
-//! Want of memory, an error that says nothing else.
+//! Being out of memory, an error that says nothing else.
 ghost use Rattle.i2c_base.specs.declared.memory.NoMemory.{NoMemory};
 
 use std::alloc::{AllocError, AllocFailed};

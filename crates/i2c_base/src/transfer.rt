@@ -12,7 +12,7 @@ use std::marker::Model;
 
 /// Whether a transfer is a call of SMBus or a plain one of I2C.
 #[derive(Clone, Copy)]
-pub enum Kind {
+pub enum TransferKind {
     Smbus,
     Plain,
 }
@@ -74,7 +74,7 @@ pub struct TooLong;
 #[derive(Drop)]
 pub struct Transfer {
     bus: u16,
-    kind: Kind,
+    kind: TransferKind,
     force: bool,
     /// The sum of the sizes of its messages.
     size: u16,
@@ -99,7 +99,7 @@ impl Transfer {
     ghost use Rattle.i2c_base.specs.Transfer.{HasRoom, IsMessage, IsTransfer, with_message, written, plain_read, counted_read, is_read, size_of, written_of, COUNTED_SIZE};
 
     /// A transfer with no message yet. With `force` it goes to devices that a driver is bound to as well.
-    pub fn new(bus: u16, kind: Kind, force: bool) -> Self
+    pub fn new(bus: u16, kind: TransferKind, force: bool) -> Self
         ensures { result ≡ record { bus = bus; kind = kind; force = force; msgs = []; out = [] } }
     {
         Transfer {
@@ -113,7 +113,7 @@ impl Transfer {
     }
 
     /// Begins it anew, in place: it has no message, and goes to this bus.
-    pub fn restart(&mut self, bus: u16, kind: Kind, force: bool)
+    pub fn restart(&mut self, bus: u16, kind: TransferKind, force: bool)
         ensures { self.new ≡ record { bus = bus; kind = kind; force = force; msgs = []; out = [] } }
     {
         self.bus = bus;
@@ -217,7 +217,7 @@ impl Transfer {
         self.bus
     }
 
-    pub fn kind(&self) -> Kind
+    pub fn kind(&self) -> TransferKind
         ensures { result ≡ self.now.kind }
     {
         self.kind

@@ -13,7 +13,7 @@ pub length-messages : (ms : List Msg) (out : List ℕ) → length (messages_from
 length-messages [] out = refl
 length-messages (m ∷ ms) out = ap suc (length-messages ms (drop (written_of m) out))
 
--- a call behind the start of a message, whose byte fits
+-- a call after the start of a message, whose byte fits
 abbrev pub IsFollowing : (ℕ → Type 0) → PortCall → Type 0
 IsFollowing Fits (call.Start a reading) = ⊥
 IsFollowing Fits (call.Line m level) = ⊥

@@ -129,7 +129,7 @@ IsHopIn_more roots inner outer muxes m h into is =
       bound = λ o. is.bound (into o);
     }
 
--- the hop over the mux that comes behind these
+-- the hop over the mux that comes after these
 IsHopIn_here : (roots : ℕ) (before : List MuxSpec) (m : MuxSpec) (s : ℕ) → buses_of roots before ≤ s
     → IsHopIn roots (s < buses_of roots (m ∷ before)) (reverse before ++ m ∷ []) (hop_at roots before m s)
 IsHopIn_here roots before m s cross =

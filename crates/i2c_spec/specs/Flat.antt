@@ -17,8 +17,8 @@ use Rattle.i2c_base.specs.declared.reply.Reply.{Reply}
 use Rattle.i2c_base.specs.declared.reply.Reply.TheVariants as reply
 use Rattle.i2c_base.specs.declared.reply.Cut.{Cut}
 use Rattle.i2c_base.specs.declared.reply.Cut.TheVariants as cut_at
-use Rattle.i2c_base.specs.declared.transfer.Kind.{Kind}
-use Rattle.i2c_base.specs.declared.transfer.Kind.TheVariants as transfer_kind
+use Rattle.i2c_base.specs.declared.transfer.TransferKind.{TransferKind}
+use Rattle.i2c_base.specs.declared.transfer.TransferKind.TheVariants as transfer_kind
 use Rattle.i2c_base.specs.declared.tree.Way.{Way}
 use Rattle.i2c_base.specs.declared.tree.Way.TheVariants as way
 use Rattle.i2c_base.specs.Board.{BoardView}
@@ -115,7 +115,7 @@ errno_of end.Refused = Some errno.Eio
 errno_of end.Proto = Some errno.Eproto
 errno_of (end.Cut q) = Some errno.Eremoteio
 
-abbrev pub is_plain : Kind → Bool
+abbrev pub is_plain : TransferKind → Bool
 is_plain transfer_kind.Plain = true
 is_plain transfer_kind.Smbus = false
 

@@ -8,7 +8,7 @@ use Rattle.i2c_spec.specs.declared.smbus_row.ValueShape.TheVariants.{Done, Byte,
 abbrev pub low_byte_first : ℕ → List ℕ
 low_byte_first v = v % 256 ∷ v / 256 ∷ []
 
--- a block goes behind its count
+-- a block goes after its count
 abbrev pub counted_block : List ℕ → List ℕ
 counted_block bytes = length bytes ∷ bytes
 

@@ -5,7 +5,7 @@ ghost use Rattle.i2c_spec.specs.Eeprom.{size_of_eeprom, page_of_eeprom, is_wide}
 ghost use Rattle.i2c_spec.specs.Plain.{IsPlainRun};
 ghost use Rattle.i2c_spec.specs.Regs.{write_run, write_runs};
 
-use i2c_base::{Run, Size};
+use i2c_base::{MemoryRun, Size};
 
 /// How many bytes an EEPROM of this size has.
 pub fn eeprom_bytes(size: Size) -> u16
@@ -40,7 +40,7 @@ pub fn is_wide(size: Size) -> bool
 }
 
 /// Writes these runs, one after the other.
-pub fn write_runs(memory: &mut [u8], runs: &[Run])
+pub fn write_runs(memory: &mut [u8], runs: &[MemoryRun])
     requires { All (IsPlainRun (length memory.old)) runs.now }
     ensures { memory.new ≡ write_runs memory.old runs.now }
 {
@@ -50,7 +50,7 @@ pub fn write_runs(memory: &mut [u8], runs: &[Run])
 }
 
 /// Writes the bytes of a run at its place.
-fn write_run(memory: &mut [u8], run: &Run)
+fn write_run(memory: &mut [u8], run: &MemoryRun)
     requires { run.now.start + length run.now.bytes ≤ length memory.old }
     ensures { memory.new ≡ write_run memory.old run.now }
 {

@@ -11,7 +11,7 @@ unpacked_run-more : {H : Type 0} (run : Run H) (bytes more : List ℕ) → IsWit
     → unpacked_run (bytes ++ more) run ≡ unpacked_run bytes run
 unpacked_run-more run bytes more within = grind (arith, common_steps, drop-append-le, take-append-le, length-drop)
 
--- bytes behind them leave what they stand for
+-- bytes after them leave what they stand for
 unpacked-more : {H : Type 0} (runs : List (Run H)) (bytes more : List ℕ) → All (IsWithin (length bytes)) runs
     → unpacked (bytes ++ more) runs ≡ unpacked bytes runs
 unpacked-more [] bytes more within = refl

@@ -104,7 +104,7 @@ impl<H: Drop> Packed<H> {
     }
 
     /// Makes room for so many heads and bytes. The items stay and no room is lost, also where it fails: that comes of
-    /// want of memory, or where there would be 4 GB of bytes.
+    /// being out of memory, or where there would be 4 GB of bytes.
     pub fn reserve(&mut self, heads: usize, bytes: u32) -> Result<(), AllocError>
         ensures items { self.new.items ≡ self.old.items }
         ensures room { self.old.room ≤ self.new.room }

@@ -6,7 +6,7 @@ use Rattle.std.proofs.lemmas.List.Sums.{fold-append}
 use Rattle.std.specs.Int.Bits.{xor_assoc, xor_zero_l, xor_zero_r}
 use Rattle.smb_pec.specs.LongDivision.{DIVISOR, bit_down, byte_down, remainder, CodeRunsAlong}
 
--- doubling, and a bit behind it
+-- doubling, and a bit after it
 doubled : (x y bit : ℕ) → bit < 2 → 2 * bit_xor x y + bit ≡ bit_xor (2 * x) (2 * y + bit)
 doubled x y bit small =
     let apart : bit_xor (x * 2 ^ 1 + 0) (y * 2 ^ 1 + bit) ≡ bit_xor x y * 2 ^ 1 + bit_xor 0 bit = xor_block 1 x y 0 bit

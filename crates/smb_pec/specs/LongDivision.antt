@@ -6,7 +6,7 @@ use Rattle.std.specs.Int.{bit_at}
 abbrev pub DIVISOR : ℕ
 DIVISOR = 0x107
 
--- the next bit comes down behind the remainder, and the divisor is taken off where that has nine bits
+-- the next bit comes down after the remainder, and the divisor is taken off where that has nine bits
 abbrev pub bit_down : ℕ → ℕ → ℕ
 bit_down r bit = if nat_lt (2 * r + bit) 256 then 2 * r + bit else bit_xor (2 * r + bit) DIVISOR
 
