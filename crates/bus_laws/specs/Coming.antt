@@ -20,7 +20,7 @@ pub record IsOne (b : BoardView) (callers : ℕ) (asks : Asks) (past : List Entr
   -- a settle stands alone where it is all that is ahead
   pub alone : is_settle entry ≡ true → is_due (first_act (ahead b asks (now b asks past) t.caller)) ≡ true
 
--- one with its settle directly behind it
+-- one with its settle directly after it
 pub record IsTwo (b : BoardView) (callers : ℕ) (asks : Asks) (past : List Entry) (t : Turn) : Type 0 where
   pub entry : Entry
   pub settle : Entry
@@ -41,7 +41,7 @@ abbrev pub Comes : BoardView → ℕ → Asks → List Entry → List Turn → T
 Comes b callers asks past [] = Unit {0}
 Comes b callers asks past (t ∷ ts) = IsTurn b callers asks past t × Comes b callers asks (past_after past t) ts
 
--- the past behind them
+-- the past after them
 abbrev pub after_all : List Entry → List Turn → List Entry
 after_all past [] = past
 after_all past (t ∷ ts) = after_all (past_after past t) ts

@@ -7,7 +7,7 @@ use Rattle.bus_spec.specs.Schedule.{Turn, turns, FollowsWords}
 use Rattle.bus_laws.specs.Coming.{Comes}
 
 -- a journal goes on from an older one by a schedule: the entries that it has more stand behind the old ones, and read as steps
--- they follow the words from there, and behind the last word the least that is ready
+-- they follow the words from there, and after the last word the least that is ready
 pub record GoesOnBy (words : List ℕ) (old new : List Entry) : Type 0 where
   pub added : List Entry
   pub behind : new ≡ old ++ added

@@ -28,7 +28,7 @@ abbrev pub EndsJob : Job → ℕ → ActOutcome → Type 0
 EndsJob job zero out = Unit {0}
 EndsJob job (suc left) out = goes job left out ≡ Over
 
--- behind a step of a job a walk settles as that step decides, or it doesn't before its next step; only a job that is on
+-- after a step of a job a walk settles as that step decides, or it doesn't before its next step; only a job that is on
 -- the way to the caller's messages decides
 abbrev pub IsDecided : Note → Job → ℕ → ActOutcome → WalkTree → Type 0
 IsDecided note job left out w =
@@ -49,14 +49,14 @@ GoesOn note (Call bus messages) left out w = CallGoesOn bus messages left out w
 GoesOn note (Select h) left out w = IsDecided note (Select h) left out w
 GoesOn note (SwitchOff off) left out w = IsDecided note (SwitchOff off) left out w
 
--- behind a message the walk settles as it decides: without an error only where it was the last of the caller's messages
+-- after a message the walk settles as it decides: without an error only where it was the last of the caller's messages
 -- and went through
 pub record FollowsSend (job : Job) (left : ℕ) (e : End) (bytes : List ℕ) (w : WalkTree) : Type 0 where
   pub settles : first_act w ≡ Some (Settle (verdict_of job left (Sent e bytes)))
   pub whole : verdict_of job left (Sent e bytes) ≡ None
       → (bus : ℕ) × (messages : List MessageView) × (job ≡ Call bus messages) × (left ≡ 0) × (e ≡ end.Ok)
 
--- a walk that has settled, or hasn't, settles once: directly behind a message or a line step, and before its end
+-- a walk that has settled, or hasn't, settles once: directly after a message or a line step, and before its end
 abbrev pub Settles : Bool → WalkTree → Type 0
 Settles done Ends = done ≡ true
 Settles done (Look ask next) = (m : Option ℕ) → Settles done (next m)

@@ -17,7 +17,7 @@ use i2c_spec::an_accepted_board_is_a_tree;
 
 /// A journal and one step more: its steps are those before, and that one.
 ///
-/// A settle that is due joins the message before it, so the steps before would be others; so would a lone settle behind a
+/// A settle that is due joins the message before it, so the steps before would be others; so would a lone settle after a
 /// message of its caller, which may stand in entries that might not come. The rules of the board, and a message in each
 /// transfer, are what the tree law is shown of.
 pub fn one_step_more()
@@ -28,7 +28,7 @@ pub fn one_step_more()
 }
 
 /// A loop over a schedule follows it from whatever journal it begins with: a word's caller makes a step, or is stuck and passed
-/// over, and behind the last word the least caller that isn't stuck makes each step.
+/// over, and after the last word the least caller that isn't stuck makes each step.
 ///
 /// A word that passes over a caller that isn't stuck, or a step of one that isn't the least, is none of the schedule's.
 /// Where a settle is due, or in entries that might not come, a step more could change the steps before. The rules of the

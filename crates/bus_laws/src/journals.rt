@@ -26,7 +26,7 @@ pub fn each_journal_keeps_its_locks()
 /// the caller that selected it has the lock of its bus, between that select and the deselect (Linux i2c-topology).
 ///
 /// On a board that isn't accepted one select could open channels of two muxes. Entries that might not come may free a lock
-/// behind a select. A message in each transfer is what the tree law is shown of.
+/// after a select. A message in each transfer is what the tree law is shown of.
 pub fn each_mux_keeps_its_channel_or_is_marked()
     ensures { (b : BoardView) (callers : ℕ) (asks : Asks) (past : List Entry) → IsPlainBoard b → MeetsRules b → AsksForMessages asks → IsStepwise b callers asks past → KeepsClosed b asks past }
 {
@@ -66,7 +66,7 @@ pub fn no_message_stands_inside_a_transfer()
     an_accepted_board_is_a_tree();
 }
 
-/// Each settle tells the cut of its caller's last entry, and stands directly behind that message or line step where its
+/// Each settle tells the cut of its caller's last entry, and stands directly after that message or line step where its
 /// transfer steps on the bus.
 pub fn each_settle_stands_where_it_is_decided()
     ensures { (b : BoardView) (callers : ℕ) (asks : Asks) (past : List Entry) → AsksForMessages asks → IsStepwise b callers asks past → KeepsSettles b asks past }

@@ -26,8 +26,8 @@ pub fn each_walk_keeps_its_path_open()
     ensures { (b : BoardView) (t : TransferView) → IsTree b → LinesAreLocked b → 0 < length t.msgs → (v : Slots) → Runs b t [] v (walk_for b t) }
 {}
 
-/// Each walk settles exactly once, directly behind a message or a line step, or as its only step where the transfer is
-/// refused without one. The caller's messages come before it, each directly behind the one before.
+/// Each walk settles exactly once, directly after a message or a line step, or as its only step where the transfer is
+/// refused without one. The caller's messages come before it, each directly after the one before.
 pub fn each_walk_settles_once()
     ensures { (b : BoardView) (t : TransferView) → Settles false (walk_for b t) }
 {}
@@ -43,7 +43,7 @@ pub fn each_walk_keeps_to_its_cost()
     an_accepted_board_is_a_tree();
 }
 
-/// All that a walk sends, and each line that it shifts, is behind its transfer's root.
+/// All that a walk sends, and each line that it shifts, is after its transfer's root.
 ///
 /// It sends its messages, and selects and deselects muxes on its path; a mux is closed there too where it is marked.
 pub fn each_walk_stays_on_its_root()

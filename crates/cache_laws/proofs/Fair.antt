@@ -254,7 +254,7 @@ module _ {S : Type 0} (asked : S → List Reply → Option TransferView) (left :
           ∙ ap (λ (l : List Reply). r ∷ l) (more r (omega (arith, one, le)) (omega (arith, one, lf)))
           ∙ sym (ap (λ (z : Option Reply). option_map_or (λ (q : Reply). q ∷ hits_from (asked s) (kept s) m (rs ++ q ∷ [])) z []) e)
 
-  -- behind a hit the same come as before it; and where none comes, none does
+  -- after a hit the same come as before it; and where none comes, none does
   pub hits-one : (rs : List Reply) (r : Reply) → hit (known (asked s) (kept s) rs) (asked s rs) ≡ Some r
       → all_of (with_hits (cached_of asked left kept s) (rs ++ r ∷ [])) ≡ all_of (with_hits (cached_of asked left kept s) rs)
   hits-one rs r e = by (left s rs) refl

@@ -1,4 +1,4 @@
--- What a caller knows is what the registers have, behind each transfer of any caller; so a hit's reply is what a read would give.
+-- What a caller knows is what the registers have, after each transfer of any caller; so a hit's reply is what a read would give.
 -- The inductions go over what is kept.
 use Rattle.std.proofs.Common.{◌≡◌, ℕ, ◌/◌, ◌%◌, Bool, true, false, cond, not, ◌&&◌, ◌||◌, inl, inr, List, [], ◌∷◌, map, Option, Some, None, eqb, ltb, refl, sym, ◌∙◌, ap, subst, arith}
 use Rattle.std.proofs.lemmas.Bool.{eqb-true, eq-eqb}
@@ -521,7 +521,7 @@ module _ (b : BoardView) (tree : IsTree b) (callers : ℕ → Cached) (cached : 
     all_other zs ks (λ j there is. each j (ap (λ (z : Bool). eqb k.device j.device || z) there ∙ or-true (eqb k.device j.device)) is) h.1,
   )
 
-  -- what its caller knows behind it is so
+  -- what its caller knows after it is so
   pub knows-own : (c : ℕ) (t : TransferView) → IsHarmless b callers cached c t → (ks : List Kept) → KnowsAll xs ks
       → KnowsAll (flat b xs t cut).states (learned ks (Some t) (flat b xs t cut).reply)
   knows-own c t (Leaves none) ks all = all_own t (knows_leaves t none) ks all
@@ -686,7 +686,7 @@ hit-is b tree callers cached xs c t harmless ks all answer e = by harmless
         (record { bus = v.bus; addr = v.addr; register = number_of r; sent = Some (record { high = high; low = low }) }) parts.0 access_is in
         let f : Some (record { high = high; low = low }) ≡ None = ap (λ (z : Access). z.sent) h.1 ∙ parts.3 in cc)
 
--- what is known behind a hit is what was: the registers have it
+-- what is known after a hit is what was: the registers have it
 pub hit-knows : (b : BoardView) → IsTree b → (cached : ℕ → Bool) (xs : List TargetState) (d : ℕ) (v : DeviceView) (r : SensorRegister)
     → cached d ≡ true → slice_get b.devices d ≡ Some v → IsOpen b v → (x : Lm75View) → slice_get xs d ≡ Some (Lm75 x)
     → (ks : List Kept) → AllByRecursion (Knows b cached xs) ks

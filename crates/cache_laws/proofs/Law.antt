@@ -85,7 +85,7 @@ filled-more x rs r = fold-append (more_filled x) (with_hits x []) rs (r ∷ [])
 -- ---- a run with hits beside one without
 module _ (b : BoardView) (tree : IsTree b) (xs : ℕ → Cached) (cached : ℕ → Bool) (may : MayBeCached b xs cached) where
   -- these transfers have a history, which gives each caller these replies and leaves devices that are these but for pointers; and
-  -- what each caller knows behind its replies is so
+  -- what each caller knows after its replies is so
   record Runs (states : List TargetState) (o : List (ℕ × Cut)) (full : ℕ → List Reply) : Type 0 where
     told : History
     defined : history b (asks_of xs) o ≡ Some told
@@ -214,7 +214,7 @@ module _ (b : BoardView) (tree : IsTree b) (xs : ℕ → Cached) (cached : ℕ �
               ∙ ap (λ (r : Reply). full c ++ r ∷ []) reply_is
           replies_by e false = h.replies_are e
 
-          -- what is known behind a hit is what was
+          -- what is known after a hit is what was
           own : AllByRecursion (Knows b cached states) (known (xs c).asks (xs c).kept (full c ++ answer ∷ []))
           own =
               subst (λ (js : List Kept). AllByRecursion (Knows b cached states) js)
@@ -290,7 +290,7 @@ module _ (b : BoardView) (tree : IsTree b) (xs : ℕ → Cached) (cached : ℕ �
           twice i true = append_assoc (full c) (answer ∷ []) (hits_from (xs c).asks (xs c).kept n (full c ++ answer ∷ []))
           twice i false = refl
 
-  -- the hits behind these replies of a caller
+  -- the hits after these replies of a caller
   hits_behind : (states : List TargetState) (o : List (ℕ × Cut)) (full : ℕ → List Reply) → Runs states o full → (c : ℕ) (rs : List Reply)
       → full c ≡ (filled (xs c) rs).full → Runs states (hits_of xs c rs ++ o) (changed_at full c (answered (xs c) rs))
   hits_behind states o full h c rs e =

@@ -1,5 +1,5 @@
 -- One sensor that listens alone: the conversations of a driver with it, call by call. The cases are the places at which a call
--- fails; behind the first byte that is put nothing depends on the pointer that was there before.
+-- fails; after the first byte that is put nothing depends on the pointer that was there before.
 use Rattle.std.proofs.Common.{◌≡◌, ℕ, zero, suc, ◌+◌, Bool, true, false, cond, List, [], ◌∷◌, length, Option, eqb, ltb, refl}
 use Rattle.i2c_base.specs.declared.event.Event.{Event}
 use Rattle.i2c_base.specs.declared.event.Event.TheVariants as event
@@ -126,7 +126,7 @@ pub record HasRead (x : Lm75View) (r : SensorRegister) (here there : AllTold One
   pub other : there.now.x ≡ record x { phase = Idle; pointer = q }
   pub good : is_good here.end ≡ true → here.bytes ≡ bytes_of (word_of x r)
 
--- .. and behind a write: this is in the register then, the bytes written where it went through
+-- .. and after a write: this is in the register then, the bytes written where it went through
 pub record HasWritten (x : Lm75View) (r : SensorRegister) (high low : ℕ) (here there : AllTold One) : Type 0 where
   pub bytes : here.bytes ≡ there.bytes
   pub end : here.end ≡ there.end

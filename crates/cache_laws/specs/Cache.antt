@@ -31,7 +31,7 @@ abbrev pub access_if : Bool → Access → Option Access
 access_if true a = Some a
 access_if false a = None
 
--- a write of the pointer and two bytes behind it; or a write of the pointer, and a read of two bytes at the same address
+-- a write of the pointer and two bytes after it; or a write of the pointer, and a read of two bytes at the same address
 abbrev pub access_by : ℕ → List Msg → List ℕ → Option Access
 access_by bus (w ∷ []) (r ∷ high ∷ low ∷ []) =
     access_if (writes_just 3 w && is_kept r)
@@ -77,7 +77,7 @@ learned_by (Some a) r ks = map (learn_at a r) ks
 abbrev pub learned : List Kept → Option TransferView → Reply → List Kept
 learned ks t r = learned_by (option_and_then access_of t) r ks
 
--- what one caller asks for after these replies, and what it knows behind them: the access with the newest reply counts
+-- what one caller asks for after these replies, and what it knows after them: the access with the newest reply counts
 abbrev pub Asking : Type 0
 Asking = List Reply → Option TransferView
 
@@ -105,12 +105,12 @@ hit_by ks (Some a) = if is_some a.sent then None else option_map reply_of (pair_
 abbrev pub hit : List Kept → Option TransferView → Option Reply
 hit ks t = hit_by ks (option_and_then access_of t)
 
--- the hits behind these replies, one after the other; there are at most so many
+-- the hits after these replies, one after the other; there are at most so many
 abbrev pub hits_from : Asking → List Kept → ℕ → List Reply → List Reply
 hits_from asks ks zero rs = []
 hits_from asks ks (suc n) rs = option_map_or (λ r. r ∷ hits_from asks ks n (rs ++ r ∷ [])) (hit (known asks ks rs) (asks rs)) []
 
--- the replies of a caller with hits: those up to the last one that came over the bus, and the hits behind it
+-- the replies of a caller with hits: those up to the last one that came over the bus, and the hits after it
 pub record Filled : Type 0 where
   pub full : List Reply
   pub hits : List Reply

@@ -7,7 +7,7 @@ use Rattle.i2c_base.specs.declared.entry.Entry.TheVariants as entry
 use Rattle.i2c_base.specs.declared.reply.Reply.{Reply}
 use Rattle.i2c_base.specs.declared.reply.Cut.{Cut}
 use Rattle.i2c_base.specs.declared.reply.Cut.TheVariants as cut_at
-use Rattle.i2c_base.specs.declared.transfer.Kind.TheVariants as transfer_kind
+use Rattle.i2c_base.specs.declared.transfer.TransferKind.TheVariants as transfer_kind
 use Rattle.i2c_base.specs.declared.transfer.Msg.{Msg}
 use Rattle.i2c_base.specs.Board.{BoardView, DeviceView}
 use Rattle.i2c_base.specs.Transfer.{TransferView, written, plain_read}
@@ -21,7 +21,7 @@ use Rattle.cache_laws.specs.Cache.{Kept, Cached, is_kept, filled, answered, asks
 
 -- ---- full order
 
--- the hits of a caller behind these replies of it, as transfers that aren't cut
+-- the hits of a caller after these replies of it, as transfers that aren't cut
 abbrev pub hits_of : (ℕ → Cached) → ℕ → List Reply → List (ℕ × Cut)
 hits_of xs c rs = map (λ r. (c, cut_at.No)) (filled (xs c) rs).hits
 

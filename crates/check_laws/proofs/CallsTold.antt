@@ -15,7 +15,7 @@ module _ {W : Type 0} (l : Listener W) (cut : Option ℕ) (last : Bool) where
   abbrev IsCounted : TalkTold W → Type 0
   IsCounted u = length u.calls ≡ calls_told last u.end (length u.bytes)
 
-  -- behind the start there is a call for each byte
+  -- after the start there is a call for each byte
   abbrev IsEven : Said W → Type 0
   IsEven t = length t.calls ≡ length t.bytes + 1
 

@@ -208,7 +208,7 @@ module _ (b : BoardView) (tree : IsTree b) (plain : IsPlainBoard b) (lines : Lin
   up_to_front j low ends =
       elim (cases_lt (suc j) (length front)) [ inl h ↦ before_front j h ends | inr h ↦ whole_front j (omega (arith, low, h)) ]
 
-  -- the entry behind the next one
+  -- the entry after the next one
   second : (n : Entry) → slice_get es (length front + 1) ≡ Some n → (ss : List Entry) × (rest ≡ n ∷ ss)
   second n at = by rest (sym (get_later front (next ∷ rest) 1) ∙ at)
     where

@@ -1,4 +1,4 @@
--- Behind one past a caller has one step where the same calls of the ports fail, and one that is stuck has none. No induction.
+-- After one past a caller has one step where the same calls of the ports fail, and one that is stuck has none. No induction.
 use Rattle.std.proofs.Common.{◌≡◌, ℕ, List, length, Some, None, sym, ◌∙◌, subst, inl, inr, arith}
 use Rattle.std.proofs.lemmas.List.{length-reverse}
 use Rattle.i2c_base.specs.declared.entry.Entry.{Entry}

@@ -22,7 +22,7 @@ calls_told last end.Refused n = n + 3
 calls_told last end.Proto n = n + 2
 calls_told last (end.Cut q) n = q + 1
 
--- a stop is due behind a message: it is a control message, or the last of its transfer
+-- a stop is due after a message: it is a control message, or the last of its transfer
 abbrev pub is_last_told : MessageEntry → Bool
 is_last_told m = not (is_call m.purpose) || (m.part == m.parts)
 
@@ -35,7 +35,7 @@ abbrev pub call_failed : Entry → Option ℕ
 call_failed (entry.Line c mux level failed) = if failed then Some 0 else None
 call_failed e = of_message None (λ m. cut_of m.end) e
 
--- THE GAPS that entries tell of a root, behind so many calls that went through: an entry whose call failed ends a gap
+-- THE GAPS that entries tell of a root, after so many calls that went through: an entry whose call failed ends a gap
 abbrev pub gap_told : ℕ → Option ℕ → List ℕ
 gap_told since None = []
 gap_told since (Some q) = (since + q) ∷ []

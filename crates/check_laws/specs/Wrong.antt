@@ -16,7 +16,7 @@ use Rattle.check_laws.specs.Failed.{FailBy}
 abbrev pub up_to : List Entry → ℕ → List Entry
 up_to es i = reverse (take (i + 1) es)
 
--- this entry ends a step: a settle of its caller that stands directly behind its message or line step belongs to that
+-- this entry ends a step: a settle of its caller that stands directly after its message or line step belongs to that
 pub record EndsStep (es : List Entry) (i : ℕ) : Type 0 where
   pub there : i < length es
   pub behind : (next : Entry) → slice_get es (i + 1) ≡ Some next → BelongsTo next (up_to es i) → ⊥
@@ -37,7 +37,7 @@ first_step (e ∷ s ∷ es) = if is_stepping e && (is_settle s && (caller_of e =
 abbrev pub BeginsWith : List Entry → List Entry → Type 0
 BeginsWith front es = (rest : List Entry) × (es ≡ front ++ rest)
 
--- WHAT CAME of the caller of the next entry behind a past: it is none of the callers, it was stuck, or it made a step that isn't the
+-- WHAT CAME of the caller of the next entry after a past: it is none of the callers, it was stuck, or it made a step that isn't the
 -- front of what is told
 pub record HasStepped (b : BoardView) (callers : ℕ) (asks : Asks) (gaps : ℕ → List ℕ) (past : List Entry) (caller : ℕ)
     (t : Turn) : Type 0 where

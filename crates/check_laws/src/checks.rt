@@ -39,7 +39,7 @@ pub fn the_roots_tell_each_call()
     an_accepted_board_is_a_tree();
 }
 
-/// Behind a legal front of these entries the next one's caller is stuck, or makes another step where the same calls of the ports
+/// After a legal front of these entries the next one's caller is stuck, or makes another step where the same calls of the ports
 /// fail: then the step that is told there is the first that isn't legal.
 ///
 /// Where other calls fail, another step may be legal too.

@@ -1,4 +1,4 @@
--- A step of one of a group's callers, behind a past of others as in the group's own journal. No induction but over the looks
+-- A step of one of a group's callers, after a past of others as in the group's own journal. No induction but over the looks
 -- in front of a walk.
 use Rattle.std.proofs.Common.{◌≡◌, ◌==◌, ◌<◌, ℕ, Bool, true, false, cond, List, [], ◌∷◌, ◌++◌, Option, Some, None, refl, sym, ◌∙◌, ap, subst, inl, inr}
 use Rattle.i2c_base.specs.declared.ids.LockId.{LockId}
@@ -248,7 +248,7 @@ module _ (b : BoardView) (roots who : ℕ → Bool) where
         due-alike _ _ c (moved-alike all own n m al c (cur c k on) _ _ (entry.Message c bus why part parts addr reading bytes heard e)
         (Sent e bytes) (message-alike c k on reading bytes e))
 
-    -- what is due behind it
+    -- what is due after it
     pub step-due : n.due ≡ m.due → (e : Entry) → (k : who (caller_of e) ≡ true) → StaysIn b roots (ahead b own m (caller_of e))
         → (step b all n e).due ≡ (step b own m e).due
     step-due due (entry.Take c l) k on = due

@@ -49,7 +49,7 @@ module _ (b : BoardView) (roots others : ℕ → Bool) (apart : AreApart roots o
     marks_off : (v : Slots) → set_marks marks v p ≡ v p
     marks_off v = set_marks-other marks v p (unmarked marks on)
 
-    -- behind a step of a select
+    -- after a step of a select
     select_off : (h : Hop) (left : ℕ) (out : ActOutcome) (v : Slots) → roots (root_of b h.on) ≡ true → after_select h left marks out v p ≡ v p
     select_off h left (Sent end.Ok bytes) v at = told_off h left bytes v at
     select_off h left (Sent end.Nack bytes) v at = turned_off h.on h.mux Clean None v at
@@ -61,7 +61,7 @@ module _ (b : BoardView) (roots others : ℕ → Bool) (apart : AreApart roots o
     select_off h left (Lined false) v at = turned_off h.on h.mux Clean (Some h.channel) v at
     select_off h left Passed v at = refl
 
-    -- behind a deselect or a close
+    -- after a deselect or a close
     shut_off : (mux_on mux : ℕ) (out : ActOutcome) (v : Slots) → roots (root_of b mux_on) ≡ true → after_off mux_on mux marks out v p ≡ v p
     shut_off mux_on mux (Sent end.Ok bytes) v at = turned_off mux_on mux Clean None v at
     shut_off mux_on mux (Sent end.Nack bytes) v at = turned_off mux_on mux Clean None v at
@@ -73,7 +73,7 @@ module _ (b : BoardView) (roots others : ℕ → Bool) (apart : AreApart roots o
     shut_off mux_on mux (Lined false) v at = turned_off mux_on mux Clean None v at
     shut_off mux_on mux Passed v at = refl
 
-    -- behind a step of any job there
+    -- after a step of any job there
     job_off : (job : Job) (left : ℕ) (out : ActOutcome) (v : Slots) → roots (root_of b (job_bus job)) ≡ true → after_job job left marks out v p ≡ v p
     job_off (Call bus ms) left out v at = refl
     job_off (Select h) left out v at = select_off h left out v at

@@ -1,4 +1,4 @@
--- A group's own journal behind a past of others. The induction goes over its entries.
+-- A group's own journal after a past of others. The induction goes over its entries.
 use Rattle.std.proofs.Common.{◌≡◌, ℕ, Bool, true, false, cond, List, [], ◌∷◌, ◌++◌, Option, Some, None, refl, sym, ◌∙◌, ap, subst, inl, inr}
 use Rattle.i2c_base.specs.declared.ids.LockId.{LockId}
 use Rattle.i2c_base.specs.declared.entry.Entry.{Entry}
@@ -56,7 +56,7 @@ module _ (b : BoardView) (tree : IsTree b) (callers : ℕ) (all own : Asks) (roo
 
   module _ (before : List Entry) (rests : IsStepwise b callers all before) (due : (now b all before).due ≡ None)
       (fresh : IsAlike b roots who (now b all before) (opening b)) where
-    -- behind the past and these entries, the caller of this one acts on the group's roots
+    -- after the past and these entries, the caller of this one acts on the group's roots
     abbrev ActsIn : List Entry → Entry → Type 0
     ActsIn mine e = (act : Act) → first_act (current b all (now b all (mine ++ before)) (caller_of e)) ≡ Some act
         → ActIn b roots act (first_note (current b all (now b all (mine ++ before)) (caller_of e))).marks

@@ -24,7 +24,7 @@ module _ (b : BoardView) (tree : IsTree b) (callers : ℕ) (all : Asks) where
   AreFresh n [] = Unit {0}
   AreFresh n (p ∷ ps) = IsAlike b p.roots p.who n (opening b) × AreFresh n ps
 
-  -- behind a past, with whatever stands apart from all of them as it was
+  -- after a past, with whatever stands apart from all of them as it was
   record Join (ps : List Part) (before : List Entry) : Type 0 where
     past : List Entry
     past_is : past ≡ reverse (joined ps) ++ before

@@ -54,7 +54,7 @@ module _ (b : BoardView) (roots : ℕ → Bool) where
       top : refusal b t ≡ None → roots (root_of b t.bus) ≡ true
       top at = home (ltb-true t.bus (buses b) (refusal-none b t at).0)
 
-  -- what is left of it, with its looks answered, and behind a step
+  -- what is left of it, with its looks answered, and after a step
   pub seen-in : (v : Slots) (w : WalkTree) → StaysIn b roots w → StaysIn b roots (seen v w)
   seen-in v Ends h = tt
   seen-in v (Look ask next) h = seen-in v (next (answer_to v ask)) (h.1 (answer_to v ask))

@@ -26,7 +26,7 @@ SwitchesOff p m (Some (Send (SwitchOff off) left)) = (off_bus off ≡ p) × (off
 SwitchesOff p m (Some (Shift (SwitchOff off))) = (off_bus off ≡ p) × (off_mux off ≡ m)
 SwitchesOff p m act = ⊥
 
--- an entry behind a past is such a step that was sent and didn't fail by the port
+-- an entry after a past is such a step that was sent and didn't fail by the port
 abbrev pub HasClosed : BoardView → Asks → ℕ → ℕ → Entry → List Entry → Type 0
 HasClosed b asks p m e past = Closes p m (first_act (current b asks (now b asks past) (caller_of e))) × (is_failed e ≡ false)
 
@@ -34,7 +34,7 @@ abbrev pub HasSwitchedOff : BoardView → Asks → ℕ → ℕ → Entry → Lis
 HasSwitchedOff b asks p m e past =
     SwitchesOff p m (first_act (current b asks (now b asks past) (caller_of e))) × (is_failed e ≡ false)
 
--- none of these entries behind a past is such a close
+-- none of these entries after a past is such a close
 abbrev pub NoneCloses : BoardView → Asks → ℕ → ℕ → List Entry → List Entry → Type 0
 NoneCloses b asks p m [] past = Unit {0}
 NoneCloses b asks p m (e ∷ later) past = (HasClosed b asks p m e (later ++ past) → ⊥) × NoneCloses b asks p m later past

@@ -10,7 +10,7 @@ use Rattle.bus_spec.specs.Past.{Now, cut_of}
 use Rattle.bus_spec.specs.Legal.{IsDirectlyBehind}
 use Rattle.bus_spec.specs.Play.{Failing, next_failing}
 
--- an entry behind a past is the settle of the message or line step directly before it
+-- an entry after a past is the settle of the message or line step directly before it
 abbrev pub BelongsTo : Entry → List Entry → Type 0
 BelongsTo (entry.Settle c r cut) past = IsDirectlyBehind c past
 BelongsTo e past = ⊥

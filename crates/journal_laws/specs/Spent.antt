@@ -32,7 +32,7 @@ calls_for b n (Some (Take l)) e = 0
 calls_for b n (Some (Free l)) e = 0
 calls_for b n (Some (Settle verdict)) e = 0
 
--- so much is counted of an entry behind this past
+-- so much is counted of an entry after this past
 abbrev pub Count : Type 0
 Count = Entry → List Entry → ℕ
 

@@ -244,7 +244,7 @@ marks_to_the_deselect =
     (SwitchOff (Deselect near) ∷ far_call ∷ [])) (Sent end.Ok [])
     ∷ sees None ∷ shut ∷ failed_marking (Select near) (near_mark ∷ far_mark ∷ []) ∷ all_freed
 
--- the deselect of the near mux fails, behind the select of the far one: it marks the near one alone. The close that comes next
+-- the deselect of the near mux fails, after the select of the far one: it marks the near one alone. The close that comes next
 -- fails, and then again, for the deselect of the far one
 abbrev pub marks_none_beyond_by : List Mark → List PathStep
 marks_none_beyond_by marks =

@@ -123,7 +123,7 @@ select_joined =
     reverse (row.take_mux 0 0 ∷ row.take_bus 0 ∷ entry.Message 0 0 (purpose.Control 0) 1 3 0x70 false (1 ∷ []) (Some (Chip 0)) end.Ok
     ∷ entry.Message 0 1 purpose.Call 2 3 0x30 false [] None end.Nack ∷ row.fails 0 Enxio cut.No ∷ [])
 
--- A mux-locked mux is held as a parent-locked one is: the root's lock isn't freed behind the select
+-- A mux-locked mux is held as a parent-locked one is: the root's lock isn't freed after the select
 abbrev pub held_as_parent_locked : List Entry
 held_as_parent_locked =
     reverse (row.take_mux 0 0 ∷ row.take_bus 0 ∷ row.control 0 0 0 0x70 1 ∷ row.reads 0 1 0x30 0 0x11 1
@@ -169,7 +169,7 @@ kept_over_the_mark = asks_register 0 1 0x30 0 1 ∷ behind_a_failed_select
 abbrev pub kept_over_the_close : List Entry
 kept_over_the_close = entry.Message 0 1 purpose.Call 1 2 0x30 false [] None end.Nack ∷ row.control 0 0 0 0x70 0 ∷ behind_a_failed_select
 
--- the same channel is read behind twice, and selected twice; or the mux is deselected behind the first read
+-- the same channel is read behind twice, and selected twice; or the mux is deselected after the first read
 abbrev pub same_asks : Asks
 same_asks = transfers_of ((row.read 1 0x30 0 ∷ row.read 1 0x30 0 ∷ []) ∷ [])
 

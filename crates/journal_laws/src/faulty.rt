@@ -18,7 +18,7 @@ ghost use Rattle.journal_laws.specs.Faulty.{HasClosed, HasSwitchedOff, NoneClose
 use i2c_spec::an_accepted_board_is_a_tree;
 
 /// A mark stays, whoever steps and whatever fails, until a close of the marked mux was sent without failing by the port; and
-/// until then no message goes through a mux on its bus. A marked mux keeps no channel, and behind such a close, or such a
+/// until then no message goes through a mux on its bus. A marked mux keeps no channel, and after such a close, or such a
 /// deselect, it has none either: which one it had open before is forgotten.
 ///
 /// A mux that may be open is the mark of its bus, by the law on what a mux keeps. A journal whose entries need not come where
@@ -45,7 +45,7 @@ pub fn a_mark_stays_until_its_mux_is_closed()
 /// deselect that fails, with all that is on its way, changes no reply.
 ///
 /// A journal whose entries need not come where they do could tell any cut. That no cut is left from a walk before is known
-/// only of an accepted board and of transfers with a message: there each walk ends behind a lock that is freed. The legal
+/// only of an accepted board and of transfers with a message: there each walk ends after a lock that is freed. The legal
 /// form has one premise more, that of the law that a legal journal is stepwise.
 pub fn a_cut_is_of_a_step_on_the_way()
     ensures stepwise { (b : BoardView) (callers : ℕ) (asks : Asks) (past : List Entry) → IsPlainBoard b → MeetsRules b → AsksForMessages asks → IsStepwise b callers asks past → KeepsCuts b asks past }

@@ -17,7 +17,7 @@ ghost use Rattle.journal_laws.specs.Layers.{BelongsTo, FailsAs};
 
 use i2c_spec::an_accepted_board_is_a_tree;
 
-/// Each entry of a legal journal might come where it did, and no settle is due behind them: what the rules say of the
+/// Each entry of a legal journal might come where it did, and no settle is due after them: what the rules say of the
 /// whole, each step says by itself. So each law over journals whose entries might come where they did is one over legal journals.
 ///
 /// Nothing is said of whole steps, since the walk rule and the settle rule keep each settle with its message or line

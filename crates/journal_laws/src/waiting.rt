@@ -17,7 +17,7 @@ use i2c_spec::an_accepted_board_is_a_tree;
 /// At each place of a journal all callers have finished, or some caller has an entry that may come: the locks stop nobody
 /// for good. Where a settle is due it is that one.
 ///
-/// Behind entries that might not come a lock may be held by a caller that has finished. The rules of the board, and a
+/// After entries that might not come a lock may be held by a caller that has finished. The rules of the board, and a
 /// message in each transfer, are what the tree law is shown of.
 pub fn some_caller_can_go_on()
     ensures { (b : BoardView) (callers : ℕ) (asks : Asks) (past : List Entry) → IsPlainBoard b → MeetsRules b → AsksForMessages asks → IsStepwise b callers asks past → SomeCanGoOn b callers asks past }
@@ -28,7 +28,7 @@ pub fn some_caller_can_go_on()
 /// Where no settle is due, each caller has an entry that may come, or waits for a lock that somebody has, or has finished;
 /// and who waits or has finished has no entry that may come.
 ///
-/// Where a settle is due only its caller has one. Behind entries that might not come a caller may have a lock of a lower
+/// Where a settle is due only its caller has one. After entries that might not come a caller may have a lock of a lower
 /// rank than the free one that it takes next. The rules of the board, and a message in each transfer, are what the tree law
 /// is shown of.
 pub fn each_caller_goes_on_or_is_stuck()
@@ -40,7 +40,7 @@ pub fn each_caller_goes_on_or_is_stuck()
     an_accepted_board_is_a_tree();
 }
 
-/// The schedule looks at a journal afterwards, and sees what each place tells: in steps behind which all have finished, a
+/// The schedule looks at a journal afterwards, and sees what each place tells: in steps after which all have finished, a
 /// caller is ready exactly where it has an entry that may come.
 ///
 /// Where a settle is due another may be ready that can't go on yet. In steps that end before all have finished, or might not

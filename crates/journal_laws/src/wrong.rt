@@ -70,7 +70,7 @@ pub fn another_channel_is_selected_first()
 {}
 
 /// A channel that was kept is forgotten where a select of its mux fails by the port: no message goes out over the mark, nor
-/// straight behind the close.
+/// straight after the close.
 pub fn a_failed_select_forgets_what_was_kept()
     ensures mark { (callers : ℕ) → IsLegal wrong.kept_board callers wrong.keep_asks wrong.kept_over_the_mark → ⊥ }
     ensures close { (callers : ℕ) → IsLegal wrong.kept_board callers wrong.keep_asks wrong.kept_over_the_close → ⊥ }
@@ -118,7 +118,7 @@ pub fn a_select_is_a_transfer_of_its_own()
     ensures { (callers : ℕ) → IsLegal row.parent_locked callers wrong.deep_asks wrong.select_joined → ⊥ }
 {}
 
-/// Behind the select of a mux-locked mux the root's lock is freed: the chain isn't held as for a parent-locked one
+/// After the select of a mux-locked mux the root's lock is freed: the chain isn't held as for a parent-locked one
 /// (Linux i2c-topology).
 pub fn a_mux_locked_mux_frees_its_root()
     ensures { (callers : ℕ) → IsLegal row.mux_locked callers wrong.deep_asks wrong.held_as_parent_locked → ⊥ }

@@ -159,7 +159,7 @@ module _ (b : BoardView) (tree : IsTree b) (plain : IsPlainBoard b) (lines : Lin
       → rest_of (current b asks n c) out ≡ next out
   rest_is act note next out e = ap (λ (w : WalkTree). rest_of w out) e
 
-  -- of a step behind which the walk settles, or doesn't before its next step
+  -- of a step after which the walk settles, or doesn't before its next step
   decided_next : (note : Note) (job : Job) (left : ℕ) (out : ActOutcome) (w : WalkTree) (cut : Cut) (verdict : Option Errno)
       → IsDecided note job left out w → Settles asked.done w → first_act w ≡ Some (Settle verdict)
       → (note.forward ≡ true → decides job (job_outcome job left out) ≡ true → EndsJob job left out

@@ -140,7 +140,7 @@ module _ {W V : Type 0} (l : Listener W) (k : Listener V) (R : W → V → Type 
       subst (λ (x : Answer). ToldAlike R (by_answer l cut last limit m a t) (by_answer k cut last limit m x u)) e
       (answer_alike cut last limit m a t u all s)
 
-  -- one message: where the listeners are related behind its start, and behind a fault in place of it, and answer the
+  -- one message: where the listeners are related after its start, and after a fault in place of it, and answer the
   -- start alike, the same is said, and they are related in the end
   pub talk-alike : (limit : ℕ) (w : W) (v : V) (m : MessageView) (last : Bool) (cut : Option ℕ) → AllByRecursion Fits m.bytes
       → R (l.after w call.Fault) (k.after v call.Fault)

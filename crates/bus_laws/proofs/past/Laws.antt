@@ -4,7 +4,7 @@ use Rattle.std.specs.List.{list_all}
 use Rattle.i2c_base.specs.declared.ids.LockId.{LockId}
 use Rattle.i2c_base.specs.declared.ids.LockId.TheVariants as lock
 use Rattle.i2c_base.specs.declared.entry.End.{End}
-use Rattle.i2c_base.specs.declared.transfer.Kind.TheVariants as transfer_kind
+use Rattle.i2c_base.specs.declared.transfer.TransferKind.TheVariants as transfer_kind
 use Rattle.i2c_base.specs.declared.entry.Entry.{Entry}
 use Rattle.i2c_base.specs.declared.entry.Entry.TheVariants as entry
 use Rattle.i2c_base.specs.Board.{BoardView}

@@ -1,4 +1,4 @@
--- Each settle stands directly behind the message or line step that decides it, and tells that entry's cut. The
+-- Each settle stands directly after the message or line step that decides it, and tells that entry's cut. The
 -- inductions go over the entries.
 use Rattle.std.proofs.Common.{◌≡◌, ℕ, zero, suc, ◌<◌, Bool, true, false, cond, List, [], ◌∷◌, Option, Some, None, eqb, refl, sym, ◌∙◌, ap, subst, ◌⊎◌, inl, inr}
 use Rattle.std.proofs.lemmas.Bool.{eq-eqb}
@@ -52,7 +52,7 @@ sends_next (Then (Send j k) note next) job left e = tt
 sends_next (Then (Shift j) note next) job left e = tt
 sends_next (Then (Settle v) note next) job left e = absurd (let f : Some (Settle v) ≡ Some (Send job left) = e in cc)
 
--- behind a message a walk settles, or it doesn't before its next step
+-- after a message a walk settles, or it doesn't before its next step
 abbrev Decided : WalkTree → Type 0
 Decided w = NoSettle w ⊎ ((verdict : Option Errno) × (first_act w ≡ Some (Settle verdict)))
 

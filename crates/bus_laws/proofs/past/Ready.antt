@@ -45,7 +45,7 @@ holders_known b callers asks (entry.Message d bus purpose part parts addr readin
 holders_known b callers asks (entry.Line d mux level failed ∷ past) steps l c has = holders_known b callers asks past steps.1 l c has
 holders_known b callers asks (entry.Settle d r cut ∷ past) steps l c has = holders_known b callers asks past steps.1 l c has
 
--- a walk behind its looks has ended, or has a step
+-- a walk after its looks has ended, or has a step
 pub act_or_end : (v : Slots) (w : WalkTree) → (seen v w ≡ Ends) ⊎ ((act : Act) × (first_act (seen v w) ≡ Some act))
 act_or_end v Ends = inl refl
 act_or_end v (Look ask next) = act_or_end v (next (answer_to v ask))

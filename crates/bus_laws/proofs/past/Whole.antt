@@ -68,7 +68,7 @@ goes_alike bus ms left more end.Refused bytes = refl
 goes_alike bus ms left more end.Proto bytes = refl
 goes_alike bus ms left more (end.Cut q) bytes = refl
 
--- who is inside behind a message that others follow
+-- who is inside after a message that others follow
 pub more_follow : (bus : ℕ) (ms : List MessageView) (left : ℕ) (out : ActOutcome) (d : ℕ) (old : Option ℕ)
     → inside_after (Call bus ms) (suc left) out d old ≡ cond (is_on (goes (Call bus ms) (suc left) out)) (Some d) None
 more_follow bus ms left out d old =
@@ -278,7 +278,7 @@ stepwise_front b callers asks (e ∷ later) earlier steps = stepwise_front b cal
 
 module _ (b : BoardView) (tree : IsTree b) (plain : IsPlainBoard b) (lines : LinesAreLocked b) (asks : Asks) (some : AsksForMessages asks)
     (callers : ℕ) where
-  -- behind a message of the caller's it is inside, or its settle is due
+  -- after a message of the caller's it is inside, or its settle is due
   call_between : (past : List Entry) (steps : IsStepwise b callers asks past) (d bus : ℕ) (ms : List MessageView) (left : ℕ) (e : End)
       (bytes : List ℕ) (new : Now)
       → IsNext b asks (now b asks past) d (Send (Call bus ms) left)

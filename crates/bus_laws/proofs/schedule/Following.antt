@@ -1,4 +1,4 @@
--- One word, one step behind the last word, and the end of a loop over a schedule. No induction.
+-- One word, one step after the last word, and the end of a loop over a schedule. No induction.
 use Rattle.std.proofs.Common.{◌≡◌, ℕ, ◌<◌, true, List, [], ◌∷◌, ◌++◌, None, refl, sym, ◌∙◌, ap, subst}
 use Rattle.std.specs.Prelude.{reverse}
 use Rattle.std.proofs.lemmas.List.{reverse-append, reverse-reverse, append_assoc, append-nil}
@@ -75,7 +75,7 @@ module _ (b : BoardView) (tree : IsTree b) (plain : IsPlainBoard b) (lines : Lin
             (word-passed past w left later (stuck-waits b tree plain lines asks some callers w past steps stuck later comes) f);
       }
 
-  -- behind the last word the least made a step
+  -- after the last word the least made a step
   pub least-made : (now b asks past).due ≡ None → (t : Turn) → IsTurn b callers asks past t
       → ((d : ℕ) → d < t.caller → IsStuck b asks past d)
       → KeepsTo b callers asks words from [] past → KeepsTo b callers asks words from [] (past_after past t)

@@ -239,7 +239,7 @@ module _ (b : BoardView) (tree : IsTree b) (plain : IsPlainBoard b) (lines : Lin
       ∙ ap (joins_head e) (turn_alone b callers asks (e ∷ past) t is)
       ∙ joined
 
-  -- ONE STEP MORE, behind entries that stand in front of it
+  -- ONE STEP MORE, after entries that stand in front of it
   pub turns-behind : (callers : ℕ) (past front added : List Entry) → reverse past ≡ front ++ added → IsStepwise b callers asks past
       → (now b asks past).due ≡ None → (t : Turn) → IsTurn b callers asks past t → turns (added ++ t.entries) ≡ turns added ++ t ∷ []
   turns-behind callers past front added is steps none t turn =

@@ -277,7 +277,7 @@ module _ (b : BoardView) (whose : TransferView) (tree : IsTree b) (lines : Lines
         line_rooted = λ l. absurd (let f : false ≡ true = sym no_line ∙ l in cc);
       }
 
-  -- what goes on behind the job: a mux that stays as it is keeps its channel, any other is deselected
+  -- what goes on after the job: a mux that stays as it is keeps its channel, any other is deselected
   behind_job : (t : Bool) → h.stays ≡ t → Responds b h → (t ≡ false → (is_gpio h.kind ≡ true) ⊎ AllRespond b hs)
       → (out : JobOutcome) (x : Slots) → IsOpenOn b h (x h.on) → ((p : ℕ) → InLocks (lock.Mux p) (sub_locks root h hs) → IsRest b p (x p))
       → ((p : ℕ) → (Crosses p (h ∷ hs) → ⊥) → x p ≡ job_after job note.marks out v p) → CanJob b (h ∷ hs) job out

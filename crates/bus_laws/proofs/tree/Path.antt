@@ -98,7 +98,7 @@ own_crosses (Call bus ms) hs p off own c = own
 own_crosses (Select g) hs p off own c = off (subst (λ (q : ℕ). Crosses q hs) own c)
 own_crosses (SwitchOff x) hs p off own c = off (subst (λ (q : ℕ). Crosses q hs) own c)
 
--- a job that can have this outcome at the end of some hops can have it behind one more that lets it through
+-- a job that can have this outcome at the end of some hops can have it after one more that lets it through
 pub can_more : (b : BoardView) (h : Hop) (hs : List Hop) (job : Job) (o : JobOutcome) → Responds b h → CanJob b hs job o
     → CanJob b (h ∷ hs) job o
 can_more b h hs job Good r can = elim can [ inl l ↦ inl l | inr s ↦ inr ((r, s.0), s.1) ]

@@ -397,7 +397,7 @@ messages_weigh limit (m ∷ ms) out =
     messages_weigh limit ms (drop (written_of m) out) in
     omega (arith, more, sum_by-cons (bytes_of limit) m ms)
 
--- all messages of a transfer, the first one with the others behind it
+-- all messages of a transfer, the first one with the others after it
 call_weighs : (b : BoardView) (bus : ℕ) (ms : List MessageView) → 0 < length ms → job_weight b (Call bus ms) ≡ weight_of (block_limit b) ms
 call_weighs b bus [] some = absurd (omega (arith, some))
 call_weighs b bus (m ∷ ms) some =

@@ -15,7 +15,7 @@ use Rattle.bus_laws.specs.Settles.{Settles}
 use Rattle.bus_laws.proofs.walk.Keeps.{by_go-keeps, if_good-keeps, if_sent-keeps}
 use Rattle.bus_laws.specs.Calls.{FirstCalls}
 
--- behind the settle none is sent
+-- after the settle none is sent
 pub settled-first : (w : WalkTree) → Settles true w → FirstCalls w
 settled-first Ends h = tt
 settled-first (Look ask next) h = λ m. settled-first (next m) (h m)

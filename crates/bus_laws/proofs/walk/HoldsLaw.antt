@@ -310,7 +310,7 @@ module _ (b : BoardView) (tree : IsTree b) (root : ℕ) where
             before.marked before.apart before.off
             before.same_root hk
 
--- the whole walk of a transfer holds no lock before it and behind it
+-- the whole walk of a transfer holds no lock before it and after it
 pub walk-holds : (b : BoardView) → IsTree b → LinesAreLocked b → (t : TransferView) → HoldsLocks b [] (walk_for b t)
 walk-holds b tree lines t = by (refusal b t) refl
   where

@@ -33,7 +33,7 @@ length-around [] y rest = (let f : suc (length rest) ≡ 0 + suc (length rest) =
 length-around (x ∷ xs) y rest = (let e : length (xs ++ y ∷ rest) ≡ length xs + suc (length rest) = length-around xs y rest in
     omega (arith, e))
 
--- and with so many behind it
+-- and with so many after it
 pub nth-next : (ms before : List MessageView) (y : MessageView) (rest : List MessageView) (left : ℕ) → ms ≡ before ++ y ∷ rest
     → left ≡ length rest
     → nth_message ms (length ms - 1 - left) ≡ y

@@ -178,7 +178,7 @@ off_errs : (off : Off) (e : End) → decides (SwitchOff off) (sent_outcome Good 
 off_errs off e decided none =
     let f : false ≡ true = subst (λ (x : End). decides (SwitchOff off) (sent_outcome Good x) ≡ true) (end_good None e none).0 decided in cc
 
--- behind a message of the caller's that went through comes the next one at once; behind the last one, and behind any other,
+-- after a message of the caller's that went through comes the next one at once; after the last one, and after any other,
 -- the walk settles next as it decides
 pub call-follows : (note : Note) (bus : ℕ) (ms : List MessageView) (left : ℕ) (e : End) (bytes : List ℕ) (w : WalkTree)
     → GoesOn note (Call bus ms) left (Sent e bytes) w
@@ -197,7 +197,7 @@ call-follows note bus ms (suc left) end.Proto bytes w h =
 call-follows note bus ms (suc left) (end.Cut q) bytes w h =
     inr (record { settles = h; whole = λ none. absurd (let f : end.Cut q ≡ end.Ok = (end_good None (end.Cut q) none).0 in cc) })
 
--- behind a message a walk settles next as it decides, or it doesn't settle next
+-- after a message a walk settles next as it decides, or it doesn't settle next
 pub what_follows : (note : Note) (job : Job) (left : ℕ) (e : End) (bytes : List ℕ) (w : WalkTree) → GoesOn note job left (Sent e bytes) w
     → NoSettle w ⊎ FollowsSend job left e bytes w
 what_follows note (Call bus ms) left e bytes w h =
@@ -214,7 +214,7 @@ what_follows note (SwitchOff off) left e bytes w h =
       | inr settle ↦ inr (record { settles = settle.2; whole = λ none. absurd (off_errs off e settle.1 none) })
     ]
 
--- behind a message of the caller's that went through comes the next one at once
+-- after a message of the caller's that went through comes the next one at once
 pub call-goes-on : (note : Note) (bus : ℕ) (messages : List MessageView) (left : ℕ) (bytes : List ℕ) (w : WalkTree)
     → GoesOn note (Call bus messages) (suc left) (Sent end.Ok bytes) w → first_act w ≡ Some (Send (Call bus messages) left)
 call-goes-on note bus messages left bytes w h = h

@@ -18,7 +18,7 @@ abbrev is_settled : Job → JobOutcome → Bool
 is_settled (SwitchOff off) Unsent = true
 is_settled job o = decides job o
 
--- what is settled behind a job; one that isn't on the way settles nothing
+-- what is settled after a job; one that isn't on the way settles nothing
 abbrev behind_job : Bool → Job → JobOutcome → Bool → Bool
 behind_job forward job o done = cond forward (is_settled job o) done
 
@@ -47,7 +47,7 @@ failed_settled (Call bus ms) = refl
 failed_settled (Select h) = refl
 failed_settled (SwitchOff off) = refl
 
--- nothing is settled behind a job on the way that goes on
+-- nothing is settled after a job on the way that goes on
 still : (forward done : Bool) → (forward ≡ true → done ≡ false) → cond forward false done ≡ done
 still true done before = sym (before refl)
 still false done before = refl

@@ -29,7 +29,7 @@ use Rattle.bus_laws.specs.Told.{WorldTold}
 use Rattle.bus_laws.specs.Settles.{EndsJob}
 
 -- A PATH
--- the hops of a path behind one of them are those over its bus
+-- the hops of a path after one of them are those over its bus
 hops_split : (b : BoardView) → IsTree b → (hs : List Hop) (s : ℕ) → hops b s ≡ hs → (h : Hop) → IsAmongHops h hs
     → (front : List Hop) × (hops b s ≡ front ++ h ∷ hops b h.on)
 hops_split b tree [] s at h among = absurd among

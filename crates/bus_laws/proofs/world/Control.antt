@@ -150,7 +150,7 @@ module _ (b : BoardView) (tree : IsTree b) (r s : ℕ) (cs : List ChipView) (ds 
     (along : (u : ℕ) → is_joined (world_of b r cs ds hs busy) u ≡ true → MayJoin b s u)
     (m a : ℕ) (chip : ChipView) (addr : addr_of_mux b m ≡ Some a) (home : home_of_mux b m ≡ s)
     (joined : is_joined (world_of b r cs ds hs busy) s ≡ true) (at : slice_get cs m ≡ Some chip) (none : NoneWaits cs) where
-  -- the world behind the start
+  -- the world after the start
   abbrev begun : Bool → World
   begun reading = world_of b r cs (feed state_table (device_start (world_of b r cs ds hs busy) a reading) 0 ds)
       (cond (has_chip b m) (node.Chip m ∷ []) []) true
@@ -253,7 +253,7 @@ module _ (b : BoardView) (tree : IsTree b) (r s : ℕ) (cs : List ChipView) (ds 
         by_own true x c = same x c
         by_own false x c = refl
 
-    -- a stop behind one event to the chip
+    -- a stop after one event to the chip
     stopped_one : (reading : Bool) (e : Event) (f : ChipView → ChipView)
         → ((x : ChipView) (c : ℕ) → is_open (chip_after x e) c ≡ is_open x c)
         → ((x : ChipView) → x.waiting ≡ None → chip_after (chip_after x e) event.Stop ≡ f x)

@@ -10,7 +10,7 @@ use Rattle.i2c_spec.specs.Messages.{MessageView}
 use Rattle.i2c_spec.specs.Conversation.{Listener, Said, TalkTold, is_it, silence, say, with_byte, told, call_then, ended, puts, gets, gets_counted, by_answer, talk}
 use Rattle.i2c_spec.proofs.MessageLemmas.{IsLater}
 
--- a call behind the start of a message that didn't fail
+-- a call after the start of a message that didn't fail
 abbrev pub IsMade : PortCall → Type 0
 IsMade (call.Put byte) = Unit {0}
 IsMade (call.Get ack) = Unit {0}
@@ -22,8 +22,8 @@ abbrev pub IsOwnEnd : End → Type 0
 IsOwnEnd (end.Cut q) = ⊥
 IsOwnEnd e = Unit {0}
 
--- What is so of a listener and the calls so far, newest first, and is kept by each call behind the start, gives what is
--- so in the end: behind a call that failed, or where the message ends by itself.
+-- What is so of a listener and the calls so far, newest first, and is kept by each call after the start, gives what is
+-- so in the end: after a call that failed, or where the message ends by itself.
 module _ {W : Type 0} (l : Listener W) (P : W → List PortCall → Type 0) (R : W → List PortCall → End → Type 0)
     (goes : (u : W) (cs : List PortCall) (c : PortCall) → IsMade c → P u cs → P (l.after u c) (c ∷ cs))
     (fails : (u : W) (cs : List PortCall) → P u cs → R (l.after u call.Fault) (call.Fault ∷ cs) (end.Cut (length cs)))
@@ -101,7 +101,7 @@ made_later (call.Get ack) made = tt
 made_later call.Stop made = tt
 made_later call.Fault made = tt
 
--- a fact about a listener and the calls so far that each call behind the start keeps holds in the end, if it holds behind
+-- a fact about a listener and the calls so far that each call after the start keeps holds in the end, if it holds after
 -- the start
 pub talk-tells : {W : Type 0} (l : Listener W) (P : W → List PortCall → Type 0)
     → ((u : W) (cs : List PortCall) (c : PortCall) → IsLater c → P u cs → P (l.after u c) (c ∷ cs))

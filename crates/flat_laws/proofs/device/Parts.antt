@@ -50,7 +50,7 @@ module _ {W : Type 0} (l : Listener W) (limit : ℕ) (cuts : ℕ → Option ℕ)
   one_told got m t end.Proto = refl
   one_told got m t (end.Cut q) = refl
 
-  -- one message more behind some that weren't the last
+  -- one message more after some that weren't the last
   pub part-more : (w : W) (ms : List MessageView) (m : MessageView) (ends : Bool) (i : ℕ) (got : List ℕ)
       → talk_part l limit w (ms ++ m ∷ []) ends i cuts got ≡ talk_more l limit m ends (cuts (i + length ms))
       (talk_part l limit w ms false i cuts got)
@@ -188,7 +188,7 @@ part-grows b r granted limit f ms cuts w m ends good same leads bytes =
     (grown b r m granted limit w ends (cuts (length ms))
     (talk_part (flat_listener granted) limit f ms false 0 cuts []) good same leads bytes)
 
--- behind the message that ends a transfer the flat world is idle
+-- after the message that ends a transfer the flat world is idle
 pub part-idle : (granted : ℕ → Option ℕ) (limit : ℕ) (f : FlatListener) (ms : List MessageView) (cuts : ℕ → Option ℕ) (m : MessageView)
     (ends : Bool)
     → is_good (talk_part (flat_listener granted) limit f ms false 0 cuts []).end ≡ true

@@ -129,7 +129,7 @@ bars_due b asks n m h ahead d cut verdict next settled cut_is same first =
     told_by : Reply → List TargetState → FlatTold
     told_by x xs = record { reply = x; states = xs }
 
--- whose settle is due behind a step
+-- whose settle is due after a step
 due_of : (d c : ℕ) (t : Bool) → cond t (Some d) None ≡ Some c → (t ≡ true) × (c ≡ d)
 due_of d c true e = (refl, sym (same_Some d c e))
 due_of d c false e = absurd (let f : None ≡ Some c = e in cc)

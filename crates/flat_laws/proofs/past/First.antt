@@ -38,7 +38,7 @@ use Rattle.std.proofs.lemmas.Option.{same_Some}
 abbrev pub Counts : WalkTree → ℕ → Type 0
 Counts w k = (bus : ℕ) (ms : List MessageView) (left : ℕ) → first_act w ≡ Some (Send (Call bus ms) left) → k + suc left ≡ length ms
 
--- a caller is inside, behind so many messages; or its walk sends the first of its messages first, and then it has sent
+-- a caller is inside, after so many messages; or its walk sends the first of its messages first, and then it has sent
 -- and read nothing yet, or its settle is due
 abbrev pub Stage : Now → ℕ → ℕ → Type 0
 Stage n k c = ((r : ℕ) × (n.inside r ≡ Some c) × Counts (n.walk c) k)
@@ -62,7 +62,7 @@ count_call d k z call = ap (λ (t : Bool). cond (eqb d d && t) (suc k) k) call
 count_settle : (d c k : ℕ) → (c ≡ d → ⊥) → cond (eqb d c) 0 k ≡ k
 count_settle d c k ne = ap (λ (t : Bool). cond t 0 k) (eqb-apart d c (λ e. ne (sym e)))
 
--- behind a settle no message is sent
+-- after a settle no message is sent
 settle_first : (w : WalkTree) (done : Bool) (verdict : _) → Settles done w → first_act w ≡ Some (Settle verdict) → FirstCalls w
 settle_first w done verdict h first =
     let at = first_is w (Settle verdict) first in
@@ -240,7 +240,7 @@ module _ (b : BoardView) (tree : IsTree b) (plain : IsPlainBoard b) (lines : Lin
         (λ bus ms i f. let g : Send (SwitchOff off) left ≡ Send (Call bus ms) i = f in cc) (λ note rest f. f e bytes)
         (at_same n.walk d (rest_of (current b asks n d) (Sent e bytes))) (at_same n.got d (n.got d))
 
-    -- behind a message of the caller's all that follow are left
+    -- after a message of the caller's all that follow are left
     rest_counts : (d bus : ℕ) (ms : List MessageView) (left : ℕ) (e : End) (bytes : List ℕ) (k : ℕ) → k ≡ suc (sent_by_now d) → n.due ≡ None
         → IsNext b asks n d (Send (Call bus ms) left)
         → Counts (rest_of (current b asks n d) (Sent e bytes)) k

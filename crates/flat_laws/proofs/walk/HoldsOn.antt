@@ -14,7 +14,7 @@ use Rattle.bus_spec.specs.Grammar.{locked, inner, walk_by, walk_for, plain, seen
 use Rattle.bus_spec.specs.Past.{begun}
 use Rattle.bus_laws.proofs.walk.Keeps.{GoesOver, GoesOverHop, DoerKeeps, locked-keeps, path-locks, inner-keeps}
 
--- how many locks are held behind a step
+-- how many locks are held after a step
 abbrev pub locks_behind : Act → ℕ → ℕ
 locks_behind (Take l) n = suc n
 locks_behind (Free l) zero = zero

@@ -82,7 +82,7 @@ leads-then act note T Q each [] out kept k = absurd kept
 leads-then act note T Q each (Saw ask m ∷ steps) out kept k = absurd kept
 leads-then act note T Q each (Did a o ∷ steps) out kept k = (kept.0, each o steps out kept.1 k)
 
--- the settle behind a job
+-- the settle after a job
 abbrev SettleRule : Bool → Option Errno → JobOutcome → List PathStep → JobOutcome → Type 0
 SettleRule t v o steps out = (map deed_of steps ≡ settle_where t v) × (out ≡ o)
 
@@ -516,7 +516,7 @@ module _ (on : Doer) (rule : Rule) (keeps : Keeps on rule) where
       (refl, leads-crossed h kept.kept job whose kept.rest out kept.crossed k)
 
   module _ (b : BoardView) (h : Hop) (job : Job) (whose : List Job) where
-    -- what comes behind the look for a mark
+    -- what comes after the look for a mark
     record ClosedThen (mark : Option ℕ) (steps : List PathStep) (out : JobOutcome) : Type 0 where
       pub closed : List PathStep
       pub rest : List PathStep

@@ -82,7 +82,7 @@ abbrev IsShort : MessageView → Type 0
 IsShort m = length m.bytes ≤ m.len
 
 -- a reply gives no more bytes than were read
--- behind the settle come none of the caller's messages
+-- after the settle come none of the caller's messages
 got_stays : (job : Job) (reading : Bool) (bytes got : List ℕ) (done : Bool) → done ≡ true → IsBefore done job
     → got_after job reading bytes got ≡ got
 got_stays (Call bus ms) reading bytes got done d before = absurd (let f : true ≡ false = sym d ∙ before in cc)
@@ -111,7 +111,7 @@ pub record IsPaid (b : BoardView) (asks : Asks) (n : Now) (e : Entry) (done : Bo
   pub entries : 1 + rest ≤ most
   pub bytes : length (bytes_in e) + length ((step b asks n e).got (caller_of e)) + 2 * rest ≤ length (n.got (caller_of e)) + 2 * most
   pub calls : calls_for b n (first_act (current b asks n (caller_of e))) e + 2 * rest ≤ 2 * most
-  -- behind the settle nothing is left of what was read
+  -- after the settle nothing is left of what was read
   pub emptied : after ≡ true → (done ≡ true → n.got (caller_of e) ≡ []) → (step b asks n e).got (caller_of e) ≡ []
   -- it settles a reply, or none
   pub replies : ((after ≡ done) × ((step b asks n e).settled (caller_of e) ≡ n.settled (caller_of e)))

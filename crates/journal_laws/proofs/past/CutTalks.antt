@@ -18,7 +18,7 @@ abbrev pub Went : PortCall → Type 0
 Went c = c ≡ call.Fault → ⊥
 
 module _ {W : Type 0} where
-  -- the call at this place failed: behind the calls before the message come so many of its own, and the next one failed
+  -- the call at this place failed: after the calls before the message come so many of its own, and the next one failed
   pub record BreaksOff (cut : Option ℕ) (before more : List PortCall) (t : TalkTold W) : Type 0 where
     pub place : ℕ
     pub cut_is : cut ≡ Some place
@@ -31,7 +31,7 @@ module _ {W : Type 0} where
     pub next : PortCall
     pub whole_is : more ≡ later ++ next ∷ own
 
-  -- a message beside the same one with no call that fails, both behind these calls
+  -- a message beside the same one with no call that fails, both after these calls
   pub record IsFront (cut : Option ℕ) (before : List PortCall) (t whole : TalkTold W) : Type 0 where
     pub more : List PortCall
     pub grown : whole.calls ≡ more ++ before

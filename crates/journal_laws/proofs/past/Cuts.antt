@@ -66,7 +66,7 @@ decided-verdict note job left out w v decided first =
       )
     ]
 
--- a settle behind a message is what that message decides, and the message is on the way
+-- a settle after a message is what that message decides, and the message is on the way
 settles-verdict : (note : Note) (job : Job) (left : ℕ) (out : ActOutcome) (w : WalkTree) (v : Option Errno) → GoesOn note job left out w
     → first_act w ≡ Some (Settle v)
     → (v ≡ verdict_of job left out) × ((is_call (job_purpose job) || note.forward) ≡ true)
@@ -447,7 +447,7 @@ module _ (b : BoardView) (tree : IsTree b) (plain : IsPlainBoard b) (lines : Lin
               (sym (other-failed b asks e past c h.1 (other_walk c h.1))) (before c)))
         ]
 
-    -- behind a message or a line step its caller has the root's lock, so its walk goes on
+    -- after a message or a line step its caller has the root's lock, so its walk goes on
     goes_on : IsStepwise b callers asks (e ∷ past) → (l : LockId) → InLocks l ((now b asks (e ∷ past)).held d) → is_over left_walk ≡ true
         → ⊥
     goes_on steps l has over =

@@ -61,7 +61,7 @@ module _ (b : BoardView) (asks : Asks) (some : AsksForMessages asks) (callers : 
     own : IsAsked b asks d (current b asks n d) (n.settled d)
     own = current-asked b asks some n (past-asked b asks some callers past steps) d
 
-    -- what is known behind a step whose walk goes on with a settle
+    -- what is known after a step whose walk goes on with a settle
     record Decides (out : ActOutcome) : Type 0 where
       pub verdict : Option Errno
       pub first : first_act (rest_of (current b asks n d) out) ≡ Some (Settle verdict)

@@ -112,7 +112,7 @@ module _ (b : BoardView) (asks : List Reply → Option TransferView) where
       × Follow (rs ++ reply_at s.entry) (rest_of (seen s.before.slot x) (outcome_of s.entry)) ss)
       same follow
 
-  -- the steps of a walk, and behind them those that follow what is left of it
+  -- the steps of a walk, and after them those that follow what is left of it
   led-follow : (rs : List Reply) (w left : WalkTree) (mine rest : List Step) → Leads b w mine left
       → Follow (rs ++ replies_in mine) left rest → Follow rs w (mine ++ rest)
   led-follow rs w left [] rest leads follow =

@@ -83,7 +83,7 @@ module _ (b : BoardView) (asks : List Reply → Option TransferView) where
   renamed-behind rs w u s ss same =
       ap (λ (x : WalkTree). walk_behind (rs ++ reply_at s.entry) (rest_of (seen s.before.slot x) (outcome_of s.entry)) ss) same
 
-  -- behind a caller's walks no settle is due
+  -- after a caller's walks no settle is due
   not-due : (rs : List Reply) (steps : List Step) → AreWalks b asks rs steps → is_due (first_act (walk_behind rs Ends steps)) ≡ false
   not-due rs steps (none xs) = refl
   not-due rs steps (whole xs t mine rest all r asked leads settles more parts) =
@@ -125,7 +125,7 @@ module _ (b : BoardView) (asks : Asks) where
       ap (λ (t : Bool). cond t (steps_in b asks c past ++ as_next past c e ∷ []) (steps_in b asks c past))
       (eqb-apart (caller_of e) c other)
 
-  -- the replies of a caller, behind an entry of its own and one of another's
+  -- the replies of a caller, after an entry of its own and one of another's
   pub own_replies : (past : List Entry) (c : ℕ) (e : Entry) → caller_of e ≡ c → replies (e ∷ past) c ≡ replies past c ++ reply_at e
   own_replies past c (entry.Take d l) own = sym (append-nil (replies past c))
   own_replies past c (entry.Free d l) own = sym (append-nil (replies past c))
@@ -152,7 +152,7 @@ module _ (b : BoardView) (asks : Asks) where
         | inr h ↦ ap replies_in (other_steps past c e h.1) ∙ replies_steps past c ∙ sym (other_replies past c e h.1)
       ]
 
-  -- the walk at hand behind a caller's steps is the one that its next step is of
+  -- the walk at hand after a caller's steps is the one that its next step is of
   pub hand : (past : List Entry) (c : ℕ) → walk_behind b (asks c) [] Ends (steps_in b asks c past) ≡ (now b asks past).walk c
       → hand_behind b (asks c) [] Ends (steps_in b asks c past) ≡ at_hand b (asks c) ((now b asks past).settled c)
       ((now b asks past).walk c)
@@ -195,7 +195,7 @@ module _ (b : BoardView) (asks : Asks) where
     ]),
   )
 
-  -- no settle is due behind all of a caller's walks
+  -- no settle is due after all of a caller's walks
   pub walks-due : (past : List Entry) → AreAllWalks b asks past → (c : ℕ) → is_due (first_act ((now b asks past).walk c)) ≡ false
   walks-due past walks c =
       ap (λ (w : WalkTree). is_due (first_act w)) (sym (walk_steps past c)) ∙ not-due b (asks c) [] (steps_in b asks c past) (walks c)

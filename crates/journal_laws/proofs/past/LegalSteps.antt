@@ -1,4 +1,4 @@
--- A legal past is stepwise, and so are its prefixes, which are legal where no settle is due behind them. The inductions
+-- A legal past is stepwise, and so are its prefixes, which are legal where no settle is due after them. The inductions
 -- go over the entries.
 use Rattle.std.proofs.Common.{◌≡◌, ℕ, ◌<◌, true, false, List, [], ◌∷◌, ◌++◌, Option, Some, None, refl, sym, ◌∙◌, ap, subst, ◌⊎◌, inl, inr}
 use Rattle.std.specs.Option.{option_and_then}

@@ -374,7 +374,7 @@ module _ (b : BoardView) (tree : IsTree b) (plain : IsPlainBoard b) (lines : Lin
         (λ e adds. play-may p.past made.steps fails c e known (subst (λ (n : Now). (n.due ≡ None) ⊎ (n.due ≡ Some c)) made.at due)
         (subst (λ (n : Now). next_entry b asks fails n c ≡ Some e) made.at adds))
 
-    -- a settle that is due comes, and none is due behind it
+    -- a settle that is due comes, and none is due after it
     record IsSettled (p : Played) : Type 0 where
       pub made : IsMade p
       pub none_due : p.now.due ≡ None

@@ -42,7 +42,7 @@ record IsOfChannel (b : BoardView) (last : Option Selected) (switched : Option �
   pub channel : select.hop.channel ≡ c
   pub by : switched ≡ Some select.caller
 
--- ONE STEP. If mux m keeps channel c, then its last select is such a one: before the step, and so behind it
+-- ONE STEP. If mux m keeps channel c, then its last select is such a one: before the step, and so after it
 module _ (b : BoardView) (d m c : ℕ) (kept : Option ℕ) (old : Option Selected) (by : Option ℕ) where
   -- .. where the step is one of this very mux or not, tells this channel of it, and leaves this last select
   abbrev Goes : Bool → Option ℕ → Option Selected → Type 0

@@ -44,7 +44,7 @@ record Pays (spent_entries spent_bytes spent_calls got left most : ℕ) : Type 0
   bytes : spent_bytes + got + 2 * left ≤ 2 * most
   calls : spent_calls + 2 * left ≤ 2 * most
 
--- what comes behind the settle is paid for already
+-- what comes after the settle is paid for already
 abbrev behind_settle : Bool → ℕ → ℕ
 behind_settle done next = cond done next 0
 
@@ -201,7 +201,7 @@ module _ (b : BoardView) (tree : IsTree b) (rules : MeetsRules b) (asks : Asks) 
             });
       }
     where
-      -- what comes behind grows by what the replies do
+      -- what comes after grows by what the replies do
       behind : (past : List Entry) (e : Entry) (s : SpendsNext b asks past (caller_of e))
           (p : IsPaid b asks (now b asks past) e s.done s.most)
           → behind_settle p.after (cost_at b (asks (caller_of e)) ((now b asks (e ∷ past)).settled (caller_of e))) + cost_from b

@@ -1,5 +1,5 @@
 -- Two journals that follow one schedule, and in which the same calls of the ports failed, are the same. The inductions go
--- over the words of the schedule, and over the steps behind the last word.
+-- over the words of the schedule, and over the steps after the last word.
 use Rattle.std.proofs.Common.{◌≡◌, ◌↔◌, ℕ, ◌<◌, ◌≤◌, Bool, true, false, not, cond, List, [], ◌∷◌, ◌++◌, Option, Some, None, refl, sym, ◌∙◌, ap, subst, inl, inr, append_assoc, arith}
 use Rattle.std.specs.Prelude.{reverse, MatchBool, ◌==◌}
 use Rattle.std.specs.List.{find}
@@ -114,7 +114,7 @@ module _ (b : BoardView) (tree : IsTree b) (plain : IsPlainBoard b) (lines : Lin
             (two.may_settle, (two.may, steps))
       ]
 
-  -- behind a message whose settle isn't due comes none of its caller
+  -- after a message whose settle isn't due comes none of its caller
   no_settle_behind : (past : List Entry) → IsStepwise b callers asks past → (e : Entry) → May b callers asks (now b asks past) e
       → is_stepping e ≡ true → (now b asks (e ∷ past)).due ≡ None
       → (s : Entry) → May b callers asks (now b asks (e ∷ past)) s → is_settle s ≡ true → caller_of s ≡ caller_of e → ⊥

@@ -27,7 +27,7 @@ use Rattle.bus_laws.proofs.walk.SettleLaw.{walk-starts}
 use Rattle.bus_laws.proofs.past.Placed.{IsDueBehind, past-due, due-made, starts_seen, no_settle}
 use Rattle.bus_laws.proofs.schedule.Turns.{turns-more}
 
--- these steps come, and no settle is due behind any of them
+-- these steps come, and no settle is due after any of them
 abbrev pub ComeWhole : BoardView → ℕ → Asks → List Entry → List Turn → Type 0
 ComeWhole b callers asks past [] = Unit {0}
 ComeWhole b callers asks past (t ∷ ts) = IsTurn b callers asks past t × ((now b asks (past_after past t)).due ≡ None)
