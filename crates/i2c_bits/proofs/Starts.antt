@@ -25,7 +25,7 @@ use Rattle.wire_spec.proofs.StartClocks.{address_bits}
 use Rattle.i2c_bits.specs.Wiring.{Rooted, the_table, mask_at, CameAnswer, CameStart}
 use Rattle.i2c_bits.specs.Counting.{begun_counts, start_counts}
 use Rattle.i2c_bits.specs.Stands.{AreTold, StandsIn, MayBegin, CalledTold, StartIs, StartTold, sites_of, chips_on, devices_on}
-use Rattle.i2c_bits.specs.declared.lines.Low.{Low}
+use Rattle.i2c_bits.specs.declared.lines.SclTimeout.{SclTimeout}
 use Rattle.i2c_bits.proofs.Told.{On, on_lines, world_on, stands_on, all_kept, kept_where, shifted_same, sent_up}
 
 -- ---- a start, and a repeated one
@@ -48,7 +48,7 @@ called_free law k w w1 free is =
     is ∙ (ap (start_pulls node_table (mask_at k)) free.lines ∙ law (mask_at k) (both (chips_on w) (devices_on w)) w.counts)
 
 called_within : (m : Mode) → RepeatedStartCallsAll node_table m → (k : Rooted) (w w1 : Bus NodeState) → StandsIn k m w
-    → (r : Result (Unit {0}) Low) → CameStart r w1 (repeated_start the_table (mask_at k) w) → CalledTold true r w w1
+    → (r : Result (Unit {0}) SclTimeout) → CameStart r w1 (repeated_start the_table (mask_at k) w) → CalledTold true r w w1
 unfolding the_table
 called_within m law k w w1 stands (Ok u) is =
     ap (λ (p : Bool × Bus NodeState). p.1)
@@ -60,7 +60,7 @@ called_within m law k w w1 stands (Err e) is =
     (ap (repeated_start node_table (mask_at k)) stands.lines ∙ law (mask_at k) w.sda (both (chips_on w) (devices_on w)) w.counts) in cc
 
 pub called_again : RepeatedStartCallsAll node_table (In false 8 0) → RepeatedStartCallsAll node_table Out → (k : Rooted) (w w1 : Bus NodeState)
-    → MayBegin true k w → (r : Result (Unit {0}) Low) → CameStart r w1 (repeated_start the_table (mask_at k) w)
+    → MayBegin true k w → (r : Result (Unit {0}) SclTimeout) → CameStart r w1 (repeated_start the_table (mask_at k) w)
     → CalledTold true r w w1
 called_again written out k w w1 (inl stands) r is = called_within (In false 8 0) written k w w1 stands r is
 called_again written out k w w1 (inr stands) r is = called_within Out out k w w1 stands r is
@@ -81,7 +81,7 @@ pub cut_address : (t : Table NodeState) (k : Rooted) (w w1 : Bus NodeState) (byt
     → (bit_steps t (mask_at k) 0 (bits 8 byte) w).up ≡ false
 cut_address t k w w1 byte e = sym (ap (λ (c : Came NodeState). c.up) e)
 
-pub on_board : (r : Result Answer Low) (w w1 : Bus NodeState) (byte : ℕ) (k k1 : Rooted) → k1 ≡ k
+pub on_board : (r : Result Answer SclTimeout) (w w1 : Bus NodeState) (byte : ℕ) (k k1 : Rooted) → k1 ≡ k
     → CameAnswer r w1 (bit_steps the_table (mask_at k1) 0 (bits 8 byte) w) (sent_byte the_table (mask_at k1) byte w)
     → CameAnswer r w1 (bit_steps the_table (mask_at k) 0 (bits 8 byte) w) (sent_byte the_table (mask_at k) byte w)
 on_board r w w1 byte k k1 same is =
@@ -298,7 +298,7 @@ module _ (parts : (cs : List (Site ChipView)) (ds : List (Site TargetState)) →
         counts = tt;
       }
 
-  pub start_told : (r : Result Answer Low) → CameAnswer r w2 (bit_steps the_table (mask_at k) 0 (bits 8 byte) w1) sent → StartTold k busy r byte w w2
+  pub start_told : (r : Result Answer SclTimeout) → CameAnswer r w2 (bit_steps the_table (mask_at k) 0 (bits 8 byte) w1) sent → StartTold k busy r byte w w2
   start_told (Ok Ack) is = acked (is_slow given) refl is
   start_told (Ok Nack) is = refused (is_slow given) refl is
   start_told (Ok Slow) is = held_long (is_slow given) refl is

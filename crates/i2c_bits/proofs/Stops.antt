@@ -23,7 +23,7 @@ use Rattle.wire_spec.proofs.SiteLemmas.{rejoin_both}
 use Rattle.i2c_bits.specs.Wiring.{Rooted, the_table, mask_at, came_stop, levelled_bits, lined}
 use Rattle.i2c_bits.specs.Counting.{StopCounts}
 use Rattle.i2c_bits.specs.Stands.{AreTold, StandsIn, IsFree, IsLate, MayEnd, StopIs, StopTold, LineIs, chips_on, devices_on, world_at}
-use Rattle.i2c_bits.specs.declared.lines.Low.{Low}
+use Rattle.i2c_bits.specs.declared.lines.SclTimeout.{SclTimeout}
 use Rattle.i2c_bits.proofs.Told.{On, on_lines, world_on, told_on, all_kept, kept_where, sites_map}
 use Rattle.i2c_bits.proofs.Starts.{on_late, started_bytes}
 
@@ -44,7 +44,7 @@ module _ (t : Table NodeState) (k k1 : Rooted) (w w1 w2 : Bus NodeState) (same :
       → ◌≡◌ {A = Bool × Bus NodeState} (false, w2) (slow_stop t (mask_at k) w)
   stop_low e = closes (gave_up w1) e refl
 
-pub pulled_first : (t : Table NodeState) (k k1 : Rooted) (w w1 w2 : Bus NodeState) (r : Result (Unit {0}) Low) → k1 ≡ k
+pub pulled_first : (t : Table NodeState) (k k1 : Rooted) (w w1 w2 : Bus NodeState) (r : Result (Unit {0}) SclTimeout) → k1 ≡ k
     → w1 ≡ pulled t (mask_at k) w true true → came_stop r w2 ≡ slow_stop t (mask_at k1) w1 → came_stop r w2 ≡ stop_pulls t (mask_at k) w
 pulled_first t k k1 w w1 w2 r same e f = f ∙ (ap (λ m. slow_stop t (mask_at m) w1) same ∙ ap (slow_stop t (mask_at k)) e)
 
@@ -93,7 +93,7 @@ module _ (parts : (cs : List (Site ChipView)) (ds : List (Site TargetState)) →
         counts = subst (StopCounts late w.counts) (sym (ap (λ x. x.counts) is)) counts;
       }
 
-  within_told : (m : Mode) → StopOnWires m → StandsIn k m w → (r : Result (Unit {0}) Low) → came_stop r w1 ≡ stop_pulls the_table (mask_at k) w
+  within_told : (m : Mode) → StopOnWires m → StandsIn k m w → (r : Result (Unit {0}) SclTimeout) → came_stop r w1 ≡ stop_pulls the_table (mask_at k) w
       → StopTold k false r w w1
   unfolding the_table mask_at
   within_told m wires stands (Ok u) is =
@@ -106,7 +106,7 @@ module _ (parts : (cs : List (Site ChipView)) (ds : List (Site TargetState)) →
       ∙ wires k.board k.root w.sda (chips_on w) (devices_on w) w.counts) in
       let p : false ≡ true = ap (λ (p : Bool × Bus NodeState). p.0) e in cc
 
-  pub stop_told : StopOnWires (In false 8 0) → StopOnWires Out → MayEnd false k w → (r : Result (Unit {0}) Low)
+  pub stop_told : StopOnWires (In false 8 0) → StopOnWires Out → MayEnd false k w → (r : Result (Unit {0}) SclTimeout)
       → came_stop r w1 ≡ stop_pulls the_table (mask_at k) w → StopTold k false r w w1
   stop_told written out (inl stands) r is = within_told (In false 8 0) written stands r is
   stop_told written out (inr stands) r is = within_told Out out stands r is
@@ -127,7 +127,7 @@ module _ (parts : (cs : List (Site ChipView)) (ds : List (Site TargetState)) →
   pub slow_told : StopAfterSlowOnWires
       → ((b : BoardView) (r : ℕ) (busy : Bool) (byte : ℕ) (cs : List (Site ChipView)) (ds : List (Site TargetState))
       → byte / 2 < NO_ADDRESS → AreSites b r cs ds → StartOnSites b r busy byte cs ds)
-      → IsLate k w → (r : Result (Unit {0}) Low) → came_stop r w1 ≡ slow_stop the_table (mask_at k) w → StopTold k true r w w1
+      → IsLate k w → (r : Result (Unit {0}) SclTimeout) → came_stop r w1 ≡ slow_stop the_table (mask_at k) w → StopTold k true r w w1
   slow_told wires starts late (Err l) is = let p : false ≡ true = ap (λ (p : Bool × Bus NodeState). p.0) (is ∙ slow_is wires late) in cc
   slow_told wires starts late (Ok u) is =
       let fits : late.byte < 256 = late.fits in

@@ -19,7 +19,7 @@ use Rattle.wire_spec.specs.WorldLaws.{PartsOfBoth, PutOnSites, GetOnSites}
 use Rattle.wire_spec.specs.CallLaws.{PutOnWires, GetOnWires}
 use Rattle.i2c_bits.specs.Wiring.{Rooted, the_table, mask_at, came_acked, CameRead}
 use Rattle.i2c_bits.specs.Stands.{AreTold, StandsIn, PutTold, GetTold, sites_of, chips_on, devices_on, world_at}
-use Rattle.i2c_bits.specs.declared.lines.Low.{Low}
+use Rattle.i2c_bits.specs.declared.lines.SclTimeout.{SclTimeout}
 
 -- ---- nine clocks
 not_not : (b : Bool) → not (not b) ≡ b
@@ -47,7 +47,7 @@ module _ (t : Table NodeState) (k k1 : Rooted) (w w1 w2 : Bus NodeState) (same :
       ap (λ c. then_answer (came_up byte w1) c) (f ∙ ap (λ m. bit_step t (mask_at m) 0 (not ack) w1) same)
       ∙ ap (λ c. then_answer c (bit_step t (mask_at k) 0 (not ack) c.bus)) e
 
-  pub read_low : (low : Low) (byte : ℕ) (ack : Bool) → came_up byte w1 ≡ bit_steps t (mask_at k) 0 (bits 8 255) w
+  pub read_low : (low : SclTimeout) (byte : ℕ) (ack : Bool) → came_up byte w1 ≡ bit_steps t (mask_at k) 0 (bits 8 255) w
       → gave_up w2 ≡ bit_step t (mask_at k1) 0 (not ack) w1 → CameRead (Err low) w2 (read_byte t (mask_at k) ack w)
   read_low low byte ack e f =
       let is : record { up = false; read = byte; bus = w2 } ≡ read_byte t (mask_at k) ack w =
@@ -59,7 +59,7 @@ pub sent_cut : (t : Table NodeState) (k : Rooted) (byte : ℕ) (w w1 : Bus NodeS
     → gave_up w1 ≡ sent_byte t (mask_at k) byte w
 sent_cut t k byte w w1 e = ap (λ c. then_bits c (bit_step t (mask_at k) 0 true c.bus)) e
 
-pub read_cut : (t : Table NodeState) (k : Rooted) (ack : Bool) (w w1 : Bus NodeState) (low : Low)
+pub read_cut : (t : Table NodeState) (k : Rooted) (ack : Bool) (w w1 : Bus NodeState) (low : SclTimeout)
     → gave_up w1 ≡ bit_steps t (mask_at k) 0 (bits 8 255) w
     → CameRead (Err low) w1 (read_byte t (mask_at k) ack w)
 read_cut t k ack w w1 low e =
@@ -132,7 +132,7 @@ shifted_same false true h = absurd (omega arith)
 
 module _ (parts : (cs : List (Site ChipView)) (ds : List (Site TargetState)) → PartsOfBoth cs ds) (keeps : KeepsBytes state_table HoldsBytes)
     (k : Rooted) (w w1 : Bus NodeState) where
-  -- the sites behind a put, and behind a get
+  -- the sites after a put, and after a get
   abbrev chips_put : ℕ → List (Site ChipView)
   chips_put byte = map (put_site chip_table byte) (chips_on w)
 
@@ -156,7 +156,7 @@ module _ (parts : (cs : List (Site ChipView)) (ds : List (Site TargetState)) →
 
   pub put_told : PutOnWires
       → ((b : BoardView) (r : ℕ) (busy : Bool) (byte : ℕ) (cs : List (Site ChipView)) (ds : List (Site TargetState)) → PutOnSites b r busy byte cs ds)
-      → (byte : ℕ) → byte < 256 → StandsIn k (In false 8 0) w → (r : Result Bool Low)
+      → (byte : ℕ) → byte < 256 → StandsIn k (In false 8 0) w → (r : Result Bool SclTimeout)
       → came_acked r w1 ≡ sent_byte the_table (mask_at k) byte w → PutTold k r byte w w1
   put_told wires sites byte lt stands (Err e) is =
       let p : false ≡ true = ap (λ c. c.up) (put_comes wires byte lt stands (gave_up w1) is) in cc
@@ -189,7 +189,7 @@ module _ (parts : (cs : List (Site ChipView)) (ds : List (Site TargetState)) →
 
   pub get_told : GetOnWires
       → ((b : BoardView) (r : ℕ) (busy ack : Bool) (cs : List (Site ChipView)) (ds : List (Site TargetState)) → GetOnSites b r busy ack cs ds)
-      → (ack : Bool) → StandsIn k (Give 8) w → (r : Result ℕ Low)
+      → (ack : Bool) → StandsIn k (Give 8) w → (r : Result ℕ SclTimeout)
       → CameRead r w1 (read_byte the_table (mask_at k) ack w) → GetTold k r ack w w1
   get_told wires sites ack stands (Err e) is =
       let p : false ≡ true = sym is.0 ∙ ap (λ c. c.up) (get_comes wires ack stands) in cc

@@ -16,7 +16,7 @@ use Rattle.wire_spec.specs.Calls.{more_edges, within, within_address, free}
 use Rattle.wire_spec.specs.Sites.{NodeState, node_table, both, chips_in, devices_in, world_by, AreSites}
 use Rattle.i2c_bits.specs.Wiring.{Rooted}
 use Rattle.i2c_bits.specs.Counting.{begun_counts, StartCounts, StopCounts}
-use Rattle.i2c_bits.specs.declared.lines.Low.{Low}
+use Rattle.i2c_bits.specs.declared.lines.SclTimeout.{SclTimeout}
 
 -- what the world sees of the targets on the lines: all, the chips, and the devices
 unfoldable pub sites_of : Bus NodeState → List (Site NodeState)
@@ -66,7 +66,7 @@ pub record PutIs (k : Rooted) (acked : Bool) (byte : ℕ) (old new : Bus NodeSta
   pub counts : new.counts ≡ more_edges 9 old.counts
 
 -- SCL comes up in time in a put
-abbrev pub PutTold : Rooted → Result Bool Low → ℕ → Bus NodeState → Bus NodeState → Type 0
+abbrev pub PutTold : Rooted → Result Bool SclTimeout → ℕ → Bus NodeState → Bus NodeState → Type 0
 PutTold k (Ok acked) byte old new = PutIs k acked byte old new
 PutTold k (Err e) byte old new = ⊥
 
@@ -78,7 +78,7 @@ pub record GetIs (k : Rooted) (byte : ℕ) (ack : Bool) (old new : Bus NodeState
   pub counts : new.counts ≡ more_edges 9 old.counts
 
 -- SCL comes up in time in a get
-abbrev pub GetTold : Rooted → Result ℕ Low → Bool → Bus NodeState → Bus NodeState → Type 0
+abbrev pub GetTold : Rooted → Result ℕ SclTimeout → Bool → Bus NodeState → Bus NodeState → Type 0
 GetTold k (Ok byte) ack old new = GetIs k byte ack old new
 GetTold k (Err e) ack old new = ⊥
 
@@ -87,8 +87,8 @@ abbrev pub MayBegin : Bool → Rooted → Bus NodeState → Type 0
 MayBegin false k w = IsFree k w
 MayBegin true k w = StandsIn k (In false 8 0) w ⊎ StandsIn k Out w
 
--- all that is joined takes in an address, behind a start or a repeated one
-abbrev pub CalledTold : (busy : Bool) → Result (Unit {0}) Low → Bus NodeState → Bus NodeState → Type 0
+-- all that is joined takes in an address, after a start or a repeated one
+abbrev pub CalledTold : (busy : Bool) → Result (Unit {0}) SclTimeout → Bus NodeState → Bus NodeState → Type 0
 CalledTold busy (Ok u) old new =
     new ≡ within_address 8 0 true (both (chips_on old) (devices_on old)) (begun_counts busy old.counts)
 CalledTold busy (Err e) old new = ⊥
@@ -114,23 +114,23 @@ pub record StartIs (k : Rooted) (busy : Bool) (a : Answer) (byte : ℕ) (old new
   pub counts : StartCounts busy a old.counts new.counts
 
 -- SCL comes up in time in the eight bits of an address
-abbrev pub StartTold : Rooted → Bool → Result Answer Low → ℕ → Bus NodeState → Bus NodeState → Type 0
+abbrev pub StartTold : Rooted → Bool → Result Answer SclTimeout → ℕ → Bus NodeState → Bus NodeState → Type 0
 StartTold k busy (Ok a) byte old new = StartIs k busy a byte old new
 StartTold k busy (Err e) byte old new = ⊥
 
--- where a stop may be made: within a message whose targets take bytes or are out, or behind a start that was too slow
+-- where a stop may be made: within a message whose targets take bytes or are out, or after a start that was too slow
 abbrev pub MayEnd : Bool → Rooted → Bus NodeState → Type 0
 MayEnd false k w = StandsIn k (In false 8 0) w ⊎ StandsIn k Out w
 MayEnd true k w = IsLate k w
 
--- a stop on the lines, behind a start that was too slow or another call, is one in the world
+-- a stop on the lines, after a start that was too slow or another call, is one in the world
 pub record StopIs (k : Rooted) (late : Bool) (old new : Bus NodeState) : Type 0 where
   pub free : IsFree k new
   pub world : world_at k false new ≡ after (world_at k true old) call.Stop
   pub counts : StopCounts late old.counts new.counts
 
 -- SCL comes up in time in a stop
-abbrev pub StopTold : Rooted → (late : Bool) → Result (Unit {0}) Low → Bus NodeState → Bus NodeState → Type 0
+abbrev pub StopTold : Rooted → (late : Bool) → Result (Unit {0}) SclTimeout → Bus NodeState → Bus NodeState → Type 0
 StopTold k late (Ok u) old new = StopIs k late old new
 StopTold k late (Err e) old new = ⊥
 

@@ -10,7 +10,7 @@ use Rattle.wire_spec.specs.Wires.{Site, Bit, LOOKS, shifted}
 use Rattle.wire_spec.specs.Bus.{Bus, Came, rejoined, came_up, gave_up}
 use Rattle.wire_spec.specs.Calls.{STOP_LOOKS, start_pulls, repeated_start}
 use Rattle.wire_spec.specs.Sites.{NodeState, Chip, Device, node_table, mask_of}
-use Rattle.i2c_bits.specs.declared.lines.Low.{Low}
+use Rattle.i2c_bits.specs.declared.lines.SclTimeout.{SclTimeout}
 
 -- the table of all targets, mux chips and devices
 unfoldable pub the_table : Table NodeState
@@ -55,27 +55,27 @@ wire_looked w scl_high sda_high =
       stuck = cond (not scl_high && (w.low + 1 == STOP_LOOKS)) (counted w.stuck) w.stuck;
     }
 
--- one bit of the controller's, as the lines have it: the level behind what was read so far
-abbrev pub came : ℕ → Result Bool Low → Bus NodeState → Came NodeState
+-- one bit of the controller's, as the lines have it: the level after what was read so far
+abbrev pub came : ℕ → Result Bool SclTimeout → Bus NodeState → Came NodeState
 came v (Ok level) b = came_up (shifted v level) b
 came v (Err e) b = gave_up b
 
 -- eight bits, and the answer to a byte that was sent: low is an acknowledge
-abbrev pub came_byte : Result ℕ Low → Bus NodeState → Came NodeState
+abbrev pub came_byte : Result ℕ SclTimeout → Bus NodeState → Came NodeState
 came_byte (Ok byte) b = came_up byte b
 came_byte (Err e) b = gave_up b
 
-abbrev pub came_acked : Result Bool Low → Bus NodeState → Came NodeState
+abbrev pub came_acked : Result Bool SclTimeout → Bus NodeState → Came NodeState
 came_acked (Ok acked) b = came_up (shifted 0 (not acked)) b
 came_acked (Err e) b = gave_up b
 
 -- a byte that was read and answered
-abbrev pub CameRead : Result ℕ Low → Bus NodeState → Came NodeState → Type 0
+abbrev pub CameRead : Result ℕ SclTimeout → Bus NodeState → Came NodeState → Type 0
 CameRead (Ok byte) b c = came_up byte b ≡ c
 CameRead (Err e) b c = (c.up ≡ false) × (b ≡ c.bus)
 
 -- an address byte: the answer that the world gives to it, or SCL stayed low in the eight bits
-abbrev pub CameAnswer : Result Answer Low → Bus NodeState → (eight sent : Came NodeState) → Type 0
+abbrev pub CameAnswer : Result Answer SclTimeout → Bus NodeState → (eight sent : Came NodeState) → Type 0
 CameAnswer (Ok Ack) b eight sent = came_up (shifted 0 false) b ≡ sent
 CameAnswer (Ok Nack) b eight sent = came_up (shifted 0 true) b ≡ sent
 CameAnswer (Ok Slow) b eight sent = gave_up b ≡ sent
@@ -84,17 +84,17 @@ CameAnswer (Ok Nothing) b eight sent = ⊥
 CameAnswer (Err e) b eight sent = eight.up ≡ false
 
 -- a repeated start, and a stop
-abbrev pub CameStart : Result (Unit {0}) Low → Bus NodeState → Bool × Bus NodeState → Type 0
+abbrev pub CameStart : Result (Unit {0}) SclTimeout → Bus NodeState → Bool × Bus NodeState → Type 0
 CameStart (Ok u) b p = (true, b) ≡ p
 CameStart (Err e) b p = p.0 ≡ false
 
 -- a start from free lines, and a repeated one within a message
-abbrev pub CameBegin : (busy : Bool) → Result (Unit {0}) Low → Rooted → Bus NodeState → Bus NodeState → Type 0
+abbrev pub CameBegin : (busy : Bool) → Result (Unit {0}) SclTimeout → Rooted → Bus NodeState → Bus NodeState → Type 0
 CameBegin false (Ok u) k old new = new ≡ start_pulls the_table (mask_at k) old
 CameBegin false (Err e) k old new = ⊥
 CameBegin true r k old new = CameStart r new (repeated_start the_table (mask_at k) old)
 
-abbrev pub came_stop : Result (Unit {0}) Low → Bus NodeState → Bool × Bus NodeState
+abbrev pub came_stop : Result (Unit {0}) SclTimeout → Bus NodeState → Bool × Bus NodeState
 came_stop (Ok u) b = (true, b)
 came_stop (Err e) b = (false, b)
 
@@ -122,7 +122,7 @@ pub record StayedLow (looks : ℕ) (old new : Wire) : Type 0 where
   pub stuck : looks ≡ STOP_LOOKS → new.stuck ≡ counted old.stuck
 
 -- SCL was looked at until it was high, so many times at most
-abbrev pub LooksMade : {A : Type 0} → ℕ → Result A Low → Wire → Wire → Type 0
+abbrev pub LooksMade : {A : Type 0} → ℕ → Result A SclTimeout → Wire → Wire → Type 0
 LooksMade looks (Ok a) old new = CameUp looks old new
 LooksMade looks (Err e) old new = StayedLow looks old new
 

@@ -45,7 +45,7 @@ impl<L: ByteLines> Model for BitPort<L> {
 
 /// What a port was made of.
 #[derive(Drop)]
-pub struct PortParts<L> {
+pub struct ClosedPort<L> {
     pub lines: L,
     /// A message was in progress.
     pub busy: bool,
@@ -74,11 +74,11 @@ impl<L: ByteLines> BitPort<L> {
     }
 
     /// Its lines, and whether a message was in progress on them.
-    pub fn into_parts(self) -> PortParts<L>
+    pub fn into_parts(self) -> ClosedPort<L>
         ensures world { world_at (L.board result.lines) result.busy (L.bus result.lines) ≡ self.world }
         ensures counts { (L.bus result.lines).counts ≡ self.counts }
     {
-        PortParts {
+        ClosedPort {
             busy: is_busy(&self.phase),
             lines: self.lines,
         }

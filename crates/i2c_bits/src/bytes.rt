@@ -5,8 +5,8 @@ ghost use Rattle.wire_spec.specs.Calls.{sent_byte, read_byte};
 ghost use Rattle.i2c_bits.specs.Wiring.{the_table, mask_at, came_acked, CameRead, LooksTell};
 ghost use Rattle.i2c_bits.specs.Stands.{StandsIn, PutTold, GetTold};
 
-use crate::clocks::{bit, shift};
-use crate::lines::{ByteLines, Lines, Low};
+use crate::clocks::{clock_bit, clock_byte};
+use crate::lines::{ByteLines, Lines, SclTimeout};
 use i2c_spec::devices_hold_bytes;
 use wire_spec::{
     a_get_on_the_sites_is_one_in_the_world, a_get_on_the_wires_is_one_in_the_world,
@@ -16,14 +16,14 @@ use wire_spec::{
 
 /// Sends a byte, and tells whether it is acknowledged: in the ninth clock SDA is let go, and low where someone acknowledges it
 /// (UM10204 sections 3.1.5 and 3.1.6).
-pub fn send<L: Lines>(lines: &mut L, byte: u8) -> Result<bool, Low>
+pub fn write_byte<L: Lines>(lines: &mut L, byte: u8) -> Result<bool, SclTimeout>
     ensures board { L.board lines.new ≡ L.board lines.old }
     ensures bus { IsTrue L.tells
         → came_acked result (L.bus lines.new) ≡ sent_byte the_table (mask_at (L.board lines.old)) byte (L.bus lines.old) }
     ensures looks { LooksTell result (L.wire lines.old) (L.wire lines.new) }
 {
-    match shift(lines, byte) {
-        Ok(_) => match bit(lines, true) {
+    match clock_byte(lines, byte) {
+        Ok(_) => match clock_bit(lines, true) {
             Ok(level) => Ok(!level),
             Err(low) => Err(low),
         },
@@ -32,14 +32,14 @@ pub fn send<L: Lines>(lines: &mut L, byte: u8) -> Result<bool, Low>
 }
 
 /// Reads a byte, and answers it in the ninth clock: low for more (UM10204 sections 3.1.5 and 3.1.6).
-pub fn receive<L: Lines>(lines: &mut L, ack: bool) -> Result<u8, Low>
+pub fn read_byte<L: Lines>(lines: &mut L, ack: bool) -> Result<u8, SclTimeout>
     ensures board { L.board lines.new ≡ L.board lines.old }
     ensures bus { IsTrue L.tells
         → CameRead result (L.bus lines.new) (read_byte the_table (mask_at (L.board lines.old)) ack (L.bus lines.old)) }
     ensures looks { LooksTell result (L.wire lines.old) (L.wire lines.new) }
 {
-    match shift(lines, 0xff) {
-        Ok(byte) => match bit(lines, !ack) {
+    match clock_byte(lines, 0xff) {
+        Ok(byte) => match clock_bit(lines, !ack) {
             Ok(_) => Ok(byte),
             Err(low) => Err(low),
         },
@@ -48,7 +48,7 @@ pub fn receive<L: Lines>(lines: &mut L, ack: bool) -> Result<u8, Low>
 }
 
 /// A byte to the targets that have heard, and whether some one acknowledges it.
-pub fn put_byte<L: ByteLines>(lines: &mut L, byte: u8) -> Result<bool, Low>
+pub fn put_byte<L: ByteLines>(lines: &mut L, byte: u8) -> Result<bool, SclTimeout>
     requires stands { IsTrue L.tells → StandsIn (L.board lines.old) (In false 8 0) (L.bus lines.old) }
     ensures board { L.board lines.new ≡ L.board lines.old }
     ensures looks { LooksTell result (L.wire lines.old) (L.wire lines.new) }
@@ -63,7 +63,7 @@ pub fn put_byte<L: ByteLines>(lines: &mut L, byte: u8) -> Result<bool, Low>
 
 /// A byte from the targets that have heard, and the controller's answer to it.
 #[inline(always)]
-pub fn get_byte<L: ByteLines>(lines: &mut L, ack: bool) -> Result<u8, Low>
+pub fn get_byte<L: ByteLines>(lines: &mut L, ack: bool) -> Result<u8, SclTimeout>
     requires stands { IsTrue L.tells → StandsIn (L.board lines.old) (Give 8) (L.bus lines.old) }
     ensures board { L.board lines.new ≡ L.board lines.old }
     ensures looks { LooksTell result (L.wire lines.old) (L.wire lines.new) }

@@ -4,7 +4,7 @@ ghost use Rattle.wire_spec.specs.Wires.{bits};
 ghost use Rattle.wire_spec.specs.Bus.{pulled, await, bit_step, bit_steps};
 ghost use Rattle.i2c_bits.specs.Wiring.{the_table, mask_at, came, came_byte, LooksMade, LooksTell};
 
-use crate::lines::{Lines, Low};
+use crate::lines::{Lines, SclTimeout};
 use i2c_base::MOST_LOOKS;
 
 /// How often SCL is looked at within a message (UM10204 section 3.1.9; the number is this project's).
@@ -12,7 +12,7 @@ pub const LOOKS: u8 = MOST_LOOKS + 1;
 
 /// Looks until SCL is high, so many times at most, and gives the level of SDA then (UM10204 section 3.1.9).
 #[inline(always)]
-fn wait<L: Lines>(lines: &mut L, looks: u8) -> Result<bool, Low>
+fn wait<L: Lines>(lines: &mut L, looks: u8) -> Result<bool, SclTimeout>
     requires { (L.wire lines.old).low ≡ 0 }
     ensures board { L.board lines.new ≡ L.board lines.old }
     ensures bus { IsTrue L.tells → (v : ℕ) → came v result (L.bus lines.new) ≡ await the_table v looks (L.bus lines.old) }
@@ -30,12 +30,12 @@ fn wait<L: Lines>(lines: &mut L, looks: u8) -> Result<bool, Low>
         }
         left -= 1;
     }
-    Err(Low)
+    Err(SclTimeout)
 }
 
 /// Lets SCL go, with SDA pulled or let go, and looks until SCL is high, so many times at most.
 #[inline(always)]
-pub fn release<L: Lines>(lines: &mut L, data_low: bool, looks: u8) -> Result<bool, Low>
+pub fn release<L: Lines>(lines: &mut L, data_low: bool, looks: u8) -> Result<bool, SclTimeout>
     ensures board { L.board lines.new ≡ L.board lines.old }
     ensures bus { IsTrue L.tells → (v : ℕ)
         → came v result (L.bus lines.new)
@@ -53,7 +53,7 @@ pub fn release<L: Lines>(lines: &mut L, data_low: bool, looks: u8) -> Result<boo
 /// One bit of a byte: SDA is set while SCL is low, and gives its level while SCL is high (UM10204 section 3.1.3). Where SCL
 /// stays low, both lines are let go.
 #[inline(always)]
-pub fn bit<L: Lines>(lines: &mut L, high: bool) -> Result<bool, Low>
+pub fn clock_bit<L: Lines>(lines: &mut L, high: bool) -> Result<bool, SclTimeout>
     ensures board { L.board lines.new ≡ L.board lines.old }
     ensures bus { IsTrue L.tells → (v : ℕ)
         → came v result (L.bus lines.new) ≡ bit_step the_table (mask_at (L.board lines.old)) v high (L.bus lines.old) }
@@ -73,7 +73,7 @@ pub fn bit<L: Lines>(lines: &mut L, high: bool) -> Result<bool, Low>
 }
 
 /// Eight bits, the most significant one first, and the number that SDA had (UM10204 section 3.1.5).
-pub fn shift<L: Lines>(lines: &mut L, byte: u8) -> Result<u8, Low>
+pub fn clock_byte<L: Lines>(lines: &mut L, byte: u8) -> Result<u8, SclTimeout>
     ensures board { L.board lines.new ≡ L.board lines.old }
     ensures bus { IsTrue L.tells
         → came_byte result (L.bus lines.new) ≡ bit_steps the_table (mask_at (L.board lines.old)) 0 (bits 8 byte) (L.bus lines.old) }
@@ -84,7 +84,7 @@ pub fn shift<L: Lines>(lines: &mut L, byte: u8) -> Result<u8, Low>
     while left > 0 {
         left -= 1;
         let high = (byte >> left) & 1 == 1;
-        match bit(lines, high) {
+        match clock_bit(lines, high) {
             Ok(level) => {
                 read = 2 * read + u8::from(level);
             }

@@ -24,8 +24,8 @@ mod lines;
 mod messages;
 mod phases;
 
-pub use bit_port::{BitPort, PortParts};
-pub use bytes::{get_byte, put_byte, receive, send};
-pub use clocks::{LOOKS, bit, release, shift};
-pub use lines::{ByteLines, Lines, Low};
+pub use bit_port::{BitPort, ClosedPort};
+pub use bytes::{get_byte, put_byte, read_byte, write_byte};
+pub use clocks::{LOOKS, clock_bit, clock_byte, release};
+pub use lines::{ByteLines, Lines, SclTimeout};
 pub use messages::{STOP_LOOKS, address, set_line, start_message, stop_message};

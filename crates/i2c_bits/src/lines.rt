@@ -9,13 +9,13 @@ ghost use Rattle.wire_spec.specs.Calls.{sent_byte, read_byte, stop_pulls};
 ghost use Rattle.i2c_bits.specs.Wiring.{Rooted, Wire, AreLetGo, wire_pulled, wire_looked, the_table, mask_at, lined, came_acked, CameRead, CameAnswer, CameBegin, came_stop, LooksTell, StartLooksTell, StopLooksTell};
 ghost use Rattle.i2c_bits.specs.Stands.{world_at, StandsIn, IsCalled, MayBegin, CalledTold, MayEnd};
 
-use crate::bytes::{receive, send};
-use crate::messages::{address, begin_either, end};
+use crate::bytes::{read_byte, write_byte};
+use crate::messages::{address, start_or_restart, stop};
 use i2c_base::{Answer, MuxId};
 
 /// SCL stayed low for too many looks.
 #[derive(Clone, Copy)]
-pub struct Low;
+pub struct SclTimeout;
 
 /// The lines of a root, SCL and SDA (UM10204 section 3.1.1). A contract sees the board and its root, which never change, and
 /// what the pulls and looks have come to; of lines that tell also their targets, bit by bit.
@@ -57,50 +57,50 @@ pub trait Lines: Drop {
 /// someone watches it makes them, and it may be shorter where nobody does.
 pub trait ByteLines: Lines {
     /// A start, or a repeated one within a message: all that is joined takes in an address (UM10204 section 3.1.4).
-    fn begin(&mut self, busy: bool) -> Result<(), Low>
+    fn start(&mut self, busy: bool) -> Result<(), SclTimeout>
         requires stands { IsTrue Self.tells → MayBegin busy (Self.board self.old) (Self.bus self.old) }
         ensures board { Self.board self.new ≡ Self.board self.old }
         ensures looks { LooksTell result (Self.wire self.old) (Self.wire self.new) }
         ensures bus { IsTrue Self.tells → CameBegin busy result (Self.board self.old) (Self.bus self.old) (Self.bus self.new) }
         ensures told { IsTrue Self.tells → CalledTold busy result (Self.bus self.old) (Self.bus self.new) }
     {
-        begin_either(self, busy)
+        start_or_restart(self, busy)
     }
 
     /// A stop within a message (UM10204 section 3.1.4).
-    fn end(&mut self) -> Result<(), Low>
+    fn stop(&mut self) -> Result<(), SclTimeout>
         requires stands { IsTrue Self.tells → MayEnd false (Self.board self.old) (Self.bus self.old) }
         ensures board { Self.board self.new ≡ Self.board self.old }
         ensures bus { IsTrue Self.tells
             → came_stop result (Self.bus self.new) ≡ stop_pulls the_table (mask_at (Self.board self.old)) (Self.bus self.old) }
         ensures looks { StopLooksTell result (Self.wire self.old) (Self.wire self.new) }
     {
-        end(self)
+        stop(self)
     }
 
     /// Sends a byte, and tells whether it is acknowledged (UM10204 sections 3.1.5 and 3.1.6).
-    fn send_byte(&mut self, byte: u8) -> Result<bool, Low>
+    fn send_byte(&mut self, byte: u8) -> Result<bool, SclTimeout>
         requires stands { IsTrue Self.tells → StandsIn (Self.board self.old) (In false 8 0) (Self.bus self.old) }
         ensures board { Self.board self.new ≡ Self.board self.old }
         ensures bus { IsTrue Self.tells → came_acked result (Self.bus self.new) ≡ sent_byte the_table (mask_at (Self.board self.old)) byte (Self.bus self.old) }
         ensures looks { LooksTell result (Self.wire self.old) (Self.wire self.new) }
     {
-        send(self, byte)
+        write_byte(self, byte)
     }
 
     /// Reads a byte, and answers it in the ninth clock: low for more (UM10204 sections 3.1.5 and 3.1.6).
-    fn receive_byte(&mut self, ack: bool) -> Result<u8, Low>
+    fn receive_byte(&mut self, ack: bool) -> Result<u8, SclTimeout>
         requires stands { IsTrue Self.tells → StandsIn (Self.board self.old) (Give 8) (Self.bus self.old) }
         ensures board { Self.board self.new ≡ Self.board self.old }
         ensures bus { IsTrue Self.tells → CameRead result (Self.bus self.new) (read_byte the_table (mask_at (Self.board self.old)) ack (Self.bus self.old)) }
         ensures looks { LooksTell result (Self.wire self.old) (Self.wire self.new) }
     {
-        receive(self, ack)
+        read_byte(self, ack)
     }
 
-    /// Sends an address byte behind a start, and gives its answer: a clock that is held for too long in the ninth clock is Slow
+    /// Sends an address byte after a start, and gives its answer: a clock that is held for too long in the ninth clock is Slow
     /// (UM10204 sections 3.1.9 and 3.1.10).
-    fn address_byte(&mut self, byte: u8) -> Result<Answer, Low>
+    fn address_byte(&mut self, byte: u8) -> Result<Answer, SclTimeout>
         requires stands { IsTrue Self.tells → IsCalled (Self.bus self.old) }
         ensures board { Self.board self.new ≡ Self.board self.old }
         ensures bus { IsTrue Self.tells

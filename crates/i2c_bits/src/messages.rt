@@ -7,8 +7,8 @@ ghost use Rattle.ports.specs.LineCalls.{HasLine};
 ghost use Rattle.i2c_bits.specs.Wiring.{the_table, mask_at, came, CameAnswer, CameStart, CameBegin, came_stop, AreLetGo, LooksTell, StartLooksTell, StopLooksTell};
 ghost use Rattle.i2c_bits.specs.Stands.{world_at, IsFree, MayBegin, CalledTold, StartTold, MayEnd, StopTold, LineIs};
 
-use crate::clocks::{LOOKS, bit, release, shift};
-use crate::lines::{ByteLines, Lines, Low};
+use crate::clocks::{LOOKS, clock_bit, clock_byte, release};
+use crate::lines::{ByteLines, Lines, SclTimeout};
 use i2c_base::{Answer, MuxId};
 use i2c_spec::devices_hold_bytes;
 use wire_spec::{
@@ -23,7 +23,7 @@ use wire_spec::{
 pub const STOP_LOOKS: u8 = 255;
 
 /// A start: SDA is pulled while SCL is high, and then SCL (UM10204 section 3.1.4).
-fn begin<L: Lines>(lines: &mut L)
+fn start_condition<L: Lines>(lines: &mut L)
     ensures board { L.board lines.new ≡ L.board lines.old }
     ensures bus { IsTrue L.tells → L.bus lines.new ≡ start_pulls the_table (mask_at (L.board lines.old)) (L.bus lines.old) }
     ensures looks { (L.wire lines.new).slow ≡ (L.wire lines.old).slow }
@@ -33,7 +33,7 @@ fn begin<L: Lines>(lines: &mut L)
 }
 
 /// Lets both lines go within a message, SDA before SCL.
-fn let_go<L: Lines>(lines: &mut L) -> Result<bool, Low>
+fn release_scl<L: Lines>(lines: &mut L) -> Result<bool, SclTimeout>
     ensures board { L.board lines.new ≡ L.board lines.old }
     ensures bus { IsTrue L.tells
         → came 0 result (L.bus lines.new) ≡ let_both the_table (mask_at (L.board lines.old)) (L.bus lines.old) }
@@ -44,15 +44,15 @@ fn let_go<L: Lines>(lines: &mut L) -> Result<bool, Low>
 }
 
 /// A repeated start (UM10204 section 3.1.4).
-fn begin_again<L: Lines>(lines: &mut L) -> Result<(), Low>
+fn repeated_start<L: Lines>(lines: &mut L) -> Result<(), SclTimeout>
     ensures board { L.board lines.new ≡ L.board lines.old }
     ensures bus { IsTrue L.tells
         → CameStart result (L.bus lines.new) (repeated_start the_table (mask_at (L.board lines.old)) (L.bus lines.old)) }
     ensures looks { LooksTell result (L.wire lines.old) (L.wire lines.new) }
 {
-    match let_go(lines) {
+    match release_scl(lines) {
         Ok(_) => {
-            begin(lines);
+            start_condition(lines);
             Ok(())
         }
         Err(low) => Err(low),
@@ -60,7 +60,7 @@ fn begin_again<L: Lines>(lines: &mut L) -> Result<(), Low>
 }
 
 /// A start, or a repeated one within a message: all that is joined takes in an address.
-pub fn begin_either<L: Lines>(lines: &mut L, busy: bool) -> Result<(), Low>
+pub fn start_or_restart<L: Lines>(lines: &mut L, busy: bool) -> Result<(), SclTimeout>
     requires stands { IsTrue L.tells → MayBegin busy (L.board lines.old) (L.bus lines.old) }
     ensures board { L.board lines.new ≡ L.board lines.old }
     ensures looks { LooksTell result (L.wire lines.old) (L.wire lines.new) }
@@ -70,24 +70,24 @@ pub fn begin_either<L: Lines>(lines: &mut L, busy: bool) -> Result<(), Low>
     a_start_calls_all_that_is_joined();
     a_repeated_start_calls_all_that_is_joined();
     if busy {
-        begin_again(lines)
+        repeated_start(lines)
     } else {
-        begin(lines);
+        start_condition(lines);
         Ok(())
     }
 }
 
 /// An address byte, and its answer: a clock that is held for too long in the ninth clock is Slow (UM10204 sections 3.1.9 and
 /// 3.1.10).
-pub fn address<L: Lines>(lines: &mut L, byte: u8) -> Result<Answer, Low>
+pub fn address<L: Lines>(lines: &mut L, byte: u8) -> Result<Answer, SclTimeout>
     ensures board { L.board lines.new ≡ L.board lines.old }
     ensures bus { IsTrue L.tells
         → CameAnswer result (L.bus lines.new) (bit_steps the_table (mask_at (L.board lines.old)) 0 (bits 8 byte) (L.bus lines.old))
         (sent_byte the_table (mask_at (L.board lines.old)) byte (L.bus lines.old)) }
     ensures looks { StartLooksTell result (L.wire lines.old) (L.wire lines.new) }
 {
-    match shift(lines, byte) {
-        Ok(_) => match bit(lines, true) {
+    match clock_byte(lines, byte) {
+        Ok(_) => match clock_bit(lines, true) {
             Ok(true) => Ok(Answer::Nack),
             Ok(false) => Ok(Answer::Ack),
             Err(_) => Ok(Answer::Slow),
@@ -97,7 +97,11 @@ pub fn address<L: Lines>(lines: &mut L, byte: u8) -> Result<Answer, Low>
 }
 
 /// A start with this address byte, to all that is joined. Where SCL stays low, both lines are let go.
-pub fn start_message<L: ByteLines>(lines: &mut L, busy: bool, byte: u8) -> Result<Answer, Low>
+pub fn start_message<L: ByteLines>(
+    lines: &mut L,
+    busy: bool,
+    byte: u8,
+) -> Result<Answer, SclTimeout>
     requires stands { IsTrue L.tells → MayBegin busy (L.board lines.old) (L.bus lines.old) }
     ensures board { L.board lines.new ≡ L.board lines.old }
     ensures looks { StartLooksTell result (L.wire lines.old) (L.wire lines.new) }
@@ -108,14 +112,14 @@ pub fn start_message<L: ByteLines>(lines: &mut L, busy: bool, byte: u8) -> Resul
     a_message_that_nobody_hears_is_out();
     chips_stand_before_devices();
     devices_hold_bytes();
-    match lines.begin(busy) {
+    match lines.start(busy) {
         Ok(()) => lines.address_byte(byte),
         Err(low) => Err(low),
     }
 }
 
 /// SCL is let go with SDA low, and looked at until it is high; then SDA is let go (UM10204 section 3.1.4).
-fn finish<L: Lines>(lines: &mut L) -> Result<(), Low>
+fn stop_condition<L: Lines>(lines: &mut L) -> Result<(), SclTimeout>
     ensures board { L.board lines.new ≡ L.board lines.old }
     ensures bus { IsTrue L.tells
         → came_stop result (L.bus lines.new) ≡ slow_stop the_table (mask_at (L.board lines.old)) (L.bus lines.old) }
@@ -134,19 +138,19 @@ fn finish<L: Lines>(lines: &mut L) -> Result<(), Low>
 }
 
 /// A stop within a message.
-pub fn end<L: Lines>(lines: &mut L) -> Result<(), Low>
+pub fn stop<L: Lines>(lines: &mut L) -> Result<(), SclTimeout>
     ensures board { L.board lines.new ≡ L.board lines.old }
     ensures bus { IsTrue L.tells
         → came_stop result (L.bus lines.new) ≡ stop_pulls the_table (mask_at (L.board lines.old)) (L.bus lines.old) }
     ensures looks { StopLooksTell result (L.wire lines.old) (L.wire lines.new) }
 {
     lines.pull(true, true);
-    finish(lines)
+    stop_condition(lines)
 }
 
 /// A stop, within a message or after a start that was too slow. In each case both lines are let go.
 #[inline(always)]
-pub fn stop_message<L: ByteLines>(lines: &mut L, late: bool) -> Result<(), Low>
+pub fn stop_message<L: ByteLines>(lines: &mut L, late: bool) -> Result<(), SclTimeout>
     requires stands { IsTrue L.tells → MayEnd late (L.board lines.old) (L.bus lines.old) }
     ensures board { L.board lines.new ≡ L.board lines.old }
     ensures looks { StopLooksTell result (L.wire lines.old) (L.wire lines.new) }
@@ -158,7 +162,11 @@ pub fn stop_message<L: ByteLines>(lines: &mut L, late: bool) -> Result<(), Low>
     a_stop_on_the_sites_is_one_in_the_world();
     chips_stand_before_devices();
     devices_hold_bytes();
-    if late { finish(lines) } else { lines.end() }
+    if late {
+        stop_condition(lines)
+    } else {
+        lines.stop()
+    }
 }
 
 /// Sets the line of a mux while no message is in progress.

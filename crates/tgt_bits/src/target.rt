@@ -60,7 +60,7 @@ impl<T: Wired> BitTarget<T> {
         }
     }
 
-    /// It holds SCL low, from the fall behind its address on (UM10204 section 3.1.9).
+    /// It holds SCL low, from the fall after its address on (UM10204 section 3.1.9).
     #[inline(always)]
     pub fn holds_clock(&self) -> bool
         ensures { result ≡ holds self.now }

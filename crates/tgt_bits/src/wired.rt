@@ -3,8 +3,7 @@ ghost use Rattle.std.specs.Prelude.{◌≡◌};
 ghost use Rattle.i2c_spec.specs.Targets.{IsFairTable};
 
 use i2c_base::Target;
-use targets::DeviceState;
-use tgt_mux::Chip;
+use targets::{Chip, DeviceState};
 
 /// A target that tells ahead what it would send, and for how long it would hold the clock.
 pub trait Wired: Target {
@@ -26,15 +25,13 @@ pub fn wired_targets_are_fair<T: Wired>()
     ensures { IsFairTable T.table }
 {}
 
-// A type's own method goes before a trait's, so that each method below calls the type's own of its name.
-
 impl Wired for Chip {
     ghost use Rattle.std.proofs.Common.{rules};
 
     ghost fair = { Prim.search rules };
 
     fn sends(&self) -> u8 {
-        self.sends()
+        Chip::sends(self)
     }
 
     /// A mux chip never holds the clock.
@@ -49,10 +46,10 @@ impl Wired for DeviceState {
     ghost fair = { states_fair };
 
     fn sends(&self) -> u8 {
-        self.sends()
+        DeviceState::sends(self)
     }
 
     fn hold(&self) -> u8 {
-        self.hold()
+        DeviceState::hold(self)
     }
 }

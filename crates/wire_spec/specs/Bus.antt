@@ -100,7 +100,7 @@ await t v zero w = gave_up w
 await t v (suc n) w =
     cond (scl_level w) (came_up (shifted v (sda_level t w)) (looked t w)) (await t v n (looked t w))
 
--- behind the looks SCL is pulled again; where they were too few, both lines are let go
+-- after the looks SCL is pulled again; where they were too few, both lines are let go
 abbrev pub closed : {X : Type 0} → Table X → Mask X → Bool → Came X → Came X
 closed t mask high c = record c { bus = cond c.up (pulled t mask c.bus true (not high)) (pulled t mask c.bus false false) }
 

@@ -51,13 +51,13 @@ SlowOnWires = (b : BoardView) (r byte : ℕ) → byte < 256 → (busy low : Bool
     → sent_byte node_table (mask_of b r) byte (within_address 8 0 low (both cs ds) c)
     ≡ gave_up (late_bus node_table byte (both cs ds) (rose (some_one (stays node_table byte LOOKS) (both cs ds)) (more_edges 8 c)))
 
--- a stop leaves free lines, with the sites that are the world's behind it
+-- a stop leaves free lines, with the sites that are the world's after it
 abbrev pub StopOnWires : Mode → Type 0
 StopOnWires m = (b : BoardView) (r : ℕ) (low : Bool) (cs : List (Site ChipView)) (ds : List (Site TargetState)) (c : Counts)
     → stop_pulls node_table (mask_of b r) (within m low (both cs ds) c)
     ≡ (true, free (both (stopped_chips b r cs ds) (stopped_devices b r cs ds)) (one_flip (one_edge c)))
 
--- the sites behind a start with this address byte that was too slow, and the stop after it
+-- the sites after a start with this address byte that was too slow, and the stop after it
 abbrev pub slow_chips : BoardView → ℕ → ℕ → List (Site ChipView) → List (Site TargetState) → List (Site ChipView)
 slow_chips b r byte cs ds = stopped_chips b r (map (started chip_table byte) cs) (map (started state_table byte) ds)
 

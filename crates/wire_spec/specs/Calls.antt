@@ -31,7 +31,7 @@ released s = stands s Out 0
 abbrev pub within : {X : Type 0} → Mode → Bool → List (Site X) → Counts → Bus X
 within m low ss c = bus_of true low (map (at m) ss) c
 
--- behind a start, within the address byte
+-- after a start, within the address byte
 abbrev pub within_address : {X : Type 0} → ℕ → ℕ → Bool → List (Site X) → Counts → Bus X
 within_address left v low ss c = bus_of true low (map (calling left v) ss) c
 

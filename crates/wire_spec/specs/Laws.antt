@@ -75,7 +75,7 @@ abbrev pub StartCallsAll : {X : Type 0} → Table X → Type 0
 StartCallsAll {X} t = (mask : Mask X) (ss : List (Site X)) (c : Counts)
     → start_pulls t mask (free ss c) ≡ within_address 8 0 true ss (one_flip c)
 
--- a repeated start does the same, behind a byte of a write and where nobody is in the message: SCL rises once before it
+-- a repeated start does the same, after a byte of a write and where nobody is in the message: SCL rises once before it
 abbrev pub RepeatedStartCallsAll : {X : Type 0} → Table X → Mode → Type 0
 RepeatedStartCallsAll {X} t m = (mask : Mask X) (low : Bool) (ss : List (Site X)) (c : Counts)
     → repeated_start t mask (within m low ss c) ≡ (true, within_address 8 0 true ss (one_flip (one_edge c)))
@@ -106,7 +106,7 @@ SlowAddressStaysLow {X} t = (mask : Mask X) (byte : ℕ) → byte < 256 → (low
     → sent_byte t mask byte (within_address 8 0 low ss c)
     ≡ gave_up (late_bus t byte ss (rose (some_one (stays t byte LOOKS) ss) (more_edges 8 c)))
 
--- a stop, behind a byte of a write and where nobody is in the message, frees the lines: all that is joined is stopped, and who is
+-- a stop, after a byte of a write and where nobody is in the message, frees the lines: all that is joined is stopped, and who is
 -- joined is read anew
 abbrev pub StopFreesTheLines : {X : Type 0} → Table X → Mode → Type 0
 StopFreesTheLines {X} t m = (mask : Mask X) (low : Bool) (ss : List (Site X)) (c : Counts)

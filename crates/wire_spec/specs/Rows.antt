@@ -112,7 +112,7 @@ done_all w (d ∷ ds) = done_all (done w d) ds
 abbrev pub states_on : Bus RegsView → List RegsView
 states_on w = map (λ (b : Bit RegsView). b.site.state) w.targets
 
--- as calls: an address byte behind a start
+-- as calls: an address byte after a start
 abbrev pub addressed : ℕ → Bus RegsView → Came RegsView
 addressed byte w = sent_byte regs_table all_joined byte (start_pulls regs_table all_joined w)
 
@@ -124,10 +124,10 @@ pointed byte register w = (sent_byte regs_table all_joined register (addressed b
 abbrev pub read_behind : ℕ → Bus RegsView → Came RegsView
 read_behind byte w = read_byte regs_table all_joined false (sent_byte regs_table all_joined byte (repeated_start regs_table all_joined w).1).bus
 
--- the counts behind a stop
+-- the counts after a stop
 abbrev pub stopped : Bus RegsView → Counts
 stopped w = (stop_pulls regs_table all_joined w).1.counts
 
--- the counts behind a stop after a start that was too slow
+-- the counts after a stop after a start that was too slow
 abbrev pub slow_stopped : Bus RegsView → Counts
 slow_stopped w = (slow_stop regs_table all_joined w).1.counts

@@ -18,7 +18,7 @@ abbrev pub bits : ℕ → ℕ → List Bool
 bits zero n = []
 bits (suc k) n = bit n k ∷ bits k n
 
--- the number that has come so far, with one level more behind it
+-- the number that has come so far, with one level more after it
 abbrev pub shifted : ℕ → Bool → ℕ
 shifted v level = 2 * v + cond level 1 0
 
@@ -191,7 +191,7 @@ is_due (Answered true acked next looks) = false
 is_due (Give left) = false
 is_due (Gave more) = false
 
--- it holds SCL low, from the fall behind the byte on (section 3.1.9)
+-- it holds SCL low, from the fall after the byte on (section 3.1.9)
 abbrev pub holds : {X : Type 0} → Bit X → Bool
 holds b = not (is_due b.mode) && not (b.hold == 0)
 

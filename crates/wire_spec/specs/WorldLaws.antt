@@ -49,7 +49,7 @@ pub record StartOnSites (b : BoardView) (r : ℕ) (busy : Bool) (byte : ℕ) (cs
       ≡ answer_by (some_one (answers_so node_table is_slow (byte / 2) (is_reading byte)) (both cs ds))
       (some_one (answers_so node_table is_ack (byte / 2) (is_reading byte)) (both cs ds))
 
--- the sites behind a stop: who is joined is read anew
+-- the sites after a stop: who is joined is read anew
 abbrev pub stopped_chips : BoardView → ℕ → List (Site ChipView) → List (Site TargetState) → List (Site ChipView)
 stopped_chips b r cs ds = chips_anew b r (map (stop_site chip_table) cs) (map (stop_site state_table) ds)
 

@@ -30,7 +30,7 @@ pub enum Mode {
     },
 }
 
-/// What a target does behind an acknowledge clock.
+/// What a target does after an acknowledge clock.
 #[derive(Clone, Copy, Debug, PartialEq, Eq)]
 pub enum Next {
     /// It is out of the message.

@@ -11,7 +11,7 @@ pub fn a_start_calls_all_that_is_joined()
     ensures { StartCallsAll node_table }
 {}
 
-/// A repeated start within a message does the same, behind a byte of a write and where nobody is in the message.
+/// A repeated start within a message does the same, after a byte of a write and where nobody is in the message.
 pub fn a_repeated_start_calls_all_that_is_joined()
     ensures written { RepeatedStartCallsAll node_table (In false 8 0) }
     ensures out { RepeatedStartCallsAll node_table Out }

@@ -51,7 +51,7 @@ pub fn a_start_on_the_sites_is_one_in_the_world()
     states_are_fair();
 }
 
-/// A stop is to the sites what it is to the world, and who is joined behind it is again what the world says.
+/// A stop is to the sites what it is to the world, and who is joined after it is again what the world says.
 pub fn a_stop_on_the_sites_is_one_in_the_world()
     ensures { (b : BoardView) (r : ℕ) (busy : Bool) (cs : List (Site ChipView)) (ds : List (Site TargetState))
         → AreSites b r cs ds → StopOnSites b r busy cs ds }

@@ -8,7 +8,7 @@ returns-in-Ok-clause-told g c tells =
     let law = c.a_start_on_the_wires_is_one_in_the_world.ensures in
     start_told c.chips_stand_before_devices.ensures c.devices_hold_bytes.ensures.kept law.in_time law.slow
     c.a_start_on_the_sites_is_one_in_the_world.ensures c.a_message_that_nobody_hears_is_out.ensures k c.args.busy c.args.byte
-    c.ranges.byte.fits (bus c.args.lines.now) (bus c.begin.new.self) (bus c.address_byte.new.self)
+    c.ranges.byte.fits (bus c.args.lines.now) (bus c.start.new.self) (bus c.address_byte.new.self)
     (told_before c.args.busy k (bus c.args.lines.now) (c.requires.stands tells)) (c.in-Ok.ensures.told tells) c.address_byte.result
-    (on_board c.address_byte.result (bus c.begin.new.self) (bus c.address_byte.new.self) c.args.byte k
-    (g.L.Lines.board c.begin.new.self) c.in-Ok.ensures.board (c.address_byte.ensures.bus tells))
+    (on_board c.address_byte.result (bus c.start.new.self) (bus c.address_byte.new.self) c.args.byte k
+    (g.L.Lines.board c.start.new.self) c.in-Ok.ensures.board (c.address_byte.ensures.bus tells))

@@ -2,7 +2,7 @@ use Rattle.std.proofs.Common.{◌≡◌, ◌<◌, IsTrue, ◌-◌, ◌^◌, ◌�
 use Rattle.wire_spec.specs.Wires.{bits}
 use Rattle.wire_spec.specs.Bus.{bit_steps}
 use Rattle.i2c_bits.specs.Wiring.{the_table, mask_at}
-use Rattle.i2c_bits.proofs.clocks.shift.Given as goal
+use Rattle.i2c_bits.proofs.clocks.clock_byte.Given as goal
 
 -- the bits that are left come to what all of them come to
 abbrev pub invariant-loop-left : goal.invariant-loop-left

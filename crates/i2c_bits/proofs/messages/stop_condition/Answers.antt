@@ -1,6 +1,6 @@
 use Rattle.i2c_bits.specs.Wiring.{the_table}
 use Rattle.i2c_bits.proofs.Stops.{stop_up, stop_low}
-use Rattle.i2c_bits.proofs.messages.finish.Goals as goal
+use Rattle.i2c_bits.proofs.messages.stop_condition.Goals as goal
 
 pub returns-in-Ok-clause-bus : goal.returns-in-Ok-clause-bus
 returns-in-Ok-clause-bus g c tells =

@@ -1,6 +1,6 @@
 use Rattle.i2c_bits.specs.Wiring.{the_table}
 use Rattle.i2c_bits.proofs.Shifts.{bit_up, bit_low}
-use Rattle.i2c_bits.proofs.clocks.bit.Goals as goal
+use Rattle.i2c_bits.proofs.clocks.clock_bit.Goals as goal
 
 pub returns-in-Ok-clause-bus : goal.returns-in-Ok-clause-bus
 returns-in-Ok-clause-bus g c tells v =
