@@ -7,7 +7,7 @@ use Rattle.wire_spec.specs.Bus.{Bus, Came, pulled, await, came_up, gave_up}
 use Rattle.wire_spec.specs.Calls.{STOP_LOOKS, start_pulls}
 use Rattle.wire_spec.specs.Sites.{NodeState}
 use Rattle.i2c_bits.specs.Wiring.{Rooted, mask_at, came}
-use Rattle.i2c_bits.specs.declared.lines.Low.{Low}
+use Rattle.i2c_bits.specs.declared.lines.SclTimeout.{SclTimeout}
 use Rattle.ports.specs.Causes.{counted}
 use Rattle.bus_clear.specs.Cuts.{MOST_PULSES}
 use Rattle.bus_clear.specs.Clears.{more_pulses}
@@ -15,12 +15,12 @@ use Rattle.bus_clear.specs.Pulls.{cut_level, cut_rise, cut_clock, cut_clocks, cu
 use Rattle.bus_clear.specs.declared.cleared.Cleared.{Cleared}
 use Rattle.bus_clear.specs.declared.cleared.Cleared.TheVariants.{Free, SdaHeld, SclHeld}
 
-came_bus : (r : Result Bool Low) (w : Bus NodeState) → (came 0 r w).bus ≡ w
+came_bus : (r : Result Bool SclTimeout) (w : Bus NodeState) → (came 0 r w).bus ≡ w
 came_bus (Ok level) w = refl
 came_bus (Err e) w = refl
 
 module _ (t : Table NodeState) (k k1 : Rooted) (w w1 w2 : Bus NodeState) (same : k1 ≡ k) where
-  pub pulse_is : w1 ≡ pulled t (mask_at k) w true false → (r : Result Bool Low)
+  pub pulse_is : w1 ≡ pulled t (mask_at k) w true false → (r : Result Bool SclTimeout)
       → came 0 r w2 ≡ await t 0 STOP_LOOKS (pulled t (mask_at k1) w1 false false)
       → came 0 r w2 ≡ pulse t (mask_at k) w
   unfolding pulse
@@ -28,7 +28,7 @@ module _ (t : Table NodeState) (k k1 : Rooted) (w w1 w2 : Bus NodeState) (same :
       b ∙ (ap (λ m. await t 0 STOP_LOOKS (pulled t (mask_at m) w1 false false)) same
       ∙ ap (λ x. await t 0 STOP_LOOKS (pulled t (mask_at k) x false false)) a)
 
-  pub rise_is : (high : Bool) → w1 ≡ pulled t (mask_at k) w true (not high) → (r : Result Bool Low)
+  pub rise_is : (high : Bool) → w1 ≡ pulled t (mask_at k) w true (not high) → (r : Result Bool SclTimeout)
       → came 0 r w2 ≡ await t 0 STOP_LOOKS (pulled t (mask_at k1) w1 false (not high))
       → w2 ≡ cut_rise t (mask_at k) high w
   unfolding cut_rise

@@ -9,13 +9,13 @@ ghost use Rattle.ports.specs.Causes.{counted};
 ghost use Rattle.wire_spec.specs.Calls.{STOP_LOOKS};
 
 use crate::cleared::Cleared;
-use i2c_bits::{Lines, Low, STOP_LOOKS, release};
+use i2c_bits::{Lines, STOP_LOOKS, SclTimeout, release};
 
 /// A controller makes so many pulses at most (UM10204 section 3.1.16).
 const MOST_PULSES: u8 = 9;
 
 /// A pulse: SCL is pulled, let go, and looked at until it is high. The level of SDA then.
-fn pulse<L: Lines>(lines: &mut L) -> Result<bool, Low>
+fn pulse<L: Lines>(lines: &mut L) -> Result<bool, SclTimeout>
     requires { AreLetGo (L.wire lines.old) }
     ensures board { L.board lines.new ≡ L.board lines.old }
     ensures bus { IsTrue L.tells → came 0 result (L.bus lines.new) ≡ wire.pulse the_table (mask_at (L.board lines.old)) (L.bus lines.old) }

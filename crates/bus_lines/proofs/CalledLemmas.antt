@@ -55,7 +55,7 @@ stays_joined : (e : Edge) → NoFinish e → (t : Bool) (b : Bit NodeState) → 
 stays_joined e nostop true b = joined_kept e nostop b
 stays_joined e nostop false b = refl
 
--- behind an edge that was told to some of them
+-- after an edge that was told to some of them
 pub told_to_joined : (f : Bit NodeState → Bit NodeState) (bs : List (Bit NodeState)) (ns list : List ℕ) → ListsJoined ns list bs
     → (e : Edge) → NoFinish e → (ms : List ℕ)
     → by_number (to_those list (where_joined f)) 0 (by_number (to_those ms (where_joined (seen e))) 0 bs)

@@ -248,7 +248,7 @@ module _ (left v : ℕ) (live started_by : List ℕ) (at_it : List (List ℕ)) (
   pub enter_acks : some_by (of_those live acks_enter) 0 mid ≡ some_one acks_enter mid
   enter_acks = some_of_those live acks_enter mid (λ n b is out. acks_none b ((units n b is).out out))
 
--- ---- behind a start it is one event of each site
+-- ---- after a start it is one event of each site
 address_at : (byte a : ℕ) (j h : Bool) (x : NodeState)
     → where_joined (address_in byte) (calling 8 0 (site_of a j h x)) ≡ at (entered_by byte) (started node_table byte (site_of a j h x))
 address_at byte a true h x = refl

@@ -24,7 +24,7 @@ or_last : (a : Bool) → (a || false) ≡ a
 or_last true = refl
 or_last false = refl
 
--- one more behind them is among them
+-- one more after them is among them
 pub among_more : (ns : List ℕ) (n k : ℕ) → is_among (ns ++ n ∷ []) k ≡ (is_among ns k || (k == n))
 among_more [] n k = or_last (k == n)
 among_more (m ∷ ms) n k = ap (λ b. (k == m) || b) (among_more ms n k) ∙ or_assoc (k == m) (is_among ms k) (k == n)

@@ -4,37 +4,37 @@ use Rattle.std.proofs.Crossing.{crosses}
 use Rattle.i2c_board.proofs.SendLemmas.{hop-send}
 use Rattle.targets.proofs.SendLemmas.{device-send}
 use Rattle.tgt_bits.proofs.SendLemmas.{target-send}
-use Rattle.bus_lines.specs.contracts.node.Kind as Kind
-use Rattle.bus_lines.specs.contracts.node.Node as Node
-use Rattle.bus_lines.specs.contracts.place.Place as Place
+use Rattle.bus_lines.specs.contracts.node.WireTargetKind as WireTargetKind
+use Rattle.bus_lines.specs.contracts.node.WireTarget as WireTarget
+use Rattle.bus_lines.specs.contracts.place.WirePlace as WirePlace
 use Rattle.bus_lines.specs.contracts.index.Index as Index
-use Rattle.bus_lines.specs.contracts.numbers.Numbers as Numbers
+use Rattle.bus_lines.specs.contracts.numbers.TargetNumbers as TargetNumbers
 use Rattle.bus_lines.specs.contracts.register.Register as Register
-use Rattle.bus_lines.specs.contracts.tally.Tally as Tally
+use Rattle.bus_lines.specs.contracts.tally.EdgeTally as EdgeTally
 use Rattle.bus_lines.specs.contracts.counter.Counter as Counter
 use Rattle.bus_lines.specs.contracts.wire_state.WireState as WireState
 use Rattle.bus_lines.specs.contracts.root_targets.RootTargets as RootTargets
 use Rattle.bus_lines.specs.contracts.bus_lines.BusLines as BusLines
 
-kind-send : IsSend (Kind.the_field).row
+kind-send : IsSend (WireTargetKind.the_field).row
 kind-send = search (crosses, sendable, device-send) depth 20
 
-node-send : IsSend (Node.the_field).row
+node-send : IsSend (WireTarget.the_field).row
 node-send = search (crosses, sendable, kind-send) depth 20
 
-place-send : IsSend (Place.the_field).row
+place-send : IsSend (WirePlace.the_field).row
 place-send = search (crosses, sendable, hop-send) depth 20
 
 index-send : IsSend (Index.the_field).row
 index-send = search (crosses, sendable) depth 20
 
-numbers-send : IsSend (Numbers.the_field).row
+numbers-send : IsSend (TargetNumbers.the_field).row
 numbers-send = search (crosses, sendable) depth 20
 
 register-send : IsSend (Register.the_field).row
 register-send = search (crosses, sendable) depth 20
 
-tally-send : IsSend (Tally.the_field).row
+tally-send : IsSend (EdgeTally.the_field).row
 tally-send = search (crosses, sendable) depth 20
 
 counter-send : IsSend (Counter.the_field).row

@@ -3,10 +3,10 @@ use Rattle.std.specs.Prelude.{◌≡◌, ℕ, min}
 use Rattle.ports.specs.Causes.{MOST}
 use Rattle.wire_spec.specs.Bus.{Counts, one_edge, one_flip}
 use Rattle.wire_spec.specs.Calls.{more_edges}
-use Rattle.bus_lines.specs.declared.tally.Tally.{Tally, Nothing, Edge', Nine', Flip'}
+use Rattle.bus_lines.specs.declared.tally.EdgeTally.{EdgeTally, Nothing, Edge', Nine', Flip'}
 
 -- the counts of all that has happened
-abbrev pub counts_of : Tally → Counts
+abbrev pub counts_of : EdgeTally → Counts
 counts_of Nothing = record { edges = 0; flips = 0 }
 counts_of (Edge' shape before) = one_edge (counts_of before)
 counts_of (Nine' shape before) = more_edges 9 (counts_of before)

@@ -6,8 +6,8 @@ ghost use Rattle.bus_lines.specs.Away.{whole_on};
 ghost use Rattle.bus_lines.specs.Joins.{is_chip, kinds_of, places_of, states_on};
 ghost use Rattle.bus_lines.specs.Owned.{is_own, own_device, owns, without};
 
-use crate::Node;
-use crate::place::{Place, is_wired};
+use crate::WireTarget;
+use crate::place::{WirePlace, is_wired};
 use i2c_base::SegId;
 use i2c_board::Accepted;
 use std::marker::Model;
@@ -23,8 +23,8 @@ pub struct Apart {
     board: Snapshot<Accepted>,
     root: SegId,
     muxes: usize,
-    places: Vec<Place>,
-    bits: Vec<BitTarget<Node>>,
+    places: Vec<WirePlace>,
+    bits: Vec<BitTarget<WireTarget>>,
 }
 
 impl Model for Apart {
@@ -43,8 +43,8 @@ impl Apart {
     pub(crate) fn of(
         board: Snapshot<Accepted>,
         root: SegId,
-        places: Vec<Place>,
-        bits: Vec<BitTarget<Node>>,
+        places: Vec<WirePlace>,
+        bits: Vec<BitTarget<WireTarget>>,
     ) -> Self
         requires places { places.items ≡ places_of board.value root }
         requires kinds { map is_chip (states_on bits.items) ≡ kinds_of board.value }
@@ -81,7 +81,7 @@ impl Apart {
 }
 
 /// So many of these are chips of muxes.
-fn chips_among(targets: &[BitTarget<Node>]) -> usize
+fn chips_among(targets: &[BitTarget<WireTarget>]) -> usize
     ensures { result ≡ count_by (λ b. is_chip b.site.state) targets.now }
 {
     let mut count = 0;

@@ -13,7 +13,7 @@ use crate::Apart;
 use crate::root_targets::RootTargets;
 use crate::wire_state::WireState;
 use i2c_base::{Answer, MuxId, NoMemory, SegId};
-use i2c_bits::{ByteLines, Lines, Low, address};
+use i2c_bits::{ByteLines, Lines, SclTimeout, address};
 use i2c_board::Accepted;
 use std::alloc::Global;
 use std::marker::Model;
@@ -109,9 +109,9 @@ impl BusLines {
         } else if !clock {
             self.targets.fall();
         } else if data_was && !data {
-            self.targets.begin();
+            self.targets.start_condition();
         } else if !data_was && data {
-            self.targets.finish();
+            self.targets.stop_condition();
         }
     }
 
@@ -163,26 +163,26 @@ impl Lines for BusLines {
 
 impl ByteLines for BusLines {
     #[inline(always)]
-    fn begin(&mut self, busy: bool) -> Result<(), Low> {
+    fn start(&mut self, busy: bool) -> Result<(), SclTimeout> {
         a_start_calls_all_that_is_joined();
         a_repeated_start_calls_all_that_is_joined();
         self.targets.count_edge(busy);
-        self.targets.begin();
+        self.targets.start_condition();
         self.wire.begun(busy);
         Ok(())
     }
 
     #[inline(always)]
-    fn end(&mut self) -> Result<(), Low> {
+    fn stop(&mut self) -> Result<(), SclTimeout> {
         a_stop_frees_the_lines();
         self.targets.count_edge(true);
-        self.targets.finish();
+        self.targets.stop_condition();
         self.wire.ended();
         Ok(())
     }
 
     #[inline(always)]
-    fn send_byte(&mut self, byte: u8) -> Result<bool, Low> {
+    fn send_byte(&mut self, byte: u8) -> Result<bool, SclTimeout> {
         a_byte_that_is_put_is_one_event();
         let acked = self.targets.put(byte);
         self.wire.nine(false, !acked);
@@ -190,14 +190,14 @@ impl ByteLines for BusLines {
     }
 
     #[inline(always)]
-    fn receive_byte(&mut self, ack: bool) -> Result<u8, Low> {
+    fn receive_byte(&mut self, ack: bool) -> Result<u8, SclTimeout> {
         a_byte_that_is_read_is_one_event();
         let byte = self.targets.get(ack);
         self.wire.nine(ack, !ack);
         Ok(byte)
     }
 
-    fn address_byte(&mut self, byte: u8) -> Result<Answer, Low> {
+    fn address_byte(&mut self, byte: u8) -> Result<Answer, SclTimeout> {
         an_address_byte_is_one_event();
         match self.targets.address(byte) {
             Some(acked) => {

@@ -4,14 +4,14 @@ ghost use Rattle.wire_spec.specs.Bus.{one_edge, one_flip};
 ghost use Rattle.wire_spec.specs.Calls.{more_edges};
 ghost use Rattle.ports.specs.Causes.{MOST};
 
-use crate::tally::Tally;
+use crate::tally::EdgeTally;
 use std::marker::Model;
 
 /// How often SCL rose, and how often there was a start or a stop: both without an upper bound for contracts, and as numbers up
 /// to 2^64 - 1.
 #[derive(Drop)]
 pub struct Counter {
-    all: Tally,
+    all: EdgeTally,
     edges: u64,
     flips: u64,
 }
@@ -33,7 +33,7 @@ impl Counter {
         ensures { result ≡ record { edges = 0; flips = 0 } }
     {
         Counter {
-            all: Tally::none(),
+            all: EdgeTally::none(),
             edges: 0,
             flips: 0,
         }

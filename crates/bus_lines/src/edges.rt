@@ -10,7 +10,7 @@ ghost use Rattle.bus_lines.specs.Numbers.{AreNumbers};
 ghost use Rattle.bus_lines.specs.Units.{by_number, some_by, and_by, to_those, of_those, given_by};
 ghost use Rattle.bus_lines.specs.declared.edges.Edge.TheVariants as the;
 
-use crate::Node;
+use crate::WireTarget;
 use i2c_base::{Answer, Event, MOST_LOOKS, Target};
 use tgt_bits::{BitTarget, Wired, wired_targets_are_fair};
 use wire_spec::{Mode, Next};
@@ -45,7 +45,7 @@ pub enum Edge {
 
 /// A target sees an edge, where it is joined.
 #[inline(always)]
-fn see(target: &mut BitTarget<Node>, edge: Edge)
+fn see(target: &mut BitTarget<WireTarget>, edge: Edge)
     ensures { target.new ≡ where_joined (seen edge) target.old }
 {
     if !target.joined {
@@ -73,7 +73,7 @@ fn see(target: &mut BitTarget<Node>, edge: Edge)
 
 /// A byte with its acknowledge clock comes to a target. Whether it stands between two bytes of a write, and acknowledges it.
 #[inline(always)]
-fn put_in(target: &mut BitTarget<Node>, byte: u8) -> bool
+fn put_in(target: &mut BitTarget<WireTarget>, byte: u8) -> bool
     ensures target { target.new ≡ seen (the.Put byte) target.old }
     ensures acked { result ≡ acks_in byte target.old target.old.mode }
 {
@@ -92,7 +92,7 @@ fn put_in(target: &mut BitTarget<Node>, byte: u8) -> bool
 
 /// The same where it is joined. Whether it acknowledges the byte, or one of the others.
 #[inline(always)]
-fn put(target: &mut BitTarget<Node>, byte: u8, others: bool) -> bool
+fn put(target: &mut BitTarget<WireTarget>, byte: u8, others: bool) -> bool
     ensures target { target.new ≡ where_joined (seen (the.Put byte)) target.old }
     ensures acked { result ≡ (acks_put byte target.old || others) }
 {
@@ -102,7 +102,7 @@ fn put(target: &mut BitTarget<Node>, byte: u8, others: bool) -> bool
 /// A byte with its acknowledge clock comes to those that have these numbers, where they are joined, and to no other. Whether one of
 /// them acknowledges it.
 #[inline(always)]
-pub fn put_all(targets: &mut Vec<BitTarget<Node>>, numbers: &[u16], byte: u8) -> bool
+pub fn put_all(targets: &mut Vec<BitTarget<WireTarget>>, numbers: &[u16], byte: u8) -> bool
     requires { AreNumbers (length targets.old.items) numbers.now }
     ensures targets { targets.new.items ≡ by_number (to_those numbers.now (where_joined (seen (the.Put byte)))) 0 targets.old.items }
     ensures acked { result ≡ some_by (of_those numbers.now (acks_put byte)) 0 targets.old.items }
@@ -112,7 +112,7 @@ pub fn put_all(targets: &mut Vec<BitTarget<Node>>, numbers: &[u16], byte: u8) ->
 
 /// The same of a slice.
 #[inline(always)]
-fn put_each(targets: &mut [BitTarget<Node>], numbers: &[u16], byte: u8) -> bool
+fn put_each(targets: &mut [BitTarget<WireTarget>], numbers: &[u16], byte: u8) -> bool
     requires { AreNumbers (length targets.old) numbers.now }
     ensures targets { targets.new ≡ by_number (to_those numbers.now (where_joined (seen (the.Put byte)))) 0 targets.old }
     ensures acked { result ≡ some_by (of_those numbers.now (acks_put byte)) 0 targets.old }
@@ -129,7 +129,7 @@ fn put_each(targets: &mut [BitTarget<Node>], numbers: &[u16], byte: u8) -> bool
 }
 
 /// A target is out of the message that was.
-fn leave(target: &mut BitTarget<Node>)
+fn leave(target: &mut BitTarget<WireTarget>)
     ensures { target.new ≡ released target.old.site }
 {
     target.mode = Mode::Out;
@@ -137,7 +137,7 @@ fn leave(target: &mut BitTarget<Node>)
 }
 
 /// An address byte has come in: it is nothing to a target that it names.
-fn see_other(target: &mut BitTarget<Node>, byte: u8)
+fn see_other(target: &mut BitTarget<WireTarget>, byte: u8)
     ensures { target.new ≡ seen (the.Other byte) target.old }
 {
     if byte / 2 != target.addr {
@@ -147,7 +147,7 @@ fn see_other(target: &mut BitTarget<Node>, byte: u8)
 
 /// Someone holds SCL low: this target, where it is joined, or one of the others.
 #[inline(always)]
-pub fn holds_with(target: &BitTarget<Node>, others: bool) -> bool
+pub fn holds_with(target: &BitTarget<WireTarget>, others: bool) -> bool
     ensures { result ≡ (holds_line target.now || others) }
 {
     (target.joined && target.holds_clock()) || others
@@ -156,7 +156,7 @@ pub fn holds_with(target: &BitTarget<Node>, others: bool) -> bool
 /// Those targets see an edge that have these numbers, where they are joined, and no other is touched. Whether one of them holds SCL
 /// low then.
 #[inline(always)]
-pub fn tell(targets: &mut Vec<BitTarget<Node>>, numbers: &[u16], edge: Edge) -> bool
+pub fn tell(targets: &mut Vec<BitTarget<WireTarget>>, numbers: &[u16], edge: Edge) -> bool
     requires { AreNumbers (length targets.old.items) numbers.now }
     ensures targets { targets.new.items ≡ by_number (to_those numbers.now (where_joined (seen edge))) 0 targets.old.items }
     ensures held { result ≡ some_by (of_those numbers.now holds_line) 0 targets.new.items }
@@ -166,7 +166,7 @@ pub fn tell(targets: &mut Vec<BitTarget<Node>>, numbers: &[u16], edge: Edge) -> 
 
 /// The same of a slice.
 #[inline(always)]
-fn tell_each(targets: &mut [BitTarget<Node>], numbers: &[u16], edge: Edge) -> bool
+fn tell_each(targets: &mut [BitTarget<WireTarget>], numbers: &[u16], edge: Edge) -> bool
     requires { AreNumbers (length targets.old) numbers.now }
     ensures targets { targets.new ≡ by_number (to_those numbers.now (where_joined (seen edge))) 0 targets.old }
     ensures held { result ≡ some_by (of_those numbers.now holds_line) 0 targets.new }
@@ -196,13 +196,13 @@ fn byte_of(answer: Answer) -> u8
 
 /// A byte is read with the controller's answer. What the target gives: all ones where it doesn't send.
 #[inline(always)]
-fn get_in(target: &mut BitTarget<Node>, ack: bool) -> u8
+fn get_in(target: &mut BitTarget<WireTarget>, ack: bool) -> u8
     ensures target { target.new ≡ seen (the.Get ack) target.old }
     ensures byte { result ≡ gives_in target.old target.old.mode }
 {
     match target.mode {
         Mode::Give { .. } => {
-            wired_targets_are_fair::<Node>();
+            wired_targets_are_fair::<WireTarget>();
             target.mode = if ack {
                 Mode::Give { left: BITS }
             } else {
@@ -216,7 +216,7 @@ fn get_in(target: &mut BitTarget<Node>, ack: bool) -> u8
 
 /// The same where it is joined.
 #[inline(always)]
-fn get(target: &mut BitTarget<Node>, ack: bool) -> u8
+fn get(target: &mut BitTarget<WireTarget>, ack: bool) -> u8
     ensures target { target.new ≡ where_joined (seen (the.Get ack)) target.old }
     ensures byte { result ≡ gives_get target.old }
 {
@@ -230,7 +230,7 @@ fn get(target: &mut BitTarget<Node>, ack: bool) -> u8
 /// A byte is read with the controller's answer from those that have these numbers, where they are joined, and from no other. The AND
 /// of what they give.
 #[inline(always)]
-pub fn get_all(targets: &mut Vec<BitTarget<Node>>, numbers: &[u16], ack: bool) -> u8
+pub fn get_all(targets: &mut Vec<BitTarget<WireTarget>>, numbers: &[u16], ack: bool) -> u8
     requires { AreNumbers (length targets.old.items) numbers.now }
     ensures targets { targets.new.items ≡ by_number (to_those numbers.now (where_joined (seen (the.Get ack)))) 0 targets.old.items }
     ensures byte { result ≡ and_by (given_by numbers.now gives_get) 0 targets.old.items }
@@ -240,7 +240,7 @@ pub fn get_all(targets: &mut Vec<BitTarget<Node>>, numbers: &[u16], ack: bool) -
 
 /// The same of a slice.
 #[inline(always)]
-fn get_each(targets: &mut [BitTarget<Node>], numbers: &[u16], ack: bool) -> u8
+fn get_each(targets: &mut [BitTarget<WireTarget>], numbers: &[u16], ack: bool) -> u8
     requires { AreNumbers (length targets.old) numbers.now }
     ensures targets { targets.new ≡ by_number (to_those numbers.now (where_joined (seen (the.Get ack)))) 0 targets.old }
     ensures byte { result ≡ and_by (given_by numbers.now gives_get) 0 targets.old }
@@ -274,7 +274,7 @@ fn mode_after(next: Next) -> Mode
 
 /// The acknowledge clock of an address, as a whole. Whether the target pulls SDA in it.
 #[inline(always)]
-fn enter_in(target: &mut BitTarget<Node>) -> bool
+fn enter_in(target: &mut BitTarget<WireTarget>) -> bool
     ensures target { target.new ≡ seen the.Enter target.old }
     ensures acked { result ≡ acked_in target.old.mode }
 {
@@ -290,7 +290,7 @@ fn enter_in(target: &mut BitTarget<Node>) -> bool
 
 /// The same where it is joined. Whether it pulls SDA, or one of the others.
 #[inline(always)]
-fn enter(target: &mut BitTarget<Node>, others: bool) -> bool
+fn enter(target: &mut BitTarget<WireTarget>, others: bool) -> bool
     ensures target { target.new ≡ where_joined (seen the.Enter) target.old }
     ensures acked { result ≡ (acks_enter target.old || others) }
 {
@@ -300,7 +300,7 @@ fn enter(target: &mut BitTarget<Node>, others: bool) -> bool
 /// The acknowledge clock of an address, as a whole, for those that have these numbers, where they are joined, and for no other. Whether
 /// one of them pulls SDA in it.
 #[inline(always)]
-pub fn enter_all(targets: &mut Vec<BitTarget<Node>>, numbers: &[u16]) -> bool
+pub fn enter_all(targets: &mut Vec<BitTarget<WireTarget>>, numbers: &[u16]) -> bool
     requires { AreNumbers (length targets.old.items) numbers.now }
     ensures targets { targets.new.items ≡ by_number (to_those numbers.now (where_joined (seen the.Enter))) 0 targets.old.items }
     ensures acked { result ≡ some_by (of_those numbers.now acks_enter) 0 targets.old.items }
@@ -310,7 +310,7 @@ pub fn enter_all(targets: &mut Vec<BitTarget<Node>>, numbers: &[u16]) -> bool
 
 /// The same of a slice.
 #[inline(always)]
-fn enter_each(targets: &mut [BitTarget<Node>], numbers: &[u16]) -> bool
+fn enter_each(targets: &mut [BitTarget<WireTarget>], numbers: &[u16]) -> bool
     requires { AreNumbers (length targets.old) numbers.now }
     ensures targets { targets.new ≡ by_number (to_those numbers.now (where_joined (seen the.Enter))) 0 targets.old }
     ensures acked { result ≡ some_by (of_those numbers.now acks_enter) 0 targets.old }
@@ -327,7 +327,7 @@ fn enter_each(targets: &mut [BitTarget<Node>], numbers: &[u16]) -> bool
 }
 
 /// The target of this number is joined, and pulls SDA low.
-fn pulls_at(targets: &[BitTarget<Node>], number: u16) -> bool
+fn pulls_at(targets: &[BitTarget<WireTarget>], number: u16) -> bool
     ensures { result ≡ pulls_at targets.now number }
 {
     match targets.get(usize::from(number)) {
@@ -337,14 +337,14 @@ fn pulls_at(targets: &[BitTarget<Node>], number: u16) -> bool
 }
 
 /// One of these does.
-pub fn some_pulls(targets: &[BitTarget<Node>], numbers: &[u16]) -> bool
+pub fn some_pulls(targets: &[BitTarget<WireTarget>], numbers: &[u16]) -> bool
     ensures { result ≡ list_any (pulls_at targets.now) numbers.now }
 {
     numbers.iter().any(|number| pulls_at(targets, *number))
 }
 
 /// The target of this number is joined, and would hold the clock at its address for too long.
-fn slow_at(targets: &[BitTarget<Node>], number: u16) -> bool
+fn slow_at(targets: &[BitTarget<WireTarget>], number: u16) -> bool
     ensures { result ≡ slow_at targets.now number }
 {
     match targets.get(usize::from(number)) {
@@ -354,14 +354,14 @@ fn slow_at(targets: &[BitTarget<Node>], number: u16) -> bool
 }
 
 /// One of these would.
-pub fn some_slow(targets: &[BitTarget<Node>], numbers: &[u16]) -> bool
+pub fn some_slow(targets: &[BitTarget<WireTarget>], numbers: &[u16]) -> bool
     ensures { result ≡ list_any (slow_at targets.now) numbers.now }
 {
     numbers.iter().any(|number| slow_at(targets, *number))
 }
 
 /// The target of this number is joined.
-pub fn joined_at(targets: &[BitTarget<Node>], number: u16) -> bool
+pub fn joined_at(targets: &[BitTarget<WireTarget>], number: u16) -> bool
     ensures { result ≡ joined_at targets.now number }
 {
     match targets.get(usize::from(number)) {
@@ -371,7 +371,7 @@ pub fn joined_at(targets: &[BitTarget<Node>], number: u16) -> bool
 }
 
 /// All of these are joined.
-pub fn all_joined(targets: &[BitTarget<Node>], numbers: &[u16]) -> bool
+pub fn all_joined(targets: &[BitTarget<WireTarget>], numbers: &[u16]) -> bool
     ensures { result ≡ list_all (joined_at targets.now) numbers.now }
 {
     numbers.iter().all(|number| joined_at(targets, *number))

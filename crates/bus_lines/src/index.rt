@@ -5,7 +5,7 @@ ghost use Rattle.wire_spec.specs.Sites.{NodeState, NO_ADDRESS};
 ghost use Rattle.bus_lines.specs.Numbers.{is_among};
 ghost use Rattle.bus_lines.specs.Units.{IsIndex, lists_of, numbers_at};
 
-use crate::Node;
+use crate::WireTarget;
 use std::alloc::{AllocError, Global};
 use std::marker::Model;
 use tgt_bits::BitTarget;
@@ -30,7 +30,7 @@ impl Model for Index {
 
 impl Index {
     /// Who is at each address.
-    pub fn of(alloc: Global, targets: &[BitTarget<Node>]) -> Result<Self, AllocError>
+    pub fn of(alloc: Global, targets: &[BitTarget<WireTarget>]) -> Result<Self, AllocError>
         requires { length targets.now < 65536 }
         ensures index { IfOk result (λ index. IsIndex (length targets.now) index) }
         ensures listed { IfOk result (λ index. (k : ℕ) (b : Bit NodeState) → slice_get targets.now k ≡ Some b
@@ -54,7 +54,7 @@ impl Index {
 }
 
 /// The number of each target is put to those at its address, where that is one.
-fn add_each(at: &mut Vec<Vec<u16>>, targets: &[BitTarget<Node>]) -> Result<(), AllocError>
+fn add_each(at: &mut Vec<Vec<u16>>, targets: &[BitTarget<WireTarget>]) -> Result<(), AllocError>
     requires few { length targets.now < 65536 }
     requires all { length at.old.items ≡ NO_ADDRESS }
     requires none { (a : ℕ) → a < NO_ADDRESS → get_or (lists_of at.old.items) a [] ≡ [] }

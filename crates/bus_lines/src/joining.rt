@@ -8,15 +8,15 @@ ghost use Rattle.bus_lines.specs.Numbers.{AreNumbers};
 ghost use Rattle.bus_lines.specs.Units.{by_number};
 ghost use Rattle.i2c_bits.specs.Wiring.{levelled_bits};
 
-use crate::Node;
+use crate::WireTarget;
 use crate::edges::holds_with;
-use crate::numbers::Numbers;
-use crate::place::Place;
+use crate::numbers::TargetNumbers;
+use crate::place::WirePlace;
 use i2c_base::MuxId;
 use tgt_bits::BitTarget;
 
 /// The target of this number is joined.
-fn joins_by(places: &[Place], targets: &[BitTarget<Node>], number: usize) -> bool
+fn joins_by(places: &[WirePlace], targets: &[BitTarget<WireTarget>], number: usize) -> bool
     ensures { result ≡ joins_by places.now (states_on targets.now) number }
 {
     match places.get(number) {
@@ -26,7 +26,7 @@ fn joins_by(places: &[Place], targets: &[BitTarget<Node>], number: usize) -> boo
 }
 
 /// The target is joined, or isn't.
-fn set_known(target: &mut BitTarget<Node>, joined: bool)
+fn set_known(target: &mut BitTarget<WireTarget>, joined: bool)
     ensures { target.new ≡ known joined target.old }
 {
     target.joined = joined;
@@ -35,10 +35,10 @@ fn set_known(target: &mut BitTarget<Node>, joined: bool)
 /// Of the targets that have these numbers it is read anew whether they are joined. Lists those that are.
 #[inline(always)]
 pub fn list_joined(
-    bits: &mut Vec<BitTarget<Node>>,
-    places: &[Place],
+    bits: &mut Vec<BitTarget<WireTarget>>,
+    places: &[WirePlace],
     numbers: &[u16],
-    list: &mut Numbers,
+    list: &mut TargetNumbers,
 )
     requires numbers { AreNumbers (length bits.old.items) numbers.now }
     requires room { list.old.room ≡ length bits.old.items }
@@ -53,10 +53,10 @@ pub fn list_joined(
 /// The same of a slice, into a list that was empty.
 #[inline(always)]
 fn list_those(
-    targets: &mut [BitTarget<Node>],
-    places: &[Place],
+    targets: &mut [BitTarget<WireTarget>],
+    places: &[WirePlace],
     numbers: &[u16],
-    list: &mut Numbers,
+    list: &mut TargetNumbers,
 )
     requires numbers { AreNumbers (length targets.old) numbers.now }
     requires room { list.old.room ≡ length targets.old }
@@ -76,14 +76,14 @@ fn list_those(
 }
 
 /// Of all targets it is read anew whether they are joined.
-pub fn refresh_all(targets: &mut Vec<BitTarget<Node>>, places: &[Place])
+pub fn refresh_all(targets: &mut Vec<BitTarget<WireTarget>>, places: &[WirePlace])
     ensures { targets.new.items ≡ known_on places.now targets.old.items }
 {
     refresh_each(targets, places)
 }
 
 /// The same of a slice. It goes from the last one back.
-fn refresh_each(targets: &mut [BitTarget<Node>], places: &[Place])
+fn refresh_each(targets: &mut [BitTarget<WireTarget>], places: &[WirePlace])
     ensures { targets.new ≡ known_on places.now targets.old }
 {
     let mut left = targets.len();
@@ -95,7 +95,7 @@ fn refresh_each(targets: &mut [BitTarget<Node>], places: &[Place])
 }
 
 /// The target is joined, or isn't, and isn't in a message.
-fn set_joined(target: &mut BitTarget<Node>, joined: bool)
+fn set_joined(target: &mut BitTarget<WireTarget>, joined: bool)
     ensures { target.new ≡ read_anew joined target.old }
 {
     target.joined = joined;
@@ -103,7 +103,7 @@ fn set_joined(target: &mut BitTarget<Node>, joined: bool)
 }
 
 /// Who is joined is read anew from the states of all targets, and nobody is in a message. Whether someone holds SCL low then.
-pub fn rejoin(targets: &mut Vec<BitTarget<Node>>, places: &[Place]) -> bool
+pub fn rejoin(targets: &mut Vec<BitTarget<WireTarget>>, places: &[WirePlace]) -> bool
     ensures targets { targets.new.items ≡ rejoin_from (joins_by places.now (states_on targets.old.items)) 0 targets.old.items }
     ensures held { result ≡ some_one holds_line targets.new.items }
 {
@@ -111,7 +111,7 @@ pub fn rejoin(targets: &mut Vec<BitTarget<Node>>, places: &[Place]) -> bool
 }
 
 /// The same of a slice. It goes from the last one back.
-fn rejoin_each(targets: &mut [BitTarget<Node>], places: &[Place]) -> bool
+fn rejoin_each(targets: &mut [BitTarget<WireTarget>], places: &[WirePlace]) -> bool
     ensures targets { targets.new ≡ rejoin_from (joins_by places.now (states_on targets.old)) 0 targets.old }
     ensures held { result ≡ some_one holds_line targets.new }
 {
@@ -128,7 +128,7 @@ fn rejoin_each(targets: &mut [BitTarget<Node>], places: &[Place]) -> bool
 }
 
 /// The line of the mux of this number is set to a level, where it is one.
-pub fn set_level(targets: &mut Vec<BitTarget<Node>>, mux: MuxId, level: u8)
+pub fn set_level(targets: &mut Vec<BitTarget<WireTarget>>, mux: MuxId, level: u8)
     ensures { targets.new.items ≡ levelled_bits mux level targets.old.items }
 {
     let number = usize::from(mux.0);
@@ -138,7 +138,7 @@ pub fn set_level(targets: &mut Vec<BitTarget<Node>>, mux: MuxId, level: u8)
 }
 
 /// The level of a mux's line is set.
-fn set_level_of(target: &mut BitTarget<Node>, level: u8)
+fn set_level_of(target: &mut BitTarget<WireTarget>, level: u8)
     ensures { target.new ≡ at_node_level level target.old }
 {
     target.target.set_level(level);

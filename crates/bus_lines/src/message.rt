@@ -10,10 +10,10 @@ ghost use Rattle.bus_lines.specs.Known.{ListsJoined};
 ghost use Rattle.bus_lines.specs.Numbers.{is_among, AreNumbers, numbers_of};
 ghost use Rattle.bus_lines.specs.Units.{by_number, to_those, shared, addressed, IsIndex};
 
-use crate::Node;
+use crate::WireTarget;
 use crate::edges::{Edge, all_joined, joined_at, tell};
 use crate::index::Index;
-use crate::numbers::Numbers;
+use crate::numbers::TargetNumbers;
 use crate::register::Register;
 use tgt_bits::BitTarget;
 use wire_spec::Mode;
@@ -22,11 +22,11 @@ use wire_spec::Mode;
 /// is told to them, and as another's start to those that a message has reached before; all else is quiet.
 #[inline(always)]
 pub fn call(
-    bits: &mut Vec<BitTarget<Node>>,
+    bits: &mut Vec<BitTarget<WireTarget>>,
     at: &Index,
     called: &[u16],
-    live: &mut Numbers,
-    started: &mut Numbers,
+    live: &mut TargetNumbers,
+    started: &mut TargetNumbers,
     byte: u8,
 )
     requires index { IsIndex (length bits.old.items) at.now }
@@ -47,7 +47,7 @@ pub fn call(
 }
 
 /// Adds those of these numbers whose targets are joined.
-fn add_joined(targets: &[BitTarget<Node>], numbers: &[u16], list: &mut Numbers)
+fn add_joined(targets: &[BitTarget<WireTarget>], numbers: &[u16], list: &mut TargetNumbers)
     requires { AreNumbers list.old.room numbers.now }
     ensures room { list.new.room ≡ list.old.room }
     ensures among { (k : ℕ) → is_among list.new.items k ≡ (is_among list.old.items k || (is_among numbers.now k && joined_at targets.now k)) }
@@ -59,7 +59,7 @@ fn add_joined(targets: &[BitTarget<Node>], numbers: &[u16], list: &mut Numbers)
 }
 
 /// Leaves none, where the condition holds.
-fn clear_if(list: &mut Numbers, condition: bool)
+fn clear_if(list: &mut TargetNumbers, condition: bool)
     ensures { list.new ≡ numbers_of list.old.room (cond condition [] list.old.items) }
 {
     if condition {
@@ -69,7 +69,7 @@ fn clear_if(list: &mut Numbers, condition: bool)
 
 /// A start: who is joined is out of the message that was.
 #[inline(always)]
-pub fn leave(bits: &mut Vec<BitTarget<Node>>, live: &mut Numbers)
+pub fn leave(bits: &mut Vec<BitTarget<WireTarget>>, live: &mut TargetNumbers)
     requires { live.old.room ≡ length bits.old.items }
     ensures live { live.new ≡ numbers_of live.old.room (cond (list_all (joined_at bits.old.items) live.old.items) [] live.old.items) }
     ensures bits { bits.new.items ≡ by_number (to_those live.old.items (where_joined (seen the.Leave))) 0 bits.old.items }
@@ -81,7 +81,11 @@ pub fn leave(bits: &mut Vec<BitTarget<Node>>, live: &mut Numbers)
 
 /// A stop: it reaches who is joined. Whether it reached all that a message had reached.
 #[inline(always)]
-pub fn stop(bits: &mut Vec<BitTarget<Node>>, live: &mut Numbers, started: &mut Numbers) -> bool
+pub fn stop(
+    bits: &mut Vec<BitTarget<WireTarget>>,
+    live: &mut TargetNumbers,
+    started: &mut TargetNumbers,
+) -> bool
     requires { started.old.room ≡ length bits.old.items }
     ensures live { live.new ≡ numbers_of live.old.room (cond (list_all (joined_at bits.old.items) started.old.items) [] live.old.items) }
     ensures started { started.new ≡ numbers_of started.old.room (cond (list_all (joined_at bits.old.items) started.old.items) [] started.old.items) }
@@ -99,9 +103,9 @@ pub fn stop(bits: &mut Vec<BitTarget<Node>>, live: &mut Numbers, started: &mut N
 /// be in the message.
 #[inline(never)]
 pub fn spread(
-    bits: &mut Vec<BitTarget<Node>>,
-    live: &mut Numbers,
-    started: &mut Numbers,
+    bits: &mut Vec<BitTarget<WireTarget>>,
+    live: &mut TargetNumbers,
+    started: &mut TargetNumbers,
     address: &mut Register,
 )
     ensures live_room { live.new.room ≡ live.old.room }
@@ -120,7 +124,7 @@ pub fn spread(
 }
 
 /// The same of a slice, where an address comes in. It goes from the last one back.
-fn spread_each(targets: &mut [BitTarget<Node>], left: u8, value: u8)
+fn spread_each(targets: &mut [BitTarget<WireTarget>], left: u8, value: u8)
     requires some { 0 < left }
     requires mode { IsMode (mode.In true left value) }
     ensures { targets.new ≡ map (shared left value) targets.old }
@@ -133,7 +137,7 @@ fn spread_each(targets: &mut [BitTarget<Node>], left: u8, value: u8)
 }
 
 /// A target that is joined has this of an address byte.
-fn give(target: &mut BitTarget<Node>, left: u8, value: u8)
+fn give(target: &mut BitTarget<WireTarget>, left: u8, value: u8)
     requires some { 0 < left }
     requires mode { IsMode (mode.In true left value) }
     ensures { target.new ≡ shared left value target.old }

@@ -9,28 +9,27 @@ ghost use Rattle.bus_lines.specs.Joins.{is_chip, node_opens};
 use i2c_base::{Answer, Event, Target};
 use std::marker::Model;
 use std::mem::replace;
-use targets::{DeviceState, silence};
+use targets::{Chip, DeviceState, silence};
 use tgt_bits::Wired;
-use tgt_mux::Chip;
 
 // A target of either kind.
 #[derive(Drop)]
-enum Kind {
+enum WireTargetKind {
     Chip(Chip),
     Device(Box<DeviceState>),
-    Away,
+    Silent,
 }
 
 /// A mux chip or a device, which is boxed, since a chip is small. A contract sees the state of either (`NodeState`).
 #[derive(Drop)]
-pub struct Node {
-    target: Kind,
+pub struct WireTarget {
+    target: WireTargetKind,
 }
 
-impl Model for Node {
+impl Model for WireTarget {
     ghost use Rattle.wire_spec.specs.Sites as node;
     ghost use Rattle.wire_spec.specs.Sites.{NodeState};
-    ghost use Rattle.bus_lines.specs.declared.node.Kind.TheVariants as kind;
+    ghost use Rattle.bus_lines.specs.declared.node.WireTargetKind.TheVariants as kind;
     ghost use Rattle.i2c_spec.specs.Targets.{Silent};
 
     ghost Value = { NodeState };
@@ -38,17 +37,17 @@ impl Model for Node {
     ghost view = { λ n. elim n.target [
       | kind.Chip x ↦ node.Chip x
       | kind.Device x ↦ node.Device x.value
-      | kind.Away ↦ node.Device Silent
+      | kind.Silent ↦ node.Device Silent
     ] };
 }
 
-impl Node {
+impl WireTarget {
     /// The chip of a mux.
     pub fn of_chip(chip: Chip) -> Self
         ensures { result ≡ node.Chip chip }
     {
-        Node {
-            target: Kind::Chip(chip),
+        WireTarget {
+            target: WireTargetKind::Chip(chip),
         }
     }
 
@@ -56,8 +55,8 @@ impl Node {
     pub fn of_device(device: Box<DeviceState>) -> Self
         ensures { result ≡ node.Device device.value }
     {
-        Node {
-            target: Kind::Device(device),
+        WireTarget {
+            target: WireTargetKind::Device(device),
         }
     }
 
@@ -65,7 +64,9 @@ impl Node {
     pub fn away() -> Self
         ensures { result ≡ node.Device Silent }
     {
-        Node { target: Kind::Away }
+        WireTarget {
+            target: WireTargetKind::Silent,
+        }
     }
 
     /// Sets the line of a gpio mux, where it is one.
@@ -73,8 +74,8 @@ impl Node {
         ensures { self.new ≡ node_level self.old level }
     {
         match &mut self.target {
-            Kind::Chip(chip) => chip.set_level(level),
-            Kind::Device(_) | Kind::Away => {}
+            WireTargetKind::Chip(chip) => chip.set_level(level),
+            WireTargetKind::Device(_) | WireTargetKind::Silent => {}
         }
     }
 
@@ -83,8 +84,8 @@ impl Node {
         ensures { result ≡ is_chip self.now }
     {
         match &self.target {
-            Kind::Chip(_) => true,
-            Kind::Device(_) | Kind::Away => false,
+            WireTargetKind::Chip(_) => true,
+            WireTargetKind::Device(_) | WireTargetKind::Silent => false,
         }
     }
 
@@ -93,13 +94,13 @@ impl Node {
         ensures taken { result ≡ device_of self.old }
         ensures after { self.new ≡ emptied self.old }
     {
-        match replace(&mut self.target, Kind::Away) {
-            Kind::Chip(chip) => {
-                self.target = Kind::Chip(chip);
+        match replace(&mut self.target, WireTargetKind::Silent) {
+            WireTargetKind::Chip(chip) => {
+                self.target = WireTargetKind::Chip(chip);
                 None
             }
-            Kind::Device(device) => Some(Box::into_inner(device)),
-            Kind::Away => Some(DeviceState::silent()),
+            WireTargetKind::Device(device) => Some(Box::into_inner(device)),
+            WireTargetKind::Silent => Some(DeviceState::silent()),
         }
     }
 
@@ -108,13 +109,13 @@ impl Node {
         ensures { result ≡ node_opens channel self.now }
     {
         match &self.target {
-            Kind::Chip(chip) => chip.opens(channel),
-            Kind::Device(_) | Kind::Away => false,
+            WireTargetKind::Chip(chip) => chip.opens(channel),
+            WireTargetKind::Device(_) | WireTargetKind::Silent => false,
         }
     }
 }
 
-impl Target for Node {
+impl Target for WireTarget {
     ghost use Rattle.wire_spec.specs.Sites.{node_table};
 
     ghost table = { node_table };
@@ -122,14 +123,14 @@ impl Target for Node {
     #[inline(always)]
     fn on(&mut self, event: Event) -> Answer {
         match &mut self.target {
-            Kind::Chip(chip) => chip.on(event),
-            Kind::Device(device) => device.on(event),
-            Kind::Away => silence(event),
+            WireTargetKind::Chip(chip) => chip.on(event),
+            WireTargetKind::Device(device) => device.on(event),
+            WireTargetKind::Silent => silence(event),
         }
     }
 }
 
-impl Wired for Node {
+impl Wired for WireTarget {
     ghost use Rattle.wire_spec.proofs.StartLemmas.{node_fair};
     ghost use Rattle.i2c_spec.proofs.StateLemmas.{states_fair};
     ghost use Rattle.std.proofs.Common.{rules};
@@ -138,17 +139,17 @@ impl Wired for Node {
 
     fn sends(&self) -> u8 {
         match &self.target {
-            Kind::Chip(chip) => chip.sends(),
-            Kind::Device(device) => device.sends(),
-            Kind::Away => 0xff,
+            WireTargetKind::Chip(chip) => chip.sends(),
+            WireTargetKind::Device(device) => device.sends(),
+            WireTargetKind::Silent => 0xff,
         }
     }
 
     /// A mux chip never holds the clock.
     fn hold(&self) -> u8 {
         match &self.target {
-            Kind::Chip(_) | Kind::Away => 0,
-            Kind::Device(device) => device.hold(),
+            WireTargetKind::Chip(_) | WireTargetKind::Silent => 0,
+            WireTargetKind::Device(device) => device.hold(),
         }
     }
 }

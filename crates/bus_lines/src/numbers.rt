@@ -7,11 +7,11 @@ use std::marker::Model;
 
 /// Numbers of targets of a root, each of them once, with room for all. A contract sees the list, and how many targets there are.
 #[derive(Drop)]
-pub struct Numbers {
+pub struct TargetNumbers {
     numbers: Vec<u16>,
 }
 
-impl Model for Numbers {
+impl Model for TargetNumbers {
     ghost use Rattle.std.specs.Prelude.{◌<◌, ◌^◌, vec_capacity};
     ghost use Rattle.bus_lines.specs.Numbers.{NumbersView, AreNumbers, numbers_of};
 
@@ -22,13 +22,13 @@ impl Model for Numbers {
     ghost invariant = { λ n. (AreNumbers (vec_capacity n.numbers) n.numbers.items) × (vec_capacity n.numbers < 2 ^ 16) };
 }
 
-impl Numbers {
+impl TargetNumbers {
     /// None yet, with room for so many targets.
     pub fn with_room(alloc: Global, room: usize) -> Result<Self, AllocError>
         requires { room < 65536 }
         ensures { IfOk result (λ numbers. numbers ≡ numbers_of room []) }
     {
-        Ok(Numbers {
+        Ok(TargetNumbers {
             numbers: Vec::with_capacity(alloc, room)?,
         })
     }

@@ -9,31 +9,34 @@ ghost use Rattle.wire_spec.specs.Sites.{Device};
 ghost use Rattle.bus_lines.specs.Away.{device_at, kept_device};
 ghost use Rattle.bus_lines.specs.Opens.{chip_bit};
 
-use crate::Node;
-use crate::place::Place;
+use crate::WireTarget;
+use crate::place::WirePlace;
 use i2c_base::{DeviceSpec, MuxSpec, NoMemory, SegId};
 use i2c_board::Layout;
 use std::alloc::Global;
-use targets::DeviceState;
+use targets::{Chip, DeviceState};
 use tgt_bits::BitTarget;
-use tgt_mux::Chip;
 
 /// No address byte names this address: it has more than seven bits.
 const NO_ADDRESS: u8 = 128;
 
 /// The chip of a mux, which isn't joined yet.
-fn open_chip(mux: &MuxSpec) -> BitTarget<Node>
+fn open_chip(mux: &MuxSpec) -> BitTarget<WireTarget>
     ensures { result ≡ chip_bit mux.now }
 {
     let addr = match mux.addr {
         Some(addr) => addr.get(),
         None => NO_ADDRESS,
     };
-    BitTarget::released(addr, false, Node::of_chip(Chip::open(mux)))
+    BitTarget::released(addr, false, WireTarget::of_chip(Chip::open(mux)))
 }
 
 /// A device, which isn't joined yet. Nothing is kept of one that isn't of the root, not even its address.
-fn open_device(alloc: Global, device: &DeviceSpec, here: bool) -> Result<BitTarget<Node>, NoMemory>
+fn open_device(
+    alloc: Global,
+    device: &DeviceSpec,
+    here: bool,
+) -> Result<BitTarget<WireTarget>, NoMemory>
     requires { IsPlainDevice device.now }
     ensures { IfOk result (λ target. target ≡ device_at here device.now) }
 {
@@ -43,20 +46,20 @@ fn open_device(alloc: Global, device: &DeviceSpec, here: bool) -> Result<BitTarg
 }
 
 /// Its state.
-fn open_node(alloc: Global, device: &DeviceSpec, here: bool) -> Result<Node, NoMemory>
+fn open_node(alloc: Global, device: &DeviceSpec, here: bool) -> Result<WireTarget, NoMemory>
     requires { IsPlainDevice device.now }
     ensures { IfOk result (λ node. node ≡ Device (cond here (opening_state device.now) Silent)) }
 {
     if here {
         let state = DeviceState::open(alloc, device)?;
-        Ok(Node::of_device(Box::new(alloc, state)?))
+        Ok(WireTarget::of_device(Box::new(alloc, state)?))
     } else {
-        Ok(Node::away())
+        Ok(WireTarget::away())
     }
 }
 
-/// The chips of all muxes, behind these targets.
-pub fn add_chips(layout: Layout<'_>, bits: &mut Vec<BitTarget<Node>>) -> Result<(), NoMemory>
+/// The chips of all muxes, after these targets.
+pub fn add_chips(layout: Layout<'_>, bits: &mut Vec<BitTarget<WireTarget>>) -> Result<(), NoMemory>
     ensures { OnOk result (bits.new.items ≡ bits.old.items ++ map chip_bit layout.entry.muxes.now) }
 {
     for mux in layout.muxes {
@@ -65,12 +68,12 @@ pub fn add_chips(layout: Layout<'_>, bits: &mut Vec<BitTarget<Node>>) -> Result<
     Ok(())
 }
 
-/// The devices, behind these targets.
+/// The devices, after these targets.
 pub fn add_devices(
     alloc: Global,
     layout: Layout<'_>,
     root: SegId,
-    bits: &mut Vec<BitTarget<Node>>,
+    bits: &mut Vec<BitTarget<WireTarget>>,
 ) -> Result<(), NoMemory>
     requires { IsPlainBoard (board_of layout) }
     ensures { OnOk result (bits.new.items ≡ bits.old.items ++ map (kept_device (board_of layout.entry) root) (board_of layout.entry).devices) }
@@ -82,35 +85,35 @@ pub fn add_devices(
     Ok(())
 }
 
-/// The places of the chips of all muxes, behind these places.
+/// The places of the chips of all muxes, after these places.
 pub fn add_mux_places(
     alloc: Global,
     layout: Layout<'_>,
     root: SegId,
-    places: &mut Vec<Place>,
+    places: &mut Vec<WirePlace>,
 ) -> Result<(), NoMemory>
     requires { IsPlainBoard (board_of layout) }
     ensures { OnOk result (places.new.items ≡ places.old.items ++ map (mux_place (board_of layout.entry) root) layout.entry.muxes.now) }
 {
     for mux in layout.muxes {
         let there = !mux.absent && mux.addr.is_some();
-        places.push(Place::open(alloc, layout, root, mux.bus, there)?)?;
+        places.push(WirePlace::open(alloc, layout, root, mux.bus, there)?)?;
     }
     Ok(())
 }
 
-/// The places of the devices, behind these places.
+/// The places of the devices, after these places.
 pub fn add_device_places(
     alloc: Global,
     layout: Layout<'_>,
     root: SegId,
-    places: &mut Vec<Place>,
+    places: &mut Vec<WirePlace>,
 ) -> Result<(), NoMemory>
     requires { IsPlainBoard (board_of layout) }
     ensures { OnOk result (places.new.items ≡ places.old.items ++ map (device_place (board_of layout.entry) root) layout.entry.devices.now) }
 {
     for device in layout.devices {
-        places.push(Place::open(alloc, layout, root, device.bus, true)?)?;
+        places.push(WirePlace::open(alloc, layout, root, device.bus, true)?)?;
     }
     Ok(())
 }

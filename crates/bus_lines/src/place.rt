@@ -7,7 +7,7 @@ ghost use Rattle.i2c_spec.specs.Plain.{IsPlainBoard};
 ghost use Rattle.bus_lines.specs.Away.{is_wired};
 ghost use Rattle.bus_lines.specs.Joins.{place_on, joins, opens_at, states_on};
 
-use crate::Node;
+use crate::WireTarget;
 use i2c_base::SegId;
 use i2c_board::{Hop, Layout};
 use std::alloc::{AllocError, Global};
@@ -16,14 +16,14 @@ use tgt_bits::BitTarget;
 
 /// Where a target stands, as one root has it. A contract sees the record of these parts.
 #[derive(Drop)]
-pub struct Place {
+pub struct WirePlace {
     /// It is there, on a bus of that root.
     wired: bool,
     /// The muxes over its bus, nearest first, where it is there.
     above: Vec<Hop>,
 }
 
-impl Model for Place {
+impl Model for WirePlace {
     ghost use Rattle.bus_lines.specs.Joins.{PlaceView};
 
     ghost Value = { PlaceView };
@@ -31,7 +31,7 @@ impl Model for Place {
     ghost view = { λ p. record { wired = p.wired; above = p.above.items } };
 }
 
-impl Place {
+impl WirePlace {
     /// The place on this bus, of a target that is there or isn't.
     pub fn open(
         alloc: Global,
@@ -45,7 +45,7 @@ impl Place {
     {
         let wired = there && layout.root(bus) == root;
         let above = hops_of(alloc, layout, bus, wired)?;
-        Ok(Place { wired, above })
+        Ok(WirePlace { wired, above })
     }
 
     /// It is there, on a bus of the root.
@@ -56,7 +56,7 @@ impl Place {
     }
 
     /// It is joined to the wires: every mux over its bus has the channel open that leads there.
-    pub fn joins(&self, targets: &[BitTarget<Node>]) -> bool
+    pub fn joins(&self, targets: &[BitTarget<WireTarget>]) -> bool
         ensures { result ≡ joins (states_on targets.now) self.now }
     {
         self.wired && opens_all(targets, self.above.as_slice())
@@ -81,7 +81,7 @@ fn hops_of(
 }
 
 /// The target of this number is there, on a bus of the root.
-pub fn is_wired(places: &[Place], number: usize) -> bool
+pub fn is_wired(places: &[WirePlace], number: usize) -> bool
     ensures { result ≡ is_wired places.now number }
 {
     match places.get(number) {
@@ -91,14 +91,14 @@ pub fn is_wired(places: &[Place], number: usize) -> bool
 }
 
 /// Each of these hops is open.
-fn opens_all(targets: &[BitTarget<Node>], hops: &[Hop]) -> bool
+fn opens_all(targets: &[BitTarget<WireTarget>], hops: &[Hop]) -> bool
     ensures { result ≡ list_all (opens_at (states_on targets.now)) hops.now }
 {
     hops.iter().all(|hop| opens(targets, hop))
 }
 
 /// The mux of this hop has the hop's channel open.
-fn opens(targets: &[BitTarget<Node>], hop: &Hop) -> bool
+fn opens(targets: &[BitTarget<WireTarget>], hop: &Hop) -> bool
     ensures { result ≡ opens_at (states_on targets.now) hop.now }
 {
     match targets.get(usize::from(hop.mux.0)) {

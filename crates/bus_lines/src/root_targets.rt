@@ -18,11 +18,11 @@ use crate::edges::{Edge, enter_all, get_all, put_all, some_pulls, some_slow, tel
 use crate::index::Index;
 use crate::joining::{list_joined, refresh_all, rejoin, set_level};
 use crate::message::{call, leave, spread, stop};
-use crate::numbers::Numbers;
+use crate::numbers::TargetNumbers;
 use crate::opening::{add_chips, add_device_places, add_devices, add_mux_places};
-use crate::place::Place;
+use crate::place::WirePlace;
 use crate::register::Register;
-use crate::{Apart, Node};
+use crate::{Apart, WireTarget};
 use i2c_base::{MuxId, NoMemory, SegId};
 use i2c_board::Accepted;
 use std::alloc::Global;
@@ -38,18 +38,18 @@ use tgt_bits::BitTarget;
 pub struct RootTargets {
     board: Snapshot<Accepted>,
     root: SegId,
-    places: Vec<Place>,
-    bits: Vec<BitTarget<Node>>,
+    places: Vec<WirePlace>,
+    bits: Vec<BitTarget<WireTarget>>,
     /// Who is at each address.
     at: Index,
     /// What has come of an address byte: all that is joined has this of it, and stands as it does where none comes in.
     address: Register,
     /// All that aren't out of the message: no edge and no look is anything to another.
-    live: Numbers,
+    live: TargetNumbers,
     /// All that a message has reached since their last stop: another's start, and a stop, are nothing to others.
-    started: Numbers,
+    started: TargetNumbers,
     /// Those that the last address byte named, of who is joined.
-    called: Numbers,
+    called: TargetNumbers,
     /// Someone holds SCL low.
     held: bool,
     counter: Counter,
@@ -82,9 +82,9 @@ impl RootTargets {
         add_chips(layout, &mut bits)?;
         add_devices(alloc, layout, root, &mut bits)?;
         let at = Index::of(alloc, bits.as_slice())?;
-        let live = Numbers::with_room(alloc, bits.len())?;
-        let started = Numbers::with_room(alloc, bits.len())?;
-        let called = Numbers::with_room(alloc, bits.len())?;
+        let live = TargetNumbers::with_room(alloc, bits.len())?;
+        let started = TargetNumbers::with_room(alloc, bits.len())?;
+        let called = TargetNumbers::with_room(alloc, bits.len())?;
         let held = rejoin(&mut bits, places.as_slice());
         Ok(RootTargets {
             board: Snapshot::of(board),
@@ -264,7 +264,7 @@ impl RootTargets {
     }
 
     /// A start: SDA falls while SCL is high.
-    pub fn begin(&mut self)
+    pub fn start_condition(&mut self)
         ensures { self.new ≡ record self.old { bits = map (where_joined begin) self.old.bits; counts = one_flip self.old.counts } }
     {
         self.counter.add_flip();
@@ -275,7 +275,7 @@ impl RootTargets {
 
     /// A stop: SDA rises while SCL is high. Who is joined then is read anew of all at once only where it missed someone.
     #[inline(always)]
-    pub fn finish(&mut self)
+    pub fn stop_condition(&mut self)
         ensures { self.new ≡ record self.old { bits = rejoined (mask_of self.old.rooted.board self.old.rooted.root) (map (where_joined (finish node_table)) self.old.bits); counts = one_flip self.old.counts } }
     {
         self.counter.add_flip();

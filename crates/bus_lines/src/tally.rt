@@ -6,14 +6,14 @@ use std::snapshot::Snapshot;
 /// What has happened on the lines: each rise of SCL, or the nine of a byte at once, and each start and stop, after all that was
 /// before. It keeps nothing of that, so that it takes no more memory the longer it goes on. A contract sees the two counts.
 #[derive(Drop)]
-pub enum Tally {
+pub enum EdgeTally {
     Nothing,
-    Edge(Snapshot<Tally>),
-    Nine(Snapshot<Tally>),
-    Flip(Snapshot<Tally>),
+    Edge(Snapshot<EdgeTally>),
+    Nine(Snapshot<EdgeTally>),
+    Flip(Snapshot<EdgeTally>),
 }
 
-impl Tally {
+impl EdgeTally {
     ghost use Rattle.wire_spec.specs.Bus.{one_edge, one_flip};
     ghost use Rattle.wire_spec.specs.Calls.{more_edges};
     ghost use Rattle.bus_lines.specs.Tallies.{counts_of};
@@ -22,27 +22,27 @@ impl Tally {
     pub fn none() -> Self
         ensures { counts_of result ≡ record { edges = 0; flips = 0 } }
     {
-        Tally::Nothing
+        EdgeTally::Nothing
     }
 
     /// SCL has risen once more.
     pub fn add_edge(&mut self)
         ensures { counts_of self.new ≡ one_edge (counts_of self.old) }
     {
-        *self = Tally::Edge(Snapshot::of(self));
+        *self = EdgeTally::Edge(Snapshot::of(self));
     }
 
     /// SCL has risen nine times more, for a byte with its acknowledge.
     pub fn add_nine(&mut self)
         ensures { counts_of self.new ≡ more_edges 9 (counts_of self.old) }
     {
-        *self = Tally::Nine(Snapshot::of(self));
+        *self = EdgeTally::Nine(Snapshot::of(self));
     }
 
     /// There was one start or stop more.
     pub fn add_flip(&mut self)
         ensures { counts_of self.new ≡ one_flip (counts_of self.old) }
     {
-        *self = Tally::Flip(Snapshot::of(self));
+        *self = EdgeTally::Flip(Snapshot::of(self));
     }
 }

@@ -10,7 +10,7 @@ use Rattle.bus_lines.specs.Numbers.{NumbersView}
 use Rattle.bus_lines.specs.Units.{RegisterView}
 use Rattle.bus_lines.proofs.InvariantLemmas.{seen_as}
 use Rattle.bus_lines.proofs.KeptLemmas.{missed_kept, missed_seen, reached_kept, reached_seen}
-use Rattle.bus_lines.proofs.root_targets.RootTargets.finish.Goals as goal
+use Rattle.bus_lines.proofs.root_targets.RootTargets.stop_condition.Goals as goal
 
 pub invariant_of-self : goal.invariant_of-self
 invariant_of-self c =

@@ -1,7 +1,7 @@
 use Rattle.std.proofs.Common.{◌≡◌, ◌<◌, false, List, [], ◌∷◌, ◌++◌, ℕ, sym, ap, ◌∙◌, subst, vec_capacity, vec_len, length, arith}
 use Rattle.bus_lines.specs.Numbers.{is_among, AreNumbers, NumbersView}
 use Rattle.bus_lines.proofs.NumbersLemmas.{one_more, room_more}
-use Rattle.bus_lines.proofs.numbers.Numbers.add.Goals as goal
+use Rattle.bus_lines.proofs.numbers.TargetNumbers.add.Goals as goal
 
 pub push_reserved-requires : goal.push_reserved-requires
 push_reserved-requires c =

@@ -1,6 +1,6 @@
 use Rattle.bus_lines.proofs.NumbersLemmas.{no_numbers}
 use Rattle.std.proofs.Common.{vec_capacity}
-use Rattle.bus_lines.proofs.numbers.Numbers.with_room.Goals as goal
+use Rattle.bus_lines.proofs.numbers.TargetNumbers.with_room.Goals as goal
 
 pub invariant_of-result : goal.invariant_of-result
 invariant_of-result c = (

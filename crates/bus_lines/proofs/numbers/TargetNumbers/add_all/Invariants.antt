@@ -1,6 +1,6 @@
 use Rattle.std.proofs.Common.{◌≡◌, ℕ, ◌<◌, true}
 use Rattle.bus_lines.specs.Numbers.{is_among}
-use Rattle.bus_lines.proofs.numbers.Numbers.add_all.Given as goal
+use Rattle.bus_lines.proofs.numbers.TargetNumbers.add_all.Given as goal
 
 -- so many are among them
 abbrev pub invariant-loop-number : goal.invariant-loop-number

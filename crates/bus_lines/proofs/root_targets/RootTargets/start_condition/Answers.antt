@@ -7,7 +7,7 @@ use Rattle.bus_lines.specs.LinesViews.{TargetsView}
 use Rattle.bus_lines.specs.Numbers.{NumbersView}
 use Rattle.bus_lines.proofs.InvariantLemmas.{seen_as}
 use Rattle.bus_lines.proofs.KeptLemmas.{begin_kept, begin_seen}
-use Rattle.bus_lines.proofs.root_targets.RootTargets.begin.Goals as goal
+use Rattle.bus_lines.proofs.root_targets.RootTargets.start_condition.Goals as goal
 
 pub invariant_of-self : goal.invariant_of-self
 invariant_of-self c =

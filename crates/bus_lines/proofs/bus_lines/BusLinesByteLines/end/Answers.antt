@@ -1,8 +1,0 @@
-use Rattle.bus_lines.proofs.EndsLemmas.{end_is}
-use Rattle.bus_lines.proofs.bus_lines.BusLinesByteLines.end.Goals as goal
-
-pub returns-clause-bus : goal.returns-clause-bus
-returns-clause-bus c tells =
-    let law = c.a_stop_frees_the_lines.ensures in
-    end_is c.self.inside.targets c.count_edge.new.self c.finish.new.self c.self.inside.wire c.ended.new.self c.args.self.now c.self.view_is
-    c.count_edge.ensures c.finish.ensures c.ended.ensures law.written law.out (c.requires.stands tells)
