@@ -53,7 +53,7 @@ impl Handles {
         ensures answer { UnlessNoMemory result (result ≡ open_answer board.now self.old bus) }
         ensures after { UnlessNoMemory result (self.new ≡ opened board.now self.old bus) }
 
-        // Want of memory isn't told of a bus that is missing.
+        // Being out of memory isn't told of a bus that is missing.
         ensures missing { buses board.now ≤ bus → result ≡ Err (fault.Errno Enodev) }
         ensures err { OnErr result (self.new ≡ self.old) }
         ensures on_board { AreOnBoard board.now self.old → AreOnBoard board.now self.new }

@@ -3,7 +3,7 @@
 //!
 //! Its public contract: each call of `Handles` answers and leaves what its definition says of what stands under each
 //! number that was given out. A number never comes again: where its handle was closed, there is none from then on. A
-//! refused call leaves all handles as they were, and want of memory is told by `open` alone.
+//! refused call leaves all handles as they were, and being out of memory is told by `open` alone.
 //! Definitions: `specs/Handles.antt`; how handles are stored, `specs/Stored.antt`. Standard: Linux i2c-dev (`I2C_SLAVE`,
 //! `I2C_SLAVE_FORCE`, `I2C_PEC`).
 #![tactic(auto)]

@@ -151,7 +151,7 @@ module _ {W V : Type 0} (l : Listener W) (k : Listener V) (h : W → V) (cut : O
         by true = one_more_is (with_byte next count) (omega (arith, at))
         by false = gets_is last (count + len - 1) (with_byte next count) 2 (omega (arith, at))
 
-    -- a message behind its start
+    -- a message after its start
     abbrev heard : MessageView → TalkTold W → AllTold V
     heard m t = record { bytes = with_read before m t; now = h t.now; end = t.end }
 

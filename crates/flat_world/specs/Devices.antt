@@ -64,6 +64,6 @@ once_after granted f (call.Line m level) = flat_after granted f (call.Line m lev
 abbrev pub once_listener : (ℕ → Option ℕ) → Listener FlatListener
 once_listener granted = record (flat_listener granted) { after = once_after granted }
 
--- behind a start no call asks where an address leads
+-- after a start no call asks where an address leads
 abbrev pub behind_start : Listener FlatListener
 behind_start = once_listener (λ a. None)

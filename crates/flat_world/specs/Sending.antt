@@ -1,5 +1,5 @@
 -- A message of a transfer as it is sent: its calls are counted, and not listed as by `talk`, and what it reads is put
--- behind what the messages before it have read.
+-- after what the messages before it have read.
 use Rattle.std.specs.Prelude.{ℕ, zero, suc, ◌+◌, ◌-◌, ◌==◌, nat_lt, Bool, true, false, ◌||◌, List, [], ◌∷◌, ◌++◌, Option, if◌then◌else◌}
 use Rattle.i2c_base.specs.declared.event.Answer.{Answer}
 use Rattle.i2c_base.specs.declared.event.Answer.TheVariants as answer
@@ -12,7 +12,7 @@ use Rattle.i2c_spec.specs.Conversation.{Listener, TalkTold, AllTold, is_it, with
 use Rattle.i2c_spec.specs.Flat.{FlatListener, acknowledged, answer_of, flat_stopped}
 use Rattle.flat_world.specs.Devices.{started, behind_start}
 
--- how a message ended, and the listener behind it
+-- how a message ended, and the listener after it
 pub record Ended (V : Type 0) : Type 0 where
   pub now : V
   pub end : End
@@ -44,7 +44,7 @@ gets l cut last (suc n) calls got v =
     if is_it cut calls then with_got got (failed l calls v)
     else gets l cut last n (calls + 1) (got ++ l.gives v ∷ []) (l.after v (call.Get (nat_lt 0 n)))
 
--- behind a count that no block has: it is the third call
+-- after a count that no block has: it is the third call
 abbrev pub gets_one_more : {V : Type 0} → Listener V → Option ℕ → List ℕ → V → AllTold V
 gets_one_more l cut got v =
     if is_it cut 2 then with_got got (failed l 2 v)

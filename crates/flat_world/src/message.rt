@@ -89,7 +89,7 @@ fn get_all(
     finish(now, cut, made, last, End::Ok)
 }
 
-/// Gets the byte behind a count that no block has, and ends there.
+/// Gets the byte after a count that no block has, and ends there.
 fn get_one_more(now: &mut Devices, cut: Option<u16>, got: &mut Bytes) -> End
     requires { length got.old < MOST_BYTES }
     ensures { spec.all_with got.new now.new result ≡ spec.gets_one_more behind_start cut got.old now.old }

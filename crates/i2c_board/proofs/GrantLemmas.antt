@@ -25,7 +25,7 @@ any_push test (y ∷ xs) x = ap (λ (t : Bool). test y || t) (any_push test xs x
     by true q r = refl
     by false q r = refl
 
--- the first of a list, or the one that comes behind it
+-- the first of a list, or the one that comes after it
 abbrev first_of : Option ℕ → Bool → ℕ → Option ℕ
 first_of (Some k) t n = Some k
 first_of None t n = cond t (Some n) None

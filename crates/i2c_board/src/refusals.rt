@@ -8,7 +8,7 @@ ghost use Rattle.i2c_spec.specs.Plain.{IsPlainBoard};
 ghost use Rattle.i2c_spec.specs.Tree.{buses};
 
 use crate::Layout;
-use i2c_base::{Errno, Grant, Kind, SegId, Transfer};
+use i2c_base::{Errno, Grant, SegId, Transfer, TransferKind};
 
 /// Why a transfer is refused without any step on the bus: ENODEV where the board lacks its bus, EOPNOTSUPP where it is
 /// plain and its root offers SMBus calls alone, EBUSY where the address of one of its messages is busy; else none.
@@ -32,7 +32,7 @@ pub fn bus_refusal(layout: &Layout<'_>, transfer: &Transfer) -> Option<Errno>
     if transfer.bus() >= layout.buses() {
         return Some(Errno::Enodev);
     }
-    if matches!(transfer.kind(), Kind::Plain)
+    if matches!(transfer.kind(), TransferKind::Plain)
         && is_smbus_only(layout, layout.root(SegId(transfer.bus())))
     {
         return Some(Errno::Eopnotsupp);

@@ -18,7 +18,7 @@ use crate::find::find;
 use crate::read::{address, bus, flag};
 use crate::rows::row;
 use crate::runs::runs;
-use i2c_base::{DeviceSpec, Run};
+use i2c_base::{DeviceSpec, MemoryRun};
 use std::alloc::{AllocError, Global};
 use toml::{Table, Value};
 
@@ -36,7 +36,7 @@ fn set_value(
     table: &Table,
     buses: u16,
     name: DeviceName,
-) -> Result<Vec<Run>, AllocError>
+) -> Result<Vec<MemoryRun>, AllocError>
     requires keeps { table_fault (device_rules buses name) (table_view table.now) ≡ None }
     ensures value { IfOk result (λ set. set.items ≡ set_value (memory_of name) (table_view table.now)) }
     ensures plain { IfOk result (λ set. All (IsPlainRun (unwrap_or (memory_of name) 0)) set.items) }

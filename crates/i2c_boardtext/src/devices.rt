@@ -150,7 +150,7 @@ fn shared_rules(buses: u16, memory: Option<u32>) -> Rules
     rules
 }
 
-// Puts these keys behind the others.
+// Puts these keys after the others.
 fn push_keys(rules: &mut Rules, keys: &[OwnKey])
     requires room { length rules.old.items + length keys.now ≤ 8 }
     ensures { map key_rule rules.new.items ≡ map key_rule rules.old.items ++ map own_rule keys.now }
@@ -160,7 +160,7 @@ fn push_keys(rules: &mut Rules, keys: &[OwnKey])
     }
 }
 
-// Puts the keys that a kind alone has behind those of every device.
+// Puts the keys that a kind alone has after those of every device.
 fn push_own(rules: &mut Rules, name: DeviceName)
     requires room { length rules.old.items ≤ 5 }
     ensures { map key_rule rules.new.items ≡ map key_rule rules.old.items ++ (device_row name).keys }

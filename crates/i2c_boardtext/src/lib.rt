@@ -1,7 +1,7 @@
 //! The text of a board file: a TOML document, read into a `Board` by its table of keys.
 //!
 //! Its public contract: `read_board` answers exactly what the definition `board_of` says of the text, but for
-//! want of memory. Definitions: `specs/Rules.antt` (what is wrong with a table), `specs/Keys.antt` (the keys of
+//! being out of memory. Definitions: `specs/Rules.antt` (what is wrong with a table), `specs/Keys.antt` (the keys of
 //! each table), `specs/Values.antt` (what a table says, with defaults), `specs/BoardText.antt` (the whole text).
 #![tactic(auto)]
 

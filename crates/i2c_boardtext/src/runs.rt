@@ -10,7 +10,7 @@ ghost use Rattle.i2c_boardtext.specs.Values.{runs_in};
 ghost use Rattle.i2c_boardtext.specs.declared.rule.Test.TheVariants.{Runs};
 
 use crate::find::{find, items, number};
-use i2c_base::Run;
+use i2c_base::MemoryRun;
 use std::alloc::{AllocError, Global};
 use toml::{Table, Value};
 
@@ -36,37 +36,37 @@ fn bytes_of(alloc: Global, values: &[Value]) -> Result<Vec<u8>, AllocError>
     Ok(bytes)
 }
 
-fn run_of(alloc: Global, values: &[Value]) -> Result<Run, AllocError>
+fn run_of(alloc: Global, values: &[Value]) -> Result<MemoryRun, AllocError>
     ensures { IfOk result (λ run. run ≡ cut_run_of (map view values.now)) }
 {
     match values.split_first() {
         Some((first, bytes)) => {
             let bytes = bytes_of(alloc, bytes)?;
-            Ok(Run {
+            Ok(MemoryRun {
                 start: start(first),
                 bytes,
             })
         }
-        None => Ok(Run {
+        None => Ok(MemoryRun {
             start: 0,
             bytes: Vec::new(alloc),
         }),
     }
 }
 
-fn run(alloc: Global, value: &Value) -> Result<Run, AllocError>
+fn run(alloc: Global, value: &Value) -> Result<MemoryRun, AllocError>
     ensures { IfOk result (λ run. run ≡ cut_run (view value.now)) }
 {
     match items(value) {
         Some(values) => run_of(alloc, values),
-        None => Ok(Run {
+        None => Ok(MemoryRun {
             start: 0,
             bytes: Vec::new(alloc),
         }),
     }
 }
 
-fn runs_of(alloc: Global, values: &[Value]) -> Result<Vec<Run>, AllocError>
+fn runs_of(alloc: Global, values: &[Value]) -> Result<Vec<MemoryRun>, AllocError>
     ensures { IfOk result (λ runs. runs.items ≡ map cut_run (map view values.now)) }
 {
     let mut runs = Vec::with_capacity(alloc, values.len())?;
@@ -76,7 +76,7 @@ fn runs_of(alloc: Global, values: &[Value]) -> Result<Vec<Run>, AllocError>
     Ok(runs)
 }
 
-fn runs_at(alloc: Global, value: &Value) -> Result<Vec<Run>, AllocError>
+fn runs_at(alloc: Global, value: &Value) -> Result<Vec<MemoryRun>, AllocError>
     ensures { IfOk result (λ runs. runs.items ≡ map cut_run (elements (view value.now))) }
 {
     match items(value) {
@@ -85,7 +85,7 @@ fn runs_at(alloc: Global, value: &Value) -> Result<Vec<Run>, AllocError>
     }
 }
 
-fn cut_runs(alloc: Global, table: &Table) -> Result<Vec<Run>, AllocError>
+fn cut_runs(alloc: Global, table: &Table) -> Result<Vec<MemoryRun>, AllocError>
     ensures { IfOk result (λ runs. runs.items ≡ cut_runs_in (get_member (codes "set") (table_view table.now))) }
 {
     match find(table, "set") {
@@ -95,7 +95,7 @@ fn cut_runs(alloc: Global, table: &Table) -> Result<Vec<Run>, AllocError>
 }
 
 /// The runs that are written into a memory of this size.
-pub fn runs(alloc: Global, table: &Table, size: u32) -> Result<Vec<Run>, AllocError>
+pub fn runs(alloc: Global, table: &Table, size: u32) -> Result<Vec<MemoryRun>, AllocError>
     requires fits { fits_if_there (Runs size) (get_member (codes "set") (table_view table.now)) ≡ true }
     requires size { size ≤ 32768 }
     ensures value { IfOk result (λ runs. runs.items ≡ runs_in (get_member (codes "set") (table_view table.now))) }

@@ -5,8 +5,8 @@ use Rattle.i2c_board.proofs.SendLemmas.{hop-send}
 use Rattle.i2c_bits.proofs.SendLemmas.{port-send as bit_port-send}
 use Rattle.bus_lines.proofs.SendLemmas.{lines-send}
 use Rattle.targets.proofs.SendLemmas.{device-send}
-use Rattle.i2c_physics.specs.contracts.numbers.Numbers as Numbers
-use Rattle.i2c_physics.specs.contracts.place.Place as Place
+use Rattle.i2c_physics.specs.contracts.numbers.KindNumbers as KindNumbers
+use Rattle.i2c_physics.specs.contracts.place.TargetPlace as TargetPlace
 use Rattle.i2c_physics.specs.contracts.reach.Reach as Reach
 use Rattle.i2c_physics.specs.contracts.sites.Sites as Sites
 use Rattle.i2c_physics.specs.contracts.device_slot.DeviceSlot as DeviceSlot
@@ -17,13 +17,13 @@ use Rattle.i2c_physics.specs.contracts.words.Words as Words
 use Rattle.i2c_physics.specs.contracts.hold_port.HoldPort as HoldPort
 use Rattle.i2c_physics.specs.contracts.wire_port.WirePort as WirePort
 
-place-send : IsSend (Place.the_field).row
+place-send : IsSend (TargetPlace.the_field).row
 place-send = search (crosses, sendable, hop-send) depth 20
 
 sites-send : IsSend (Sites.the_field).row
 sites-send = search (crosses, sendable, place-send) depth 20
 
-numbers-send : IsSend (Numbers.the_field).row
+numbers-send : IsSend (KindNumbers.the_field).row
 numbers-send = search (crosses, sendable) depth 20
 
 reach-send : IsSend (Reach.the_field).row

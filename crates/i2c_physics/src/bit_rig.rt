@@ -133,7 +133,7 @@ impl Rig for BitRig {
     // A 0 for each port that was last given back, which is its count (`counts` of `unplug`).
     ghost port_faults = { λ r. none_of (length r.logs) };
 
-    /// It never fails, but for want of memory. Neither wire of a root has changed yet.
+    /// It never fails, except when out of memory. Neither wire of a root has changed yet.
     fn plug(&mut self, alloc: Global, board: &Accepted) -> Result<Vec<WirePort>, RigFail>
         ensures ports { IfOk result (λ ports. map wired ports.items ≡ map (opening_wired board.now) (range_with_len 0 (length board.now.roots))) }
         ensures counts { IfOk result (λ ports. All (λ p. p.counts ≡ record { edges = 0; flips = 0 }) ports.items) }

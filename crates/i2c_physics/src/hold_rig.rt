@@ -119,7 +119,7 @@ impl Rig for HoldRig {
 
     ghost port_faults = { λ r. none_of r.given };
 
-    /// It never fails, but for want of memory.
+    /// It never fails, except when out of memory.
     fn plug(&mut self, alloc: Global, board: &Accepted) -> Result<Vec<HoldPort>, RigFail>
         ensures later { self.old.sim.faults ≤ self.new.sim.faults }
         ensures cause { result ≡ Err RigFail.Failed → Rose self.old.sim.faults self.new.sim.faults }

@@ -7,11 +7,11 @@ use std::marker::Model;
 
 /// Numbers of targets of one kind; the devices are the most. A contract sees the list.
 #[derive(Drop)]
-pub struct Numbers {
+pub struct KindNumbers {
     row: Row<u16, MOST_DEVICES>,
 }
 
-impl Model for Numbers {
+impl Model for KindNumbers {
     ghost use Rattle.std.specs.Prelude.{ℕ, ◌≤◌, List, length};
     ghost use Rattle.i2c_base.specs.Limits.{MOST_DEVICES};
 
@@ -22,12 +22,12 @@ impl Model for Numbers {
     ghost invariant = { λ n. length n.row ≤ MOST_DEVICES };
 }
 
-impl Numbers {
+impl KindNumbers {
     /// None yet.
     pub fn new() -> Self
         ensures { result ≡ [] }
     {
-        Numbers { row: Row::new() }
+        KindNumbers { row: Row::new() }
     }
 
     /// The numbers, in their order.
@@ -59,7 +59,7 @@ impl Numbers {
         requires { length self.old < MOST_DEVICES }
         ensures { self.new ≡ number ∷ self.old }
     {
-        let mut all = Numbers::new();
+        let mut all = KindNumbers::new();
         all.push(number);
         for other in self.as_slice() {
             all.push(*other);

@@ -90,7 +90,7 @@ impl PartsBuffer {
     }
 }
 
-/// Takes these ports apart behind others, as far as there is room. How often SCL rose on them, up to 2^64 - 1.
+/// Takes these ports apart after others, as far as there is room. How often SCL rose on them, up to 2^64 - 1.
 fn take_apart(done: &mut Vec<PartedPort>, ports: Vec<WirePort>) -> u64
     ensures ports { vec_len done.old + vec_len ports ≤ vec_capacity done.old → done.new.items ≡ done.old.items ++ map parted ports.items }
     ensures edges { result ≡ edges_of ports.items }
@@ -103,7 +103,7 @@ fn take_apart(done: &mut Vec<PartedPort>, ports: Vec<WirePort>) -> u64
     edges
 }
 
-/// Takes this port apart behind others, where there is room. How often SCL rose on it, up to 2^64 - 1.
+/// Takes this port apart after others, where there is room. How often SCL rose on it, up to 2^64 - 1.
 fn take_one(done: &mut Vec<PartedPort>, port: WirePort) -> u64
     ensures port { vec_len done.old < vec_capacity done.old → done.new.items ≡ done.old.items ++ parted port ∷ [] }
     ensures room { vec_capacity done.old ≤ vec_capacity done.new }

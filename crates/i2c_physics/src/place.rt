@@ -11,11 +11,11 @@ use i2c_base::{Addr, SegId};
 use i2c_board::{Hop, Layout};
 use std::alloc::{AllocError, Global};
 use std::marker::Model;
-use tgt_mux::Chip;
+use targets::Chip;
 
 /// Where a target stands, as the port of one root has it. A contract sees the record of these parts.
 #[derive(Drop)]
-pub struct Place {
+pub struct TargetPlace {
     addr: Option<Addr>,
     /// It is there, on a bus of that root.
     wired: bool,
@@ -23,7 +23,7 @@ pub struct Place {
     above: Vec<Hop>,
 }
 
-impl Model for Place {
+impl Model for TargetPlace {
     ghost use Rattle.i2c_physics.specs.Places.{PlaceView};
 
     ghost Value = { PlaceView };
@@ -31,7 +31,7 @@ impl Model for Place {
     ghost view = { λ p. record { addr = p.addr; wired = p.wired; above = p.above.items } };
 }
 
-impl Place {
+impl TargetPlace {
     /// The place on this bus, of a target that is there or isn't.
     pub fn open(
         alloc: Global,
@@ -44,7 +44,7 @@ impl Place {
         requires { IsPlainBoard (board_of layout) }
         ensures { IfOk result (λ p. p ≡ place_on (board_of layout.entry) root bus addr there) }
     {
-        Ok(Place {
+        Ok(TargetPlace {
             addr,
             wired: there && layout.root(bus) == root,
             above: layout.hops(bus).as_slice().to_vec(alloc)?,

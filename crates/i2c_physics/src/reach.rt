@@ -4,25 +4,25 @@ ghost use Rattle.std.specs.List.{filter, list_all};
 ghost use Rattle.i2c_base.specs.Limits.{MOST_DEVICES};
 ghost use Rattle.i2c_physics.specs.Reach.{is_among, AreRising, joins_at, addressed, others, union_of};
 
-use crate::numbers::Numbers;
-use crate::place::Place;
+use crate::numbers::KindNumbers;
+use crate::place::TargetPlace;
 use crate::sites::{Sites, is_at};
 use i2c_base::{Addr, MOST_DEVICES};
-use tgt_mux::Chip;
+use targets::Chip;
 
 /// Which targets of one kind a message has reached, by number, rising. Its lists are made once, and written over by each call.
 #[derive(Drop)]
 pub struct Reach {
     /// Those that were started since their last stop.
-    pub started: Numbers,
+    pub started: KindNumbers,
     /// Those of them that have heard the start of the message in progress.
-    pub hearing: Numbers,
+    pub hearing: KindNumbers,
     /// Those that the call in progress goes to.
-    pub addressed: Numbers,
+    pub addressed: KindNumbers,
     /// The others: those that a start is an `Other` for, or those that a stop doesn't reach.
-    pub rest: Numbers,
+    pub rest: KindNumbers,
     /// For numbers that nobody asks for any more.
-    pub room: Numbers,
+    pub room: KindNumbers,
 }
 
 impl Reach {
@@ -32,11 +32,11 @@ impl Reach {
         ensures hearing { result.hearing ≡ [] }
     {
         Reach {
-            started: Numbers::new(),
-            hearing: Numbers::new(),
-            addressed: Numbers::new(),
-            rest: Numbers::new(),
-            room: Numbers::new(),
+            started: KindNumbers::new(),
+            hearing: KindNumbers::new(),
+            addressed: KindNumbers::new(),
+            rest: KindNumbers::new(),
+            room: KindNumbers::new(),
         }
     }
 
@@ -98,7 +98,7 @@ impl Reach {
 }
 
 /// Puts a number behind the others, where the condition holds.
-fn push_if(numbers: &mut Numbers, condition: bool, number: u16)
+fn push_if(numbers: &mut KindNumbers, condition: bool, number: u16)
     requires { length numbers.old < MOST_DEVICES }
     ensures items { numbers.new ≡ numbers.old ++ (if condition then number ∷ [] else []) }
     ensures few { length numbers.new ≤ length numbers.old + 1 }
@@ -115,7 +115,7 @@ fn is_among(numbers: &[u16], number: u16) -> bool
 }
 
 /// The target of this number is joined to the wires.
-fn joins_at(chips: &[Chip], places: &[Place], number: u16) -> bool
+fn joins_at(chips: &[Chip], places: &[TargetPlace], number: u16) -> bool
     ensures { result ≡ joins_at chips.now places.now number }
 {
     match places.get(usize::from(number)) {
@@ -126,7 +126,7 @@ fn joins_at(chips: &[Chip], places: &[Place], number: u16) -> bool
 
 /// Those of these numbers that are joined.
 #[inline(always)]
-fn joined(chips: &[Chip], places: &[Place], numbers: &[u16], joined: &mut Numbers)
+fn joined(chips: &[Chip], places: &[TargetPlace], numbers: &[u16], joined: &mut KindNumbers)
     requires { length numbers.now ≤ MOST_DEVICES }
     ensures { joined.new ≡ filter (joins_at chips.now places.now) numbers.now }
 {
@@ -140,7 +140,13 @@ fn joined(chips: &[Chip], places: &[Place], numbers: &[u16], joined: &mut Number
 
 /// Those of these numbers that are joined and have another address.
 #[inline(always)]
-fn others(chips: &[Chip], places: &[Place], addr: Addr, numbers: &[u16], rest: &mut Numbers)
+fn others(
+    chips: &[Chip],
+    places: &[TargetPlace],
+    addr: Addr,
+    numbers: &[u16],
+    rest: &mut KindNumbers,
+)
     requires { length numbers.now ≤ MOST_DEVICES }
     ensures { rest.new ≡ others chips.now places.now addr numbers.now }
 {
@@ -156,10 +162,10 @@ fn others(chips: &[Chip], places: &[Place], addr: Addr, numbers: &[u16], rest: &
 #[inline(always)]
 fn parted(
     chips: &[Chip],
-    places: &[Place],
+    places: &[TargetPlace],
     numbers: &[u16],
-    joined: &mut Numbers,
-    apart: &mut Numbers,
+    joined: &mut KindNumbers,
+    apart: &mut KindNumbers,
 )
     requires { length numbers.now ≤ MOST_DEVICES }
     ensures joined { joined.new ≡ filter (joins_at chips.now places.now) numbers.now }
@@ -186,7 +192,7 @@ fn has_all(numbers: &[u16], others: &[u16]) -> bool
 /// Adds these numbers, of so many. Only where there are some of both is more to be looked at than the two lists.
 #[inline(always)]
 #[tactic(auto, using(crate::proofs::NumberLemmas::either_none, crate::proofs::NumberLemmas::either_has))]
-fn add_all(numbers: &mut Numbers, count: usize, added: &[u16], room: &mut Numbers)
+fn add_all(numbers: &mut KindNumbers, count: usize, added: &[u16], room: &mut KindNumbers)
     requires few { count ≤ MOST_DEVICES }
     requires numbers { AreRising 0 count numbers.old }
     requires added { AreRising 0 count added.now }
@@ -208,7 +214,7 @@ fn is_in_either(first: &[u16], second: &[u16], number: u16) -> bool
 
 /// Those of either list, rising, of so many.
 #[tactic(auto, using(crate::proofs::NumberLemmas::filter_more))]
-fn union_of(count: usize, first: &[u16], second: &[u16], numbers: &mut Numbers)
+fn union_of(count: usize, first: &[u16], second: &[u16], numbers: &mut KindNumbers)
     requires { count ≤ MOST_DEVICES }
     ensures { numbers.new ≡ union_of count first.now second.now }
 {

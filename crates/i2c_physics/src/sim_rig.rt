@@ -171,7 +171,7 @@ impl Rig for SimRig {
 
     ghost port_faults = { λ r. none_of r.given };
 
-    /// It never fails, but for want of memory.
+    /// It never fails, except when out of memory.
     fn plug(&mut self, alloc: Global, board: &Accepted) -> Result<Vec<SimPort>, RigFail>
         ensures later { self.old.faults ≤ self.new.faults }
         ensures cause { result ≡ Err RigFail.Failed → Rose self.old.faults self.new.faults }

@@ -19,8 +19,7 @@ use i2c_spec::{chips_are_fair, openings_are_quiet};
 use std::alloc::{AllocError, Global};
 use std::marker::Model;
 use std::snapshot::Snapshot;
-use targets::DeviceState;
-use tgt_mux::Chip;
+use targets::{Chip, DeviceState};
 
 /// The world of a root: the chips and devices of the whole board, by number, and what the wires have come to. A
 /// contract sees the record of these parts. A call tells only those that it can matter to: a target that wasn't started

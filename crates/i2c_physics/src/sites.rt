@@ -8,7 +8,7 @@ ghost use Rattle.i2c_physics.specs.Places.{device_place, mux_place};
 ghost use Rattle.i2c_physics.specs.Reach.{has_at, wired_at};
 ghost use Rattle.i2c_physics.specs.Sites.{numbers_at, numbers_below};
 
-use crate::place::Place;
+use crate::place::TargetPlace;
 use i2c_base::{Addr, SegId};
 use i2c_board::Layout;
 use std::alloc::{AllocError, Global};
@@ -20,7 +20,7 @@ const ADDRESSES: u8 = 128;
 /// Where the targets of one kind stand, by number, and who is at an address. A contract sees the list of the places.
 #[derive(Drop)]
 pub struct Sites {
-    places: Vec<Place>,
+    places: Vec<TargetPlace>,
     /// By address, the numbers of those that have it, rising: a start looks at no others.
     at: Vec<Vec<u16>>,
 }
@@ -39,7 +39,7 @@ impl Model for Sites {
 
 impl Sites {
     /// These places, by number and by address.
-    fn of(alloc: Global, places: Vec<Place>) -> Result<Self, AllocError>
+    fn of(alloc: Global, places: Vec<TargetPlace>) -> Result<Self, AllocError>
         requires { length places.items ≤ MOST_DEVICES }
         ensures { IfOk result (λ sites. sites ≡ places.items) }
     {
@@ -55,7 +55,7 @@ impl Sites {
         let mut places = Vec::with_capacity(alloc, layout.muxes.len())?;
         for mux in layout.muxes {
             let there = !mux.absent && mux.addr.is_some();
-            places.push_reserved(Place::open(alloc, layout, root, mux.bus, mux.addr, there)?);
+            places.push_reserved(TargetPlace::open(alloc, layout, root, mux.bus, mux.addr, there)?);
         }
         Sites::of(alloc, places)
     }
@@ -68,13 +68,13 @@ impl Sites {
         let mut places = Vec::with_capacity(alloc, layout.devices.len())?;
         for device in layout.devices {
             let addr = Some(device.addr);
-            places.push_reserved(Place::open(alloc, layout, root, device.bus, addr, true)?);
+            places.push_reserved(TargetPlace::open(alloc, layout, root, device.bus, addr, true)?);
         }
         Sites::of(alloc, places)
     }
 
     /// The places, by number.
-    pub fn as_slice(&self) -> &[Place]
+    pub fn as_slice(&self) -> &[TargetPlace]
         ensures { result.now ≡ self.now }
     {
         self.places.as_slice()
@@ -90,7 +90,7 @@ impl Sites {
 }
 
 /// For each address the numbers of those at it.
-fn by_address(alloc: Global, places: &[Place]) -> Result<Vec<Vec<u16>>, AllocError>
+fn by_address(alloc: Global, places: &[TargetPlace]) -> Result<Vec<Vec<u16>>, AllocError>
     requires { length places.now ≤ MOST_DEVICES }
     ensures { IfOk result (λ at. map (λ numbers. numbers.items) at.items ≡ map (numbers_at places.now) (range_with_len 0 128)) }
 {
@@ -112,8 +112,12 @@ fn of_nobody(alloc: Global) -> Result<Vec<Vec<u16>>, AllocError>
     Ok(at)
 }
 
-/// Puts the number of the next target behind the others at its address, where it has one.
-fn list_number(at: &mut Vec<Vec<u16>>, places: &[Place], number: u16) -> Result<(), AllocError>
+/// Puts the number of the next target after the others at its address, where it has one.
+fn list_number(
+    at: &mut Vec<Vec<u16>>,
+    places: &[TargetPlace],
+    number: u16,
+) -> Result<(), AllocError>
     requires there { number < length places.now }
     requires listed { map (λ numbers. numbers.items) at.old.items ≡ map (numbers_below places.now number) (range_with_len 0 128) }
     ensures { OnOk result (map (λ numbers. numbers.items) at.new.items ≡ map (numbers_below places.now (number + 1)) (range_with_len 0 128)) }
@@ -125,7 +129,7 @@ fn list_number(at: &mut Vec<Vec<u16>>, places: &[Place], number: u16) -> Result<
 }
 
 /// The target of this number is there, on a bus of the root.
-pub fn is_wired(places: &[Place], number: usize) -> bool
+pub fn is_wired(places: &[TargetPlace], number: usize) -> bool
     ensures { result ≡ wired_at places.now number }
 {
     match places.get(number) {
@@ -135,7 +139,7 @@ pub fn is_wired(places: &[Place], number: usize) -> bool
 }
 
 /// The target of this number has this address.
-pub fn is_at(places: &[Place], number: u16, address: u8) -> bool
+pub fn is_at(places: &[TargetPlace], number: u16, address: u8) -> bool
     ensures { result ≡ has_at address places.now number }
 {
     match places.get(usize::from(number)) {

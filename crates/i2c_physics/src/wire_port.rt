@@ -14,7 +14,7 @@ ghost use Rattle.i2c_physics.specs.BitRigs.{opening_wired, wired};
 
 use bus_lines::BusLines;
 use i2c_base::{Addr, Answer, MuxId, NoMemory, SegId};
-use i2c_bits::{BitPort, PortParts};
+use i2c_bits::{BitPort, ClosedPort};
 use i2c_board::Accepted;
 use ports::{Failed, Port};
 use std::alloc::Global;
@@ -50,7 +50,7 @@ impl WirePort {
     }
 
     /// Its lines, and whether a message was in progress on them.
-    pub(crate) fn into_parts(self) -> PortParts<BusLines>
+    pub(crate) fn into_parts(self) -> ClosedPort<BusLines>
         ensures world { world_at result.lines.rooted result.busy result.lines.bus ≡ self.world }
         ensures counts { result.lines.bus.counts ≡ self.counts }
         ensures faults { self.faults ≡ 0 }
@@ -70,7 +70,7 @@ impl Port for WirePort {
 
     ghost faults = { λ p. p.faults };
 
-    /// It is answered, and is nine clock pulses, or ten where it is a repeated one.
+    /// It is answered, and is nine clock pulses, or ten where it is a repeated one; of one that is too slow the pulses aren't told.
     #[inline(always)]
     fn start(&mut self, addr: Addr, reading: bool) -> Result<Answer, Failed>
         requires phase { MayStart self.old.phase }

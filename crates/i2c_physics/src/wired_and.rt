@@ -8,7 +8,7 @@ ghost use Rattle.i2c_physics.specs.Heard.{numbers_of};
 ghost use Rattle.i2c_physics.specs.Reach.{AreRising, to_those, union_of};
 ghost use Rattle.i2c_physics.specs.Answering.{wired_and_of, start_answer};
 
-use crate::numbers::Numbers;
+use crate::numbers::KindNumbers;
 use crate::reach::Reach;
 use i2c_base::{Answer, Event, Target};
 
@@ -49,7 +49,7 @@ impl WiredAnd {
 }
 
 /// Puts the number of a target before the others, where it acknowledges or holds the clock to do so.
-fn hear(heard: &mut Numbers, number: u16, answer: Answer)
+fn hear(heard: &mut KindNumbers, number: u16, answer: Answer)
     requires { length heard.old < MOST_DEVICES }
     ensures items { heard.new ≡ (if has_heard answer then number ∷ heard.old else heard.old) }
     ensures room { length heard.new ≤ length heard.old + 1 }
@@ -69,7 +69,7 @@ pub fn tell<T: Target>(
     targets: &mut [T],
     numbers: &[u16],
     event: Event,
-    heard: &mut Numbers,
+    heard: &mut KindNumbers,
 ) -> WiredAnd
     requires few { length targets.old ≤ MOST_DEVICES }
     requires rising { AreRising 0 (length targets.old) numbers.now }

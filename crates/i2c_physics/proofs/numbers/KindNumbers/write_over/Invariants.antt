@@ -1,5 +1,5 @@
 use Rattle.std.proofs.Common.{◌≡◌, ◌≤◌, length, take}
-use Rattle.i2c_physics.proofs.numbers.Numbers.write_over.Given as goal
+use Rattle.i2c_physics.proofs.numbers.KindNumbers.write_over.Given as goal
 
 abbrev pub invariant-loop-number : goal.invariant-loop-number
 invariant-loop-number l = record {

@@ -1,5 +1,5 @@
 use Rattle.std.proofs.Common.{◌≡◌, ◌+◌, ◌≤◌, ◌∷◌, length, take}
-use Rattle.i2c_physics.proofs.numbers.Numbers.put_first.Given as goal
+use Rattle.i2c_physics.proofs.numbers.KindNumbers.put_first.Given as goal
 
 abbrev pub invariant-loop-other : goal.invariant-loop-other
 invariant-loop-other l = record {
