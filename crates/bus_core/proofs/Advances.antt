@@ -19,7 +19,7 @@ use Rattle.bus_core.specs.Places.{walk_left, place_of, script_of, scripts_of}
 use Rattle.bus_core.specs.Ready.{IsHeldUpAt}
 use Rattle.bus_core.specs.Runs.{HasMade}
 use Rattle.bus_core.specs.Steps.{IsBlockedAt, HasEndedAt}
-use Rattle.bus_core.specs.declared.parts.CoreParts.{CoreParts}
+use Rattle.bus_core.specs.declared.parts.CoreInside.{CoreInside}
 use Rattle.bus_core.specs.declared.seat.Seat.{Seat}
 use Rattle.bus_core.specs.declared.steps.StepAnswer.{StepAnswer}
 use Rattle.bus_core.specs.declared.steps.StepAnswer.TheVariants as answer
@@ -40,7 +40,7 @@ waits-by P answer.Finished not blocked finished = finished refl
 pub over-none : (v : LocksView) (w : WalkTree) → is_over w ≡ true → next_of v w ≡ None
 over-none v w over = ap (next_of v) (over_ends w over)
 
-module _ {P C S : Type 0} (g : PortGhosts P) (c : CallerGhosts C S) (x : CoreParts P C) (kept : IsKept g c x)
+module _ {P C S : Type 0} (g : PortGhosts P) (c : CallerGhosts C S) (x : CoreInside P C) (kept : IsKept g c x)
     (placed : ArePlaced x.places.items (scripts_of c x.seats.items))
     (caller place : ℕ) (at : slice_get x.places.items caller ≡ Some (Some place)) where
   script_here : (s : S) × (slice_get (scripts_of c x.seats.items) place ≡ Some (caller, s))
@@ -83,7 +83,7 @@ module _ {P C S : Type 0} (g : PortGhosts P) (c : CallerGhosts C S) (x : CorePar
   ended-stuck e tell = (let up = ended-held_up e in stuck-by up.seat up.here up.waits tell)
 
   -- A STEP that was made
-  pub has-made : (new : CoreParts P C) → HasStepped g c place x new → HasMade g c caller x new
+  pub has-made : (new : CoreInside P C) → HasStepped g c place x new → HasMade g c caller x new
   has-made new step =
       let s = there x.seats.items place within in
       record {

@@ -54,7 +54,7 @@ use Rattle.bus_core.specs.Marks.{AreHeld, words_after}
 use Rattle.bus_core.specs.Places.{walk_left, got_by, place_of}
 use Rattle.bus_core.specs.declared.replies.Decided.{Decided}
 use Rattle.bus_core.specs.Seats.{MaySpeak, HasSpoken, MayHear, updates_of}
-use Rattle.bus_core.specs.declared.parts.CoreParts.{CoreParts}
+use Rattle.bus_core.specs.declared.parts.CoreInside.{CoreInside}
 use Rattle.bus_core.specs.declared.seat.Seat.{Seat}
 use Rattle.bus_core.proofs.Kept.{place-here, seated-here}
 use Rattle.bus_core.proofs.ReadsRoom.{reads-room}
@@ -113,7 +113,7 @@ part_low sent more (Call bus ms) w = (let sum : sent + suc more ≡ length ms = 
 part_low sent more (Select h) w = omega arith
 part_low sent more (SwitchOff off) w = omega arith
 
-module _ {P C S : Type 0} (g : PortGhosts P) (c : CallerGhosts C S) (x : CoreParts P C) (kept : IsKept g c x) (place : ℕ) (s : Seat C)
+module _ {P C S : Type 0} (g : PortGhosts P) (c : CallerGhosts C S) (x : CoreInside P C) (kept : IsKept g c x) (place : ℕ) (s : Seat C)
     (here : slice_get x.seats.items place ≡ Some s) where
   abbrev pub b : BoardView
   b = x.board
@@ -301,21 +301,21 @@ spoken-at g b next ports s y here q read now bytes r sent whole =
     }
 
 -- the message that comes next of a seat, which was read at its place
-pub record ComesNext {P C : Type 0} (x : CoreParts P C) (place : ℕ) (next : NextMsg) (s : Seat C) : Type 0 where
+pub record ComesNext {P C : Type 0} (x : CoreInside P C) (place : ℕ) (next : NextMsg) (s : Seat C) : Type 0 where
   pub job : Job
   pub left : ℕ
   pub here : slice_get x.seats.items place ≡ Some s
   pub first : next_of x.locks (walk_left s) ≡ Some (Send job left)
   pub of : IsMessageOf job left next
 
-pub comes-next : {P C : Type 0} (x : CoreParts P C) (place : ℕ) (next : NextMsg) (need : HasMessage x place next) (s : Seat C)
+pub comes-next : {P C : Type 0} (x : CoreInside P C) (place : ℕ) (next : NextMsg) (need : HasMessage x place next) (s : Seat C)
     → s ≡ get_or x.seats.items place s → ComesNext x place next s
 comes-next x place next need s read =
     let comes = read_comes x place (Send need.job need.left) need.comes s read in
     record { job = need.job; left = need.left; here = comes.0; first = comes.1; of = need.of }
 
 -- what was sent on the port that was read there, by what it left of it
-pub said-on : {P C : Type 0} (g : PortGhosts P) (x : CoreParts P C) (next : NextMsg) (s : Seat C) (y : RootPort)
+pub said-on : {P C : Type 0} (g : PortGhosts P) (x : CoreInside P C) (next : NextMsg) (s : Seat C) (y : RootPort)
     → slice_get (root_ports g x.ports.items) s.port ≡ Some y
     → (q : ℕ × P) → q ≡ get_or x.ports.items s.port q
     → (k : CursorView) → k ≡ record { transfer = s.transfer; sent = s.sent; written = s.written; grant = k.grant }

@@ -1,4 +1,4 @@
--- Behind a message of the caller at a place: the settle that it decides, and all that is kept.
+-- After a message of the caller at a place: the settle that it decides, and all that is kept.
 use Rattle.std.proofs.Common.{◌≡◌, ◌⊎◌, ℕ, ◌+◌, ◌≤◌, Bool, true, false, List, [], ◌∷◌, ◌++◌, length, reverse, set, take, Option, Some, refl, sym, ◌∙◌, ap, subst, arith, inl, inr}
 use Rattle.std.specs.Prelude.{slice_get}
 use Rattle.std.proofs.lemmas.List.{reverse-append, append_assoc}
@@ -36,7 +36,7 @@ use Rattle.core_laws.proofs.Laws.{sent-leaves, core-message, core-settled, room-
 use Rattle.bus_core.specs.Kept.{roots_of, IsSeated, IsKept, HasStepped}
 use Rattle.bus_core.specs.Places.{walk_left, place_of}
 use Rattle.bus_core.specs.Seats.{HasSpoken, HasHeard, MaySettle, IsSettledIn}
-use Rattle.bus_core.specs.declared.parts.CoreParts.{CoreParts}
+use Rattle.bus_core.specs.declared.parts.CoreInside.{CoreInside}
 use Rattle.bus_core.specs.declared.seat.Seat.{Seat}
 use Rattle.bus_core.proofs.Kept.{standing, fair, seated-here, kept-whole, stepped-one}
 use Rattle.bus_core.proofs.Converse.{goes, on-bus, calls, call-left, few, words2, is-sent}
@@ -45,7 +45,7 @@ use Rattle.bus_core.proofs.Reseating.{seated_settled}
 use Rattle.bus_core.proofs.Stepped.{roots-stay, stepped-two}
 use Rattle.i2c_base.specs.Need.{bytes_given}
 
-module _ {P C S : Type 0} (g : PortGhosts P) (c : CallerGhosts C S) (x : CoreParts P C) (kept : IsKept g c x) (place : ℕ) (s : Seat C)
+module _ {P C S : Type 0} (g : PortGhosts P) (c : CallerGhosts C S) (x : CoreInside P C) (kept : IsKept g c x) (place : ℕ) (s : Seat C)
     (here : slice_get x.seats.items place ≡ Some s)
     (job : Job) (more : ℕ) (next : NextMsg) (first : next_of x.locks (walk_left s) ≡ Some (Send job more))
     (of : IsMessageOf job more next)
@@ -119,7 +119,7 @@ module _ {P C S : Type 0} (g : PortGhosts P) (c : CallerGhosts C S) (x : CorePar
       ];
     }
 
-    module _ (new : CoreParts P C) (same_board : new.board ≡ x.board) (locks : new.locks ≡ locks2)
+    module _ (new : CoreInside P C) (same_board : new.board ≡ x.board) (locks : new.locks ≡ locks2)
         (ports : root_ports g new.ports.items ≡ sockets2) (start : new.start ≡ x.start) (places : new.places ≡ x.places) where
       sockets : root_ports g new.ports.items ≡ set (root_ports g x.ports.items) s.port said.after
       sockets = ports ∙ said.set_is

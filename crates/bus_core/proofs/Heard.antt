@@ -1,4 +1,4 @@
--- A seat behind a message that it heard, and behind its settle: what is told of its caller, and what it keeps by itself.
+-- A seat after a message that it heard, and after its settle: what is told of its caller, and what it keeps by itself.
 use Rattle.std.proofs.Common.{◌≡◌, ℕ, ◌+◌, ◌<◌, ◌≤◌, Bool, true, false, List, [], ◌∷◌, length, Option, Some, None, refl, sym, ◌∙◌, ap, subst, arith, inl}
 use Rattle.std.specs.Prelude.{slice_get, if◌then◌else◌}
 use Rattle.i2c_base.specs.declared.caller.Caller.{Ghosts as CallerGhosts}
@@ -145,7 +145,7 @@ module _ {C S : Type 0} (c : CallerGhosts C S) (b : BoardView) (v : LocksView) (
         ap (place_of c) went.same ∙ ap (λ (y : WalkTree). record (place_of c s) { tree = y; cut = cut })
         (sym (ap walk_left went.same) ∙ went.walk)
 
-  -- THE SETTLE behind either
+  -- THE SETTLE after either
   module _ (verdict : Option Errno) (t u : Seat C) (settled : HasSettled v verdict t u) where
     pub settled-place : (reply : Reply) → reply_by verdict (Some t.transfer) t.replies.got ≡ reply
         → first_act (walk_left t) ≡ Some (Settle verdict)

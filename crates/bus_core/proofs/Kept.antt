@@ -29,7 +29,7 @@ use Rattle.seg_locks.specs.Locks.{LocksView}
 use Rattle.bus_core.specs.Kept.{roots_of, IsSeated, asks_in, run_of, whole_of, IsKept, HasStepped}
 use Rattle.bus_core.specs.Opening.{IsSetUp, HasRoot}
 use Rattle.bus_core.specs.Places.{place_of, places_of, script_of, scripts_of, script_at, asks_of, left_of}
-use Rattle.bus_core.specs.declared.parts.CoreParts.{CoreParts}
+use Rattle.bus_core.specs.declared.parts.CoreInside.{CoreInside}
 use Rattle.bus_core.specs.declared.seat.Seat.{Seat}
 use Rattle.i2c_base.proofs.ListLemmas.{map_at}
 
@@ -115,7 +115,7 @@ module _ {C S : Type 0} (c : CallerGhosts C S) (tells : Bool) (b : BoardView) (s
         (up.fair.falls a.0 rs t r a.2 fits));
   }
 
-module _ {P C S : Type 0} (g : PortGhosts P) (c : CallerGhosts C S) (x : CoreParts P C) (kept : IsKept g c x) where
+module _ {P C S : Type 0} (g : PortGhosts P) (c : CallerGhosts C S) (x : CoreInside P C) (kept : IsKept g c x) where
   abbrev board : BoardView
   board = x.board
 
@@ -155,7 +155,7 @@ module _ {P C S : Type 0} (g : PortGhosts P) (c : CallerGhosts C S) (x : CorePar
     wired-here rs t asks = kept.set_up.wired place (script_of c s) rs t (map_at (script_of c) x.seats.items place s here) asks
 
     -- THE WHOLE with another seat at the place
-    module _ (new : CoreParts P C) (t : Seat C) (same_board : new.board ≡ x.board) (seats : new.seats.items ≡ set x.seats.items place t)
+    module _ (new : CoreInside P C) (t : Seat C) (same_board : new.board ≡ x.board) (seats : new.seats.items ≡ set x.seats.items place t)
         (number : t.number ≡ s.number) (script : c.script t.caller ≡ c.script s.caller)
         (roots : roots_of new.ports.items ≡ roots_of x.ports.items) where
       pub new-scripts : scripts_of c new.seats.items ≡ scripts_of c x.seats.items
@@ -274,7 +274,7 @@ pub record Standing (place : ℕ) : Type 0 where
   pub n : ℕ
   pub stands : StandsAt whole place p ls n
 
-abbrev pub standing : {P C S : Type 0} (g : PortGhosts P) (c : CallerGhosts C S) (x : CoreParts P C) (kept : IsKept g c x) (place : ℕ)
+abbrev pub standing : {P C S : Type 0} (g : PortGhosts P) (c : CallerGhosts C S) (x : CoreInside P C) (kept : IsKept g c x) (place : ℕ)
     (s : Seat C)
     → slice_get x.seats.items place ≡ Some s → Standing place
 standing g c x kept place s here =

@@ -25,7 +25,7 @@ use Rattle.bus_core.specs.Places.{walk_left, owed_by, got_by, place_of}
 use Rattle.bus_core.specs.Replies.{RepliesView, reply_decided}
 use Rattle.bus_core.specs.declared.replies.Decided.{Decided}
 use Rattle.bus_core.specs.Seats.{WentOn, MayEnd, HasFreed, HasEnded}
-use Rattle.bus_core.specs.declared.parts.CoreParts.{CoreParts}
+use Rattle.bus_core.specs.declared.parts.CoreInside.{CoreInside}
 use Rattle.bus_core.specs.declared.seat.Seat.{Seat}
 use Rattle.bus_core.proofs.Reseating.{seated_on}
 use Rattle.bus_core.proofs.Kept.{standing, fair, seated-here, asks-here, wired-here, kept-whole, stepped-one}
@@ -66,7 +66,7 @@ pub one-owed : (o : Option Decided) (rs : RepliesView) → has_reply (owed_by o 
 one-owed None rs e = absurd (let f : false ≡ true = e in cc)
 one-owed (Some d) rs e = (reply_decided d rs, refl)
 
--- behind its end a seat shows its next transfer, or that there is none
+-- after its end a seat shows its next transfer, or that there is none
 module _ {C S : Type 0} (c : CallerGhosts C S) (b : BoardView) (r : Reply) (s t : Seat C) (ended : HasEnded c b r cut_at.No s t) where
   pub ended-place : (replies : List Reply) → replies ≡ c.taken s.caller ++ r ∷ [] → (x : TransferView) (w : WalkTree) → t.transfer ≡ x
       → walk_left t ≡ w
@@ -76,7 +76,7 @@ module _ {C S : Type 0} (c : CallerGhosts C S) (b : BoardView) (r : Reply) (s t 
       (ap (λ (o : Option Decided). owed_by o t.replies) ended.loaded.undecided) transfer tree ended.loaded.sent
       (ap (λ (o : Option Decided). got_by o t.replies) ended.loaded.undecided ∙ ended.loaded.unread) ended.cut_is
 
-module _ {P C S : Type 0} (g : PortGhosts P) (c : CallerGhosts C S) (x : CoreParts P C) (kept : IsKept g c x) (place : ℕ) (s : Seat C)
+module _ {P C S : Type 0} (g : PortGhosts P) (c : CallerGhosts C S) (x : CoreInside P C) (kept : IsKept g c x) (place : ℕ) (s : Seat C)
     (here : slice_get x.seats.items place ≡ Some s) where
   open standing g c x kept place s here use {run, whole, p, at, ls, n}
 
@@ -88,7 +88,7 @@ module _ {P C S : Type 0} (g : PortGhosts P) (c : CallerGhosts C S) (x : CorePar
     pub take-room : 1 ≤ x.journal.room
     take-room = room-one run whole kept.kept place p at (Take l) first
 
-    module _ (free : holder_in x.locks l ≡ None) (new : CoreParts P C) (t : Seat C) (same_board : new.board ≡ x.board)
+    module _ (free : holder_in x.locks l ≡ None) (new : CoreInside P C) (t : Seat C) (same_board : new.board ≡ x.board)
         (seats : new.seats.items ≡ set x.seats.items place t)
         (went : WentOn x.locks Passed cut_at.No s t) (locks : new.locks ≡ with_holder x.locks l (Some s.number))
         (ports : new.ports ≡ x.ports)
@@ -143,7 +143,7 @@ module _ {P C S : Type 0} (g : PortGhosts P) (c : CallerGhosts C S) (x : CorePar
             (freed.ended ends owed.0 owed.1).number)
         by false goes = ap (λ (y : Seat C). y.number) (freed.on goes).same
 
-    module _ (new : CoreParts P C) (t : Seat C) (same_board : new.board ≡ x.board) (seats : new.seats.items ≡ set x.seats.items place t)
+    module _ (new : CoreInside P C) (t : Seat C) (same_board : new.board ≡ x.board) (seats : new.seats.items ≡ set x.seats.items place t)
         (freed : HasFreed c x.board x.locks (roots_of x.ports.items) s t) (locks : new.locks ≡ with_holder x.locks l None)
         (ports : new.ports ≡ x.ports)
         (entries : new.journal.entries ≡ x.journal.entries ++ entry.Free s.number l ∷ []) (room : new.journal.room + 1 ≡ x.journal.room)

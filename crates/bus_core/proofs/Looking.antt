@@ -1,4 +1,4 @@
--- The looks of all callers behind a step of the one at a place: its own are answered anew, and those of the others stay.
+-- The looks of all callers after a step of the one at a place: its own are answered anew, and those of the others stay.
 use Rattle.std.proofs.Common.{◌≡◌, ℕ, List, Some, set, refl, sym, ◌∙◌, ap, subst, inl, inr}
 use Rattle.std.specs.Prelude.{slice_get}
 use Rattle.i2c_base.specs.declared.caller.Caller.{Ghosts as CallerGhosts}
@@ -23,7 +23,7 @@ use Rattle.bus_core.specs.Looks.{IsLookedAt, AreLooked}
 use Rattle.bus_core.specs.Marks.{words_after}
 use Rattle.bus_core.specs.Places.{walk_left, place_of}
 use Rattle.bus_core.specs.Seats.{HasHeard, IsOn, WentOn, updates_ahead, updates_of}
-use Rattle.bus_core.specs.declared.parts.CoreParts.{CoreParts}
+use Rattle.bus_core.specs.declared.parts.CoreInside.{CoreInside}
 use Rattle.bus_core.specs.declared.seat.Seat.{Seat}
 use Rattle.bus_core.proofs.Kept.{place-here}
 
@@ -94,7 +94,7 @@ went-looked v out cut s m t went same walk route =
 pub route-on : {C : Type 0} (b : BoardView) (s t : Seat C) → t.walk.route ≡ s.walk.route → IsOn b s → IsOn b t
 route-on b s t route on = ap (λ (r : RouteView). r.board) route ∙ on
 
-module _ {P C S : Type 0} (g : PortGhosts P) (c : CallerGhosts C S) (x : CoreParts P C) (kept : IsKept g c x) (place : ℕ) (s : Seat C)
+module _ {P C S : Type 0} (g : PortGhosts P) (c : CallerGhosts C S) (x : CoreInside P C) (kept : IsKept g c x) (place : ℕ) (s : Seat C)
     (here : slice_get x.seats.items place ≡ Some s) (act : Act) (first : next_of x.locks (walk_left s) ≡ Some act)
     (out : ActOutcome) where
   abbrev pub turned : LocksView

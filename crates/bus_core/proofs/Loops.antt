@@ -38,7 +38,7 @@ use Rattle.bus_core.specs.Places.{walk_left, place_of, script_of, scripts_of, sc
 use Rattle.bus_core.specs.Ready.{AreHeldUpBelow, AllHeldUp}
 use Rattle.bus_core.specs.Runs.{HasMade, HasWaited, KeepsSchedule}
 use Rattle.bus_core.specs.State.{AllThrough, state_of}
-use Rattle.bus_core.specs.declared.parts.CoreParts.{CoreParts}
+use Rattle.bus_core.specs.declared.parts.CoreInside.{CoreInside}
 use Rattle.bus_core.specs.declared.seat.Seat.{Seat}
 use Rattle.bus_core.proofs.Advances.{stuck-by}
 use Rattle.bus_core.proofs.Kept.{fair, place-here}
@@ -92,10 +92,10 @@ script-none (x ∷ xs) n none =
     ]
 
 -- what comes of what comes
-pub come-refl : {P C S : Type 0} (g : PortGhosts P) (c : CallerGhosts C S) (x : CoreParts P C) → HasCome g c x x
+pub come-refl : {P C S : Type 0} (g : PortGhosts P) (c : CallerGhosts C S) (x : CoreInside P C) → HasCome g c x x
 come-refl g c x = record { board = refl; start = refl; scripts = refl; roots = refl; places = refl; counted = refl }
 
-pub come-then : {P C S : Type 0} (g : PortGhosts P) (c : CallerGhosts C S) (x y z : CoreParts P C) → HasCome g c x y → HasCome g c y z
+pub come-then : {P C S : Type 0} (g : PortGhosts P) (c : CallerGhosts C S) (x y z : CoreInside P C) → HasCome g c x y → HasCome g c y z
     → HasCome g c x z
 come-then g c x y z a b =
     record {
@@ -107,7 +107,7 @@ come-then g c x y z a b =
       counted = b.counted ∙ a.counted;
     }
 
-module _ {P C S : Type 0} (g : PortGhosts P) (c : CallerGhosts C S) (x : CoreParts P C) (core : IsCore g c x) where
+module _ {P C S : Type 0} (g : PortGhosts P) (c : CallerGhosts C S) (x : CoreInside P C) (core : IsCore g c x) where
   abbrev b : BoardView
   b = x.board
 
@@ -139,7 +139,7 @@ module _ {P C S : Type 0} (g : PortGhosts P) (c : CallerGhosts C S) (x : CorePar
           not-beyond x.places.items m (omega (arith, low, here)) at)
 
   -- the journal keeps to a schedule over a step of the least caller, and over a word's
-  module _ (caller : ℕ) (new : CoreParts P C) (made : HasMade g c caller x new) where
+  module _ (caller : ℕ) (new : CoreInside P C) (made : HasMade g c caller x new) where
     past-is : (t : HasTurn b asks caller x.journal.entries new.journal.entries) → reverse new.journal.entries ≡ past_after past t.turn
     past-is t = ap reverse t.entries ∙ reverse-append x.journal.entries t.turn.entries
 
@@ -221,11 +221,11 @@ module _ {P C S : Type 0} (g : PortGhosts P) (c : CallerGhosts C S) (x : CorePar
       → IsStepwise b MOST_CALLERS asks old
       → (w : ℕ) → IsStuck b asks old w → (left : List ℕ) → KeepsTo b MOST_CALLERS asks words from (w ∷ left) old
       → KeepsTo b MOST_CALLERS asks words from left old)
-      → (caller : ℕ) (new : CoreParts P C) → HasWaited g c caller x new
+      → (caller : ℕ) (new : CoreInside P C) → HasWaited g c caller x new
       → (words : List ℕ) (from : List Entry) (left : List ℕ) → KeepsSchedule g c words from (caller ∷ left) x
       → KeepsSchedule g c words from left new
   waited-keeps law caller new waited words from left keeps =
-      subst (λ (y : CoreParts P C). KeepsSchedule g c words from left y) (sym waited.same)
+      subst (λ (y : CoreInside P C). KeepsSchedule g c words from left y) (sym waited.same)
       (λ tell. law words from past run_fair.plain run_fair.rules run_fair.sends (core.kept.kept.told tell).stepwise caller
       (waited.stuck tell) left (keeps tell))
 
@@ -238,7 +238,7 @@ module _ {P C S : Type 0} (g : PortGhosts P) (c : CallerGhosts C S) (x : CorePar
       → IsStepwise b MOST_CALLERS asks old
       → (w : ℕ) → IsStuck b asks old w → (left : List ℕ) → KeepsTo b MOST_CALLERS asks words from (w ∷ left) old
       → KeepsTo b MOST_CALLERS asks words from left old)
-      → (caller : ℕ) (new : CoreParts P C) (made : Bool) → (made ≡ true → HasMade g c caller x new)
+      → (caller : ℕ) (new : CoreInside P C) (made : Bool) → (made ≡ true → HasMade g c caller x new)
       → (made ≡ false → HasWaited g c caller x new)
       → (words : List ℕ) (from : List Entry) (left : List ℕ) → KeepsSchedule g c words from (caller ∷ left) x
       → HasCome g c x new × KeepsSchedule g c words from left new
@@ -247,7 +247,7 @@ module _ {P C S : Type 0} (g : PortGhosts P) (c : CallerGhosts C S) (x : CorePar
     word-keeps caller new (made refl) steps words from left keeps,
   )
   stepped-or-waited steps passes caller new false made waited words from left keeps = (
-    subst (λ (y : CoreParts P C). HasCome g c x y) (sym (waited refl).same) (come-refl g c x),
+    subst (λ (y : CoreInside P C). HasCome g c x y) (sym (waited refl).same) (come-refl g c x),
     waited-keeps passes caller new (waited refl) words from left keeps,
   )
 

@@ -31,7 +31,7 @@ use Rattle.bus_core.specs.Kept.{roots_of, run_of, whole_of, IsCore}
 use Rattle.bus_core.specs.Opening.{IsSetUp}
 use Rattle.bus_core.specs.Opens.{callers_scripts, MayOpen, IsSeatOf, AreSeated}
 use Rattle.bus_core.specs.Places.{place_of, places_of, script_of, scripts_of, script_at, walk_left, owed_by, got_by}
-use Rattle.bus_core.specs.declared.parts.CoreParts.{CoreParts}
+use Rattle.bus_core.specs.declared.parts.CoreInside.{CoreInside}
 use Rattle.bus_core.specs.declared.replies.Decided.{Decided}
 use Rattle.bus_core.specs.declared.seat.Seat.{Seat}
 use Rattle.bus_core.proofs.Kept.{fair-run, script-own}
@@ -57,7 +57,7 @@ total-lefts c (x ∷ xs) =
     ∙ ap (λ (n : ℕ). c.left (c.script x.1) [] + n) (total-lefts c xs)
     ∙ sym (sum_by-cons (λ (y : ℕ × _). c.left (c.script y.1) []) x xs)
 
-module _ {P C S : Type 0} (p : PortGhosts P) (c : CallerGhosts C S) (x : CoreParts P C) (callers : List (ℕ × C)) (limit : ℕ)
+module _ {P C S : Type 0} (p : PortGhosts P) (c : CallerGhosts C S) (x : CoreInside P C) (callers : List (ℕ × C)) (limit : ℕ)
     (may : MayOpen p c x.board x.ports.items callers limit) (plain : IsPlainBoard x.board) (rules : MeetsRules x.board)
     (seated : AreSeated c x.board (roots_of x.ports.items) callers (length callers) x.seats.items x.places.items) where
   abbrev b : BoardView

@@ -28,7 +28,7 @@ most_size limit m bytes low is = by (is_counted m) (λ e. (is.1 e).2)
     by true short = (let s : m.len ≤ 2 = short refl in omega (arith, low, s))
     by false short = omega arith
 
--- THE NEXT MESSAGE has room behind what was read
+-- THE NEXT MESSAGE has room after what was read
 pub reads-room : (t : TransferView) (sent limit : ℕ) (got bytes : List ℕ) → IsTransfer t.msgs t.out → sent < length t.msgs → limit ≤ 255
     → FitsReads (take sent t.msgs) got
     → length bytes ≤ bytes_most limit (call_message t sent) → length got + length bytes ≤ MOST_BYTES

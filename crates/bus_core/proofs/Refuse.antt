@@ -23,13 +23,13 @@ use Rattle.core_laws.proofs.Laws.{core-lone, core-lone-finished, settle-lone, se
 use Rattle.bus_core.specs.Kept.{roots_of, IsKept, HasStepped}
 use Rattle.bus_core.specs.Places.{walk_left, place_of}
 use Rattle.bus_core.specs.Seats.{MayRefuse, IsRefusedIn}
-use Rattle.bus_core.specs.declared.parts.CoreParts.{CoreParts}
+use Rattle.bus_core.specs.declared.parts.CoreInside.{CoreInside}
 use Rattle.bus_core.specs.declared.seat.Seat.{Seat}
 use Rattle.bus_core.proofs.Kept.{standing, fair, seated-here, asks-here, wired-here, new-scripts, kept-whole}
 use Rattle.bus_core.proofs.Locks.{ended-place}
 use Rattle.bus_laws.proofs.past.StandsFacts.{over_ends}
 
-module _ {P C S : Type 0} (g : PortGhosts P) (c : CallerGhosts C S) (x : CoreParts P C) (kept : IsKept g c x) (place : ℕ) (s : Seat C)
+module _ {P C S : Type 0} (g : PortGhosts P) (c : CallerGhosts C S) (x : CoreInside P C) (kept : IsKept g c x) (place : ℕ) (s : Seat C)
     (here : slice_get x.seats.items place ≡ Some s)
     (errno : Errno) (first : next_of x.locks (walk_left s) ≡ Some (Settle (Some errno))) where
   open standing g c x kept place s here use {run, whole, p, at, ls, n}
@@ -50,7 +50,7 @@ module _ {P C S : Type 0} (g : PortGhosts P) (c : CallerGhosts C S) (x : CorePar
   }
 
   -- IT WAS REFUSED
-  module _ (new : CoreParts P C) (t : Seat C) (same_board : new.board ≡ x.board) (seats : new.seats.items ≡ set x.seats.items place t)
+  module _ (new : CoreInside P C) (t : Seat C) (same_board : new.board ≡ x.board) (seats : new.seats.items ≡ set x.seats.items place t)
       (refused : IsRefusedIn c x.board (roots_of x.ports.items) errno x.journal new.journal s t) (locks : new.locks ≡ x.locks)
       (ports : new.ports ≡ x.ports) (start : new.start ≡ x.start) (places : new.places ≡ x.places) where
     abbrev replies : List Reply

@@ -1,4 +1,4 @@
--- A seat behind two steps on it, by what each of them leaves.
+-- A seat after two steps on it, by what each of them leaves.
 use Rattle.std.proofs.Common.{◌≡◌, ◌⊎◌, ◌<◌, ℕ, ◌+◌, ◌≤◌, true, false, List, [], ◌∷◌, ◌++◌, length, Option, Some, refl, sym, ◌∙◌, ap, subst}
 use Rattle.std.specs.Prelude.{take, sum_by, if◌then◌else◌}
 use Rattle.i2c_base.specs.declared.caller.Caller.{Ghosts as CallerGhosts}
@@ -34,7 +34,7 @@ use Rattle.bus_core.specs.declared.seat.Seat.{Seat}
 use Rattle.bus_core.proofs.There.{there-behind}
 use Rattle.core_laws.specs.Spots.{seen_of}
 
--- a walk that goes on behind a step went on before it
+-- a walk that goes on after a step went on before it
 pub still_going : (v : Slots) (w : WalkTree) (out : ActOutcome) → is_over (rest_of (seen v w) out) ≡ false → is_over w ≡ false
 still_going v Ends out h = absurd (let f : true ≡ false = h in cc)
 still_going v (Look ask next) out h = refl
@@ -138,7 +138,7 @@ module _ {C S : Type 0} (c : CallerGhosts C S) (b : BoardView) (v : LocksView) (
       on.walk on.route
 
 module _ {C S : Type 0} (c : CallerGhosts C S) (b : BoardView) (v : LocksView) (roots : List ℕ) (s m t : Seat C) where
-  -- what has ended the walk behind a step has ended it for the caller
+  -- what has ended the walk after a step has ended it for the caller
   ended_from : (r : Reply) (k : Cut) → HasEnded c b r m.cut m t → m.number ≡ s.number → m.caller ≡ s.caller → m.cut ≡ k
       → m.transfer ≡ s.transfer → HasEnded c b r k s t
   ended_from r k h number caller cut transfer =
@@ -154,7 +154,7 @@ module _ {C S : Type 0} (c : CallerGhosts C S) (b : BoardView) (v : LocksView) (
         stays = λ none. h.stays none ∙ transfer;
       }
 
-  -- behind a lock that is freed a walk goes on, or has ended
+  -- after a lock that is freed a walk goes on, or has ended
   module _ (may : MayEnd c b roots s) (passed : WentOn v Passed cut_at.No s m) where
     pub may_end : MayEnd c b roots m
     may_end =

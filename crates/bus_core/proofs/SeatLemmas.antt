@@ -8,7 +8,7 @@ use Rattle.bus_spec.specs.Walk.{Act}
 use Rattle.core_laws.specs.Steps.{next_of}
 use Rattle.bus_core.specs.Kept.{ComesAt}
 use Rattle.bus_core.specs.Places.{owed_by, walk_left}
-use Rattle.bus_core.specs.declared.parts.CoreParts.{CoreParts}
+use Rattle.bus_core.specs.declared.parts.CoreInside.{CoreInside}
 use Rattle.bus_core.specs.declared.seat.Seat.{Seat}
 use Rattle.bus_core.specs.Replies.{RepliesView, reply_decided}
 use Rattle.bus_core.specs.declared.replies.Decided.{Decided}
@@ -21,7 +21,7 @@ pub there_read : {X : Type 0} (xs : List X) (i : ℕ) (y : X) → i < length xs 
 there_read xs i y low read = slice_get-get_or xs i y low ∙ ap Some (sym read)
 
 -- what comes next at a place comes next of the seat that was read there
-pub read_comes : {P C : Type 0} (x : CoreParts P C) (place : ℕ) (act : Act) (need : ComesAt x place act) (s : Seat C)
+pub read_comes : {P C : Type 0} (x : CoreInside P C) (place : ℕ) (act : Act) (need : ComesAt x place act) (s : Seat C)
     → s ≡ get_or x.seats.items place s
     → (slice_get x.seats.items place ≡ Some s) × (next_of x.locks (walk_left s) ≡ Some act)
 read_comes x place act need s read =

@@ -162,7 +162,7 @@ module _ {C S : Type 0} (c : CallerGhosts C S) (b : BoardView) (roots : List ℕ
               omega (arith, sums, is, left);
         }
 
-  -- behind the last each seat tells of its caller what the caller itself does
+  -- after the last each seat tells of its caller what the caller itself does
   seated-map : {X : Type 0} (f : Seat C → X) (h : ℕ × C → X)
       → ((i : ℕ) (x : ℕ × C) (s : Seat C) → slice_get callers i ≡ Some x → IsFreshSeat c b roots x.0 x.1 s → f s ≡ h x)
       → (seats : List (Seat C)) (places : List (Option ℕ)) → AreSeated c b roots callers (length callers) seats places

@@ -13,12 +13,12 @@ use Rattle.mux_plan.specs.contracts.walk.Walk.TheInside as walk_inside
 use Rattle.mux_plan.specs.contracts.task.Task as task
 use Rattle.mux_plan.specs.contracts.route.Route as route
 use Rattle.mux_plan.specs.contracts.stack.Stack as stack
-use Rattle.mux_plan.specs.contracts.parts.WalkParts as walk_parts
+use Rattle.mux_plan.specs.contracts.parts.WalkState as walk_parts
 use Rattle.bus_journal.specs.contracts.journal.Journal as journal
 use Rattle.seg_locks.specs.contracts.locks.Locks as locks
 use Rattle.bus_core.specs.contracts.replies.Replies as replies
 use Rattle.bus_core.specs.contracts.seat.Seat as seat
-use Rattle.bus_core.specs.contracts.parts.CoreParts as parts
+use Rattle.bus_core.specs.contracts.parts.CoreInside as parts
 use Rattle.bus_core.specs.contracts.bus.BusCore as core
 use Rattle.bus_core.specs.contracts.bus.BusCore.TheInside as core_inside
 

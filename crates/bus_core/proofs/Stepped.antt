@@ -1,4 +1,4 @@
--- A step of two entries, a message or a line step with its settle; and the ports behind a step on one of them.
+-- A step of two entries, a message or a line step with its settle; and the ports after a step on one of them.
 use Rattle.std.proofs.Common.{◌≡◌, ℕ, ◌+◌, true, IsTrue, List, [], ◌∷◌, ◌++◌, length, reverse, map, set, Some, refl, sym, ◌∙◌, ap, arith}
 use Rattle.std.specs.Prelude.{slice_get}
 use Rattle.std.proofs.lemmas.List.{length-append, map-set}
@@ -15,7 +15,7 @@ use Rattle.bus_message.specs.Ports.{RootPort}
 use Rattle.core_laws.proofs.Core.{set_same}
 use Rattle.core_laws.proofs.Laws.{turn-two}
 use Rattle.bus_core.specs.Kept.{roots_of, asks_in, IsKept, HasStepped}
-use Rattle.bus_core.specs.declared.parts.CoreParts.{CoreParts}
+use Rattle.bus_core.specs.declared.parts.CoreInside.{CoreInside}
 use Rattle.bus_core.specs.declared.seat.Seat.{Seat}
 use Rattle.bus_core.proofs.Kept.{new-scripts}
 use Rattle.i2c_base.proofs.ListLemmas.{map_at}
@@ -37,9 +37,9 @@ roots-stay g old new at x y here is root =
     (map_at (λ (z : RootPort). z.root) (root_ports g old) at x here)
     ∙ sockets-roots g old
 
-module _ {P C S : Type 0} (g : PortGhosts P) (c : CallerGhosts C S) (x : CoreParts P C) (kept : IsKept g c x) (place : ℕ) (s : Seat C)
+module _ {P C S : Type 0} (g : PortGhosts P) (c : CallerGhosts C S) (x : CoreInside P C) (kept : IsKept g c x) (place : ℕ) (s : Seat C)
     (here : slice_get x.seats.items place ≡ Some s)
-    (new : CoreParts P C) (t : Seat C) (same_board : new.board ≡ x.board) (seats : new.seats.items ≡ set x.seats.items place t)
+    (new : CoreInside P C) (t : Seat C) (same_board : new.board ≡ x.board) (seats : new.seats.items ≡ set x.seats.items place t)
     (number : t.number ≡ s.number) (script : c.script t.caller ≡ c.script s.caller)
     (roots : roots_of new.ports.items ≡ roots_of x.ports.items) where
   -- A STEP of two entries, of which the second is a settle

@@ -1,4 +1,4 @@
--- A line step of the caller at a place: it may be done, and behind it all is kept, with the settle that it decides.
+-- A line step of the caller at a place: it may be done, and after it all is kept, with the settle that it decides.
 use Rattle.std.proofs.Common.{◌≡◌, ◌⊎◌, ℕ, ◌+◌, ◌<◌, ◌≤◌, Bool, true, false, IsTrue, List, [], ◌∷◌, ◌++◌, length, reverse, set, Option, Some, None, refl, sym, ◌∙◌, ap, subst, arith, inl, inr}
 use Rattle.std.specs.Prelude.{slice_get, unwrap_or}
 use Rattle.std.specs.Option.{option_map}
@@ -49,7 +49,7 @@ use Rattle.bus_core.specs.Kept.{roots_of, IsSeated, IsKept, HasStepped}
 use Rattle.bus_core.specs.Marks.{AreHeld, words_after}
 use Rattle.bus_core.specs.Places.{walk_left, place_of}
 use Rattle.bus_core.specs.Seats.{WentOn, MaySettle, IsSettledIn, updates_of, cut_of_line}
-use Rattle.bus_core.specs.declared.parts.CoreParts.{CoreParts}
+use Rattle.bus_core.specs.declared.parts.CoreInside.{CoreInside}
 use Rattle.bus_core.specs.declared.seat.Seat.{Seat}
 use Rattle.bus_core.proofs.Kept.{standing, fair, seated-here, kept-whole, stepped-one}
 use Rattle.bus_core.proofs.Converse.{port, length-applied, holds_mux, updates-held, switched-on, marks-on}
@@ -77,7 +77,7 @@ no-bytes : (verdict : Option Errno) (err : Errno) (t : Option TransferView) (got
     → length (bytes_given (reply_by verdict t got)) ≡ 0
 no-bytes verdict err t got is = ap (λ (o : Option Errno). length (bytes_given (reply_by o t got))) is
 
-module _ {P C S : Type 0} (g : PortGhosts P) (c : CallerGhosts C S) (x : CoreParts P C) (kept : IsKept g c x) (place : ℕ) (s : Seat C)
+module _ {P C S : Type 0} (g : PortGhosts P) (c : CallerGhosts C S) (x : CoreInside P C) (kept : IsKept g c x) (place : ℕ) (s : Seat C)
     (here : slice_get x.seats.items place ≡ Some s)
     (job : Job) (first : next_of x.locks (walk_left s) ≡ Some (Shift job)) where
   open standing g c x kept place s here use {run, whole, p, at, ls, n}
@@ -193,7 +193,7 @@ module _ {P C S : Type 0} (g : PortGhosts P) (c : CallerGhosts C S) (x : CorePar
           ];
         }
 
-        module _ (new : CoreParts P C) (same_board : new.board ≡ x.board) (locks : new.locks ≡ locks2) (old : RootPort) (now : RootPort)
+        module _ (new : CoreInside P C) (same_board : new.board ≡ x.board) (locks : new.locks ≡ locks2) (old : RootPort) (now : RootPort)
             (port_here : slice_get (root_ports g x.ports.items) s.port ≡ Some old)
             (sockets : root_ports g new.ports.items ≡ set (root_ports g x.ports.items) s.port now)
             (shifted : Shifted g.tells (line_mux job) (line_level job) failed old now) (start : new.start ≡ x.start)

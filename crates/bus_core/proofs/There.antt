@@ -17,11 +17,11 @@ use Rattle.seg_locks.specs.Locks.{LocksView}
 bus-there : (b : BoardView) (t : TransferView) → refusal b t ≡ None → t.bus < buses b
 bus-there b t accepted = ltb-true t.bus (buses b) (refusal-none b t accepted).0
 
--- a refused transfer's walk is over behind its step
+-- a refused transfer's walk is over after its step
 pub lone-ends : (b : BoardView) (v : LocksView) (w : WalkTree) (out : ActOutcome) → IsLone b w → is_over (behind_of v w out) ≡ true
 lone-ends b v w out lone = ap (λ (x : WalkTree). is_over (behind_of v x out)) lone.is
 
--- behind each step
+-- after each step
 pub there-behind : (b : BoardView) (v : LocksView) (bus : ℕ) (w : WalkTree) (out : ActOutcome) → (bus < buses b) ⊎ IsLone b w
     → is_over (behind_of v w out) ≡ false → (bus < buses b) ⊎ IsLone b (behind_of v w out)
 there-behind b v bus w out there goes = elim there [

@@ -30,7 +30,7 @@ use Rattle.bus_core.specs.Runs.{HasMade}
 use Rattle.bus_core.specs.Replies.{RepliesView, reply_decided}
 use Rattle.bus_core.specs.State.{AreHanded, CoreState, CoreTold, has_caller, logs_of, now_in, roots_in, state_of, worlds_of}
 use Rattle.bus_core.specs.Steps.{IsBlockedAt, HasEndedAt}
-use Rattle.bus_core.specs.declared.parts.CoreParts.{CoreParts}
+use Rattle.bus_core.specs.declared.parts.CoreInside.{CoreInside}
 use Rattle.bus_core.specs.declared.replies.Decided.{Decided}
 use Rattle.bus_core.specs.declared.seat.Seat.{Seat}
 use Rattle.bus_core.specs.declared.steps.StepAnswer.{StepAnswer}
@@ -82,7 +82,7 @@ uncalled-told log (p ∷ ps) none =
 
 -- what a core was opened with
 pub opened-with : {P C S : Type 0} (g : PortGhosts P) (c : CallerGhosts C S) (b : BoardView) (ports : List (ℕ × P)) (callers : List (ℕ × C))
-    (limit : ℕ) (x : CoreParts P C)
+    (limit : ℕ) (x : CoreInside P C)
     → IsOpenedWith g c b ports callers limit x → (state_of g c x).opening ≡ opening_of g c b ports callers
 opened-with g c b ports callers limit x is =
     ap (λ (k : BoardView). record (state_of g c x).opening { board = k }) is.board
@@ -90,7 +90,7 @@ opened-with g c b ports callers limit x is =
     ∙ ap (λ (ps : List (ℕ × _)). record (opening_of g c b ports callers) { worlds = worlds_of g.world ps }) is.start
 
 -- what came of a core was opened with the same, and has the same roots
-module _ {P C S : Type 0} (g : PortGhosts P) (c : CallerGhosts C S) (old new : CoreParts P C) (come : HasCome g c old new) where
+module _ {P C S : Type 0} (g : PortGhosts P) (c : CallerGhosts C S) (old new : CoreInside P C) (come : HasCome g c old new) where
   pub opening-same : (state_of g c new).opening ≡ (state_of g c old).opening
   opening-same =
       ap (λ (b : BoardView). record (state_of g c new).opening { board = b }) come.board
@@ -101,18 +101,18 @@ module _ {P C S : Type 0} (g : PortGhosts P) (c : CallerGhosts C S) (old new : C
   roots-same = roots-told g.world new.ports.items ∙ come.roots ∙ sym (roots-told g.world old.ports.items)
 
 -- a step that was made, or wasn't
-pub came-by : {P C S : Type 0} (g : PortGhosts P) (c : CallerGhosts C S) (x new : CoreParts P C) (core : IsCore g c x) (caller place : ℕ)
+pub came-by : {P C S : Type 0} (g : PortGhosts P) (c : CallerGhosts C S) (x new : CoreInside P C) (core : IsCore g c x) (caller place : ℕ)
     → slice_get x.places.items caller ≡ Some (Some place)
     → (r : StepAnswer) → (r ≡ answer.Stepped → HasStepped g c place x new) → ((l : LockId) (h : ℕ) → r ≡ answer.Blocked l h → new ≡ x)
     → (r ≡ answer.Finished → new ≡ x) → HasCome g c x new
 came-by g c x new core caller place at answer.Stepped stepped blocked finished =
     (has-made g c x core.kept core.placed caller place at new (stepped refl)).come
-came-by g c x new core caller place at (answer.Blocked l h) stepped blocked finished = subst (λ (y : CoreParts _ _). HasCome g c x y)
+came-by g c x new core caller place at (answer.Blocked l h) stepped blocked finished = subst (λ (y : CoreInside _ _). HasCome g c x y)
     (sym (blocked l h refl)) (come-refl g c x)
-came-by g c x new core caller place at answer.Finished stepped blocked finished = subst (λ (y : CoreParts _ _). HasCome g c x y)
+came-by g c x new core caller place at answer.Finished stepped blocked finished = subst (λ (y : CoreInside _ _). HasCome g c x y)
     (sym (finished refl)) (come-refl g c x)
 
-pub core-after : {P C S : Type 0} (g : PortGhosts P) (c : CallerGhosts C S) (x new : CoreParts P C) → IsCore g c x → IsKept g c new
+pub core-after : {P C S : Type 0} (g : PortGhosts P) (c : CallerGhosts C S) (x new : CoreInside P C) → IsCore g c x → IsKept g c new
     → AreLooked new.locks new.seats.items → HasCome g c x new → IsCore g c new
 core-after g c x new core kept looked come = record {
   kept = kept;
@@ -121,7 +121,7 @@ core-after g c x new core kept looked come = record {
       (subst (ArePlaced x.places.items) (sym come.scripts) core.placed);
 }
 
-pub added : {P C S : Type 0} (g : PortGhosts P) (c : CallerGhosts C S) (x new : CoreParts P C) (caller : ℕ) → HasMade g c caller x new
+pub added : {P C S : Type 0} (g : PortGhosts P) (c : CallerGhosts C S) (x new : CoreInside P C) (caller : ℕ) → HasMade g c caller x new
     → HasAdded c.asked g.tells caller (state_of g c x) (state_of g c new)
 added g c x new caller made = record { room = made.room; turn = made.turn }
 
@@ -130,7 +130,7 @@ handed : (d : Option Decided) (r : RepliesView) (taken settled : List Reply) →
 handed None r taken settled is = inl (is ∙ append-nil taken)
 handed (Some d) r taken settled is = inr (reply_decided d r, is)
 
-module _ {P C S : Type 0} (g : PortGhosts P) (c : CallerGhosts C S) (x : CoreParts P C) (core : IsCore g c x) where
+module _ {P C S : Type 0} (g : PortGhosts P) (c : CallerGhosts C S) (x : CoreInside P C) (core : IsCore g c x) where
   abbrev state : CoreState S
   state = state_of g c x
 

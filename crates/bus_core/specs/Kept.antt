@@ -22,7 +22,7 @@ use Rattle.ports.specs.declared.port.Port.{Ghosts as PortGhosts}
 use Rattle.bus_core.specs.Looks.{AreLooked}
 use Rattle.bus_core.specs.Opening.{IsSetUp}
 use Rattle.bus_core.specs.Places.{HasCounted, walk_left, places_of, scripts_of, asks_of, left_of}
-use Rattle.bus_core.specs.declared.parts.CoreParts.{CoreParts}
+use Rattle.bus_core.specs.declared.parts.CoreInside.{CoreInside}
 use Rattle.bus_core.specs.declared.seat.Seat.{Seat}
 
 abbrev pub roots_of : {P : Type 0} → List (ℕ × P) → List ℕ
@@ -39,17 +39,17 @@ pub record IsSeated {C S : Type 0} (c : CallerGhosts C S) (b : BoardView) (roots
   pub spare : Covers (c.spare s.caller) (c.owed (c.script s.caller) (c.taken s.caller))
 
 -- what all callers ask for, and have left, by what they were opened with
-abbrev pub asks_in : {P C S : Type 0} → CallerGhosts C S → CoreParts P C → Asks
+abbrev pub asks_in : {P C S : Type 0} → CallerGhosts C S → CoreInside P C → Asks
 asks_in c x = asks_of c.asked (scripts_of c x.seats.items)
 
-abbrev pub left_in : {P C S : Type 0} → CallerGhosts C S → CoreParts P C → ℕ → List Reply → ℕ
+abbrev pub left_in : {P C S : Type 0} → CallerGhosts C S → CoreInside P C → ℕ → List Reply → ℕ
 left_in c x = left_of c.left (scripts_of c x.seats.items)
 
 -- what stays as it is, and where all stand between two steps
-abbrev pub run_of : {P C S : Type 0} → PortGhosts P → CallerGhosts C S → CoreParts P C → Run
+abbrev pub run_of : {P C S : Type 0} → PortGhosts P → CallerGhosts C S → CoreInside P C → Run
 run_of p c x = record { board = x.board; tells = p.tells; asks = asks_in c x; left = left_in c x; callers = MOST_CALLERS }
 
-abbrev pub whole_of : {P C S : Type 0} → PortGhosts P → CallerGhosts C S → CoreParts P C → List (List LockId) → List ℕ → Whole
+abbrev pub whole_of : {P C S : Type 0} → PortGhosts P → CallerGhosts C S → CoreInside P C → List (List LockId) → List ℕ → Whole
 whole_of p c x held owes =
     record {
       past = reverse x.journal.entries;
@@ -63,7 +63,7 @@ whole_of p c x held owes =
     }
 
 -- the whole: what never changes, what is kept of the plain lists, and what each seat keeps
-pub record IsKept {P C S : Type 0} (p : PortGhosts P) (c : CallerGhosts C S) (x : CoreParts P C) : Type 0 where
+pub record IsKept {P C S : Type 0} (p : PortGhosts P) (c : CallerGhosts C S) (x : CoreInside P C) : Type 0 where
   pub owes : List ℕ
   pub held : List (List LockId)
   pub set_up : IsSetUp c.asked c.left c.board x.board (scripts_of c x.seats.items) (roots_of x.ports.items)
@@ -71,25 +71,25 @@ pub record IsKept {P C S : Type 0} (p : PortGhosts P) (c : CallerGhosts C S) (x 
   pub seated : (i : ℕ) (s : Seat C) → slice_get x.seats.items i ≡ Some s → IsSeated c x.board (roots_of x.ports.items) s
 
 -- .. with the looks in front of each caller's next step answered
-pub record IsResting {P C S : Type 0} (p : PortGhosts P) (c : CallerGhosts C S) (x : CoreParts P C) : Type 0 where
+pub record IsResting {P C S : Type 0} (p : PortGhosts P) (c : CallerGhosts C S) (x : CoreInside P C) : Type 0 where
   pub kept : IsKept p c x
   pub looked : AreLooked x.locks x.seats.items
 
 -- this comes next of the caller at a place
-pub record ComesAt {P C : Type 0} (x : CoreParts P C) (place : ℕ) (act : Act) : Type 0 where
+pub record ComesAt {P C : Type 0} (x : CoreInside P C) (place : ℕ) (act : Act) : Type 0 where
   pub seat : Seat C
   pub here : slice_get x.seats.items place ≡ Some seat
   pub next : next_of x.locks (walk_left seat) ≡ Some act
 
 -- this message comes next of it
-pub record HasMessage {P C : Type 0} (x : CoreParts P C) (place : ℕ) (next : NextMsg) : Type 0 where
+pub record HasMessage {P C : Type 0} (x : CoreInside P C) (place : ℕ) (next : NextMsg) : Type 0 where
   pub job : Job
   pub left : ℕ
   pub comes : ComesAt x place (Send job left)
   pub of : IsMessageOf job left next
 
 -- this line step comes next of it
-pub record HasShift {P C : Type 0} (x : CoreParts P C) (place mux level : ℕ) : Type 0 where
+pub record HasShift {P C : Type 0} (x : CoreInside P C) (place mux level : ℕ) : Type 0 where
   pub job : Job
   pub comes : ComesAt x place (Shift job)
   pub of_mux : line_mux job ≡ mux
@@ -104,7 +104,7 @@ pub record HasTurn (b : BoardView) (asks : Asks) (number : ℕ) (old new : List 
 
 -- a step of the caller at a place was made: what was opened is as before, the journal has less room, and where the ports
 -- tell, what it has more is one step of the schedule
-pub record HasStepped {P C S : Type 0} (p : PortGhosts P) (c : CallerGhosts C S) (place : ℕ) (old new : CoreParts P C) : Type 0 where
+pub record HasStepped {P C S : Type 0} (p : PortGhosts P) (c : CallerGhosts C S) (place : ℕ) (old new : CoreInside P C) : Type 0 where
   pub board : new.board ≡ old.board
   pub start : new.start ≡ old.start
   pub scripts : scripts_of c new.seats.items ≡ scripts_of c old.seats.items
@@ -115,8 +115,8 @@ pub record HasStepped {P C S : Type 0} (p : PortGhosts P) (c : CallerGhosts C S)
   pub turn : IsTrue p.tells → (s : Seat C) → slice_get old.seats.items place ≡ Some s
       → HasTurn old.board (asks_in c old) s.number old.journal.entries new.journal.entries
 
--- .. and all is kept behind it
-pub record HasMadeStep {P C S : Type 0} (p : PortGhosts P) (c : CallerGhosts C S) (place : ℕ) (old new : CoreParts P C) : Type 0 where
+-- .. and all is kept after it
+pub record HasMadeStep {P C S : Type 0} (p : PortGhosts P) (c : CallerGhosts C S) (place : ℕ) (old new : CoreInside P C) : Type 0 where
   pub rests : IsResting p c new
   pub stepped : HasStepped p c place old new
 
@@ -127,13 +127,13 @@ pub record ArePlaced {S : Type 0} (places : List (Option ℕ)) (scripts : List (
   pub named : (place n : ℕ) (s : S) → slice_get scripts place ≡ Some (n, s) → slice_get places n ≡ Some (Some place)
 
 -- the core between two steps
-pub record IsCore {P C S : Type 0} (p : PortGhosts P) (c : CallerGhosts C S) (x : CoreParts P C) : Type 0 where
+pub record IsCore {P C S : Type 0} (p : PortGhosts P) (c : CallerGhosts C S) (x : CoreInside P C) : Type 0 where
   pub kept : IsKept p c x
   pub looked : AreLooked x.locks x.seats.items
   pub placed : ArePlaced x.places.items (scripts_of c x.seats.items)
 
 -- one core came from another: what was opened is as before, and the journal has as many entries more as it has less room
-pub record HasCome {P C S : Type 0} (p : PortGhosts P) (c : CallerGhosts C S) (old new : CoreParts P C) : Type 0 where
+pub record HasCome {P C S : Type 0} (p : PortGhosts P) (c : CallerGhosts C S) (old new : CoreInside P C) : Type 0 where
   pub board : new.board ≡ old.board
   pub start : new.start ≡ old.start
   pub scripts : scripts_of c new.seats.items ≡ scripts_of c old.seats.items

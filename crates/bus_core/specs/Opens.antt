@@ -19,7 +19,7 @@ use Rattle.bus_core.specs.Opening.{Opening, HasRoot}
 use Rattle.bus_core.specs.Places.{scripts_of}
 use Rattle.bus_core.specs.Seats.{IsLoaded}
 use Rattle.bus_core.specs.State.{taken_of}
-use Rattle.bus_core.specs.declared.parts.CoreParts.{CoreParts}
+use Rattle.bus_core.specs.declared.parts.CoreInside.{CoreInside}
 use Rattle.bus_core.specs.declared.seat.Seat.{Seat}
 use Rattle.i2c_base.specs.declared.reply.Reply.{Reply}
 use Rattle.i2c_base.specs.Transfer.{TransferView}
@@ -107,7 +107,7 @@ pub record AreSeated {C S : Type 0} (c : CallerGhosts C S) (b : BoardView) (root
 
 -- it was opened with these, and nothing was done yet
 pub record IsOpenedWith {P C S : Type 0} (p : PortGhosts P) (c : CallerGhosts C S) (b : BoardView) (ports : List (ℕ × P))
-    (callers : List (ℕ × C)) (limit : ℕ) (x : CoreParts P C) : Type 0 where
+    (callers : List (ℕ × C)) (limit : ℕ) (x : CoreInside P C) : Type 0 where
   pub board : x.board ≡ b
   pub ports_are : x.ports.items ≡ ports
   pub start : x.start.value.items ≡ ports

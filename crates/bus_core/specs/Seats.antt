@@ -40,7 +40,7 @@ use Rattle.bus_message.specs.declared.message.MsgResult.{MsgResult}
 use Rattle.bus_core.specs.declared.seat.Seat.{Seat}
 use Rattle.i2c_base.specs.Need.{bytes_given}
 
--- it went on in its walk behind a step with this outcome, and its caller's last entry tells this cut
+-- it went on in its walk after a step with this outcome, and its caller's last entry tells this cut
 pub record WentOn {C : Type 0} (v : LocksView) (out : ActOutcome) (cut : Cut) (s t : Seat C) : Type 0 where
   pub same : t ≡ record s { walk = t.walk; cut = cut }
   pub walk : walk_left t ≡ behind_of v (walk_left s) out
@@ -70,7 +70,7 @@ updates_ahead out s = updates_after (first_act (looked_of s.walk)) (first_note (
 abbrev pub updates_of : {C : Type 0} → LocksView → ActOutcome → Seat C → List MuxUpdate
 updates_of v out s = updates_after (next_of v (walk_left s)) (first_note (seen (slots_of (seen_of v)) (walk_left s))) out
 
--- it went on behind a step with this outcome; the looks in front of its next one are open
+-- it went on after a step with this outcome; the looks in front of its next one are open
 pub record HasAdvanced {C : Type 0} (out : ActOutcome) (s t : Seat C) : Type 0 where
   pub same : t ≡ record s { walk = t.walk }
   pub route : t.walk.route ≡ s.walk.route
@@ -84,7 +84,7 @@ pub record HasLooked {C : Type 0} (v : LocksView) (s t : Seat C) : Type 0 where
   pub route : t.walk.route ≡ s.walk.route
   pub walk : walk_left t ≡ walk_left s
 
--- both, behind a lock or a settle
+-- both, after a lock or a settle
 pub record HasPassed {C : Type 0} (v : LocksView) (s t : Seat C) : Type 0 where
   pub went : WentOn v Passed cut_at.No s t
   pub looked : IsLookedAt v t
@@ -103,7 +103,7 @@ pub record IsLoaded {C S : Type 0} (c : CallerGhosts C S) (b : BoardView) (t : S
   pub undecided : t.decided ≡ None
   pub unread : t.replies.got ≡ []
 
--- behind the last step of a walk its reply was handed over, and the next transfer is loaded
+-- after the last step of a walk its reply was handed over, and the next transfer is loaded
 pub record HasEnded {C S : Type 0} (c : CallerGhosts C S) (b : BoardView) (r : Reply) (cut : Cut) (s t : Seat C) : Type 0 where
   pub number : t.number ≡ s.number
   pub cut_is : t.cut ≡ cut
@@ -124,7 +124,7 @@ pub record MayEnd {C S : Type 0} (c : CallerGhosts C S) (b : BoardView) (roots :
   pub wired : (rs : List Reply) (t : TransferView) → c.asked (c.script s.caller) rs ≡ Some t → t.bus < buses b
       → HasRoot roots (root_of b t.bus)
 
--- behind a lock that was freed: the walk goes on, or has ended
+-- after a lock that was freed: the walk goes on, or has ended
 pub record HasFreed {C S : Type 0} (c : CallerGhosts C S) (b : BoardView) (v : LocksView) (roots : List ℕ) (s t : Seat C) : Type 0 where
   pub on : is_over (behind_of v (walk_left s) Passed) ≡ false → WentOn v Passed cut_at.No s t
   pub ended : is_over (behind_of v (walk_left s) Passed) ≡ true → (r : Reply) → owed_by s.decided s.replies ≡ r ∷ []
@@ -143,7 +143,7 @@ abbrev pub got_heard : Purpose → Bool → List ℕ → List ℕ → List ℕ
 got_heard purpose.Call reading bytes got = if reading then got ++ bytes else got
 got_heard (purpose.Control m) reading bytes got = got
 
--- it heard a message, and went on behind it: one of the caller's that went through is counted
+-- it heard a message, and went on after it: one of the caller's that went through is counted
 pub record HasHeard {C : Type 0} (v : LocksView) (next : NextMsg) (bytes : List ℕ) (r : MsgResult) (s t : Seat C) : Type 0 where
   pub same : t ≡ record s {
     walk = t.walk;
@@ -162,7 +162,7 @@ pub record HasHeard {C : Type 0} (v : LocksView) (next : NextMsg) (bytes : List 
 abbrev pub cut_of_line : Bool → Cut
 cut_of_line failed = if failed then cut_at.Way else cut_at.No
 
--- .. by whatever lock words answer its looks, and these marks it changes; and so behind a line step
+-- .. by whatever lock words answer its looks, and these marks it changes; and so after a line step
 pub record HearsOut {C : Type 0} (next : NextMsg) (bytes : List ℕ) (r : MsgResult) (ds : List MuxUpdate) (s t : Seat C) : Type 0 where
   pub heard : (v : LocksView) → IsLookedAt v s → HasHeard v next bytes r s t
   pub updates : ds ≡ updates_ahead (walk.Sent r.end bytes) s
@@ -173,7 +173,7 @@ pub record LinesOut {C : Type 0} (failed : Bool) (ds : List MuxUpdate) (s t : Se
   pub updates : ds ≡ updates_ahead (walk.Lined failed) s
   pub fresh : IsFresh t.walk
 
--- its reply was settled, and it went on behind the settle
+-- its reply was settled, and it went on after the settle
 pub record HasSettled {C : Type 0} (v : LocksView) (verdict : Option Errno) (s t : Seat C) : Type 0 where
   pub same : t ≡ record s { walk = t.walk; replies = t.replies; decided = t.decided; cut = cut_at.No }
   pub owed : owed_by t.decided t.replies ≡ reply_by verdict (Some s.transfer) s.replies.got ∷ []

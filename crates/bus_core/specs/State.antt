@@ -16,7 +16,7 @@ use Rattle.core_laws.specs.Spots.{LocksTold}
 use Rattle.seg_locks.specs.Locks.{LocksView}
 use Rattle.bus_core.specs.Opening.{Opening}
 use Rattle.bus_core.specs.Places.{scripts_of, asks_of}
-use Rattle.bus_core.specs.declared.parts.CoreParts.{CoreParts}
+use Rattle.bus_core.specs.declared.parts.CoreInside.{CoreInside}
 use Rattle.bus_core.specs.declared.seat.Seat.{Seat}
 
 -- what it was opened with; each caller's number with the replies that it was handed; the journal and the lock words; and
@@ -38,7 +38,7 @@ logs_of log ports = map (λ (p : ℕ × _). (p.0, log p.1)) ports
 abbrev pub taken_of : {C S : Type 0} → CallerGhosts C S → List (Seat C) → List (ℕ × List Reply)
 taken_of c seats = map (λ s. (s.number, c.taken s.caller)) seats
 
-abbrev pub state_of : {P C S : Type 0} → PortGhosts P → CallerGhosts C S → CoreParts P C → CoreState S
+abbrev pub state_of : {P C S : Type 0} → PortGhosts P → CallerGhosts C S → CoreInside P C → CoreState S
 state_of p c x =
     record {
       opening = record { board = x.board; scripts = scripts_of c x.seats.items; worlds = worlds_of p.world x.start.value.items };

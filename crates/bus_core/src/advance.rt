@@ -1,4 +1,4 @@
-//! How a seat goes on behind each kind of step.
+//! How a seat goes on after each kind of step.
 ghost use Rattle.std.specs.Prelude.{◌≡◌, true, false, Option, Some};
 ghost use Rattle.i2c_base.specs.declared.errno.Errno.{Errno};
 ghost use Rattle.bus_spec.specs.Walk.{Settle};
@@ -36,7 +36,7 @@ impl<C: Caller> Seat<C> {
         self.end(board, ports);
     }
 
-    /// .. behind a message, of which this came; tells what it changes of the lock words. The looks in front of its next
+    /// .. after a message, of which this came; tells what it changes of the lock words. The looks in front of its next
     /// action are still to be answered.
     #[inline(always)]
     pub fn message_done(
@@ -59,7 +59,7 @@ impl<C: Caller> Seat<C> {
         self.advance_walk(&outcome);
     }
 
-    /// .. behind a line step, which may have failed.
+    /// .. after a line step, which may have failed.
     pub fn line_done(&mut self, failed: bool, updates: &mut MuxUpdates)
         requires { IsStep self.old.walk.looked }
         ensures { LinesOut failed updates.new.items self.old self.new }

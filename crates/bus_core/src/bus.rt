@@ -10,7 +10,7 @@ ghost use Rattle.bus_core.specs.State.{AllThrough, CoreTold, has_caller, roots_i
 ghost use Rattle.bus_core.specs.declared.steps.StepAnswer.TheVariants as answer;
 
 use crate::opening::open;
-use crate::parts::CoreParts;
+use crate::parts::CoreInside;
 use crate::readiness::ready;
 use crate::running::{finish, follow};
 use crate::seat::Seat;
@@ -26,7 +26,7 @@ use std::marker::Model;
 /// handed, the journal, the lock words, and the worlds and logs of its ports.
 #[derive(Drop)]
 pub struct BusCore<'b, P: Port, C: Caller> {
-    parts: CoreParts<'b, P, C>,
+    parts: CoreInside<'b, P, C>,
 }
 
 impl<'b, P: Port, C: Caller> Model for BusCore<'b, P, C> {
@@ -42,7 +42,7 @@ impl<'b, P: Port, C: Caller> Model for BusCore<'b, P, C> {
 
 /// What is left of a core that was taken apart.
 #[derive(Drop)]
-pub struct Parts<P, C> {
+pub struct ClosedCore<P, C> {
     /// The ports, each with its root, in the order in which the core was opened with them.
     pub ports: Vec<(SegId, P)>,
     /// The callers on their seats, each with its number, in that order.
@@ -55,7 +55,7 @@ impl<'b, P: Port, C: Caller> BusCore<'b, P, C> {
     /// taken no reply, over a board that all of them were opened with. `limit` covers all steps that the callers may ask
     /// for; the journal has room for so many entries, and for twice as many bytes.
     ///
-    /// Want of memory drops the ports and the callers. From then on nothing takes memory.
+    /// Being out of memory drops the ports and the callers. From then on nothing takes memory.
     pub fn open(
         alloc: Global,
         board: &'b Accepted,
@@ -143,14 +143,14 @@ impl<'b, P: Port, C: Caller> BusCore<'b, P, C> {
     }
 
     /// Takes the core apart. It takes no memory.
-    pub fn take_apart(self) -> Parts<P, C>
+    pub fn take_apart(self) -> ClosedCore<P, C>
         ensures scripts { scripts_of C.Caller result.seats.items ≡ self.entry.opening.scripts }
         ensures taken { taken_of C.Caller result.seats.items ≡ self.entry.taken }
         ensures worlds { worlds_of P.world result.ports.items ≡ self.entry.worlds }
         ensures logs { logs_of P.log result.ports.items ≡ self.entry.logs }
         ensures journal { result.journal ≡ self.entry.journal }
     {
-        Parts {
+        ClosedCore {
             ports: self.parts.ports,
             seats: self.parts.seats,
             journal: self.parts.journal,

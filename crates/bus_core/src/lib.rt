@@ -20,7 +20,7 @@ mod running;
 mod seat;
 mod steps;
 
-pub use bus::{BusCore, Parts};
+pub use bus::{BusCore, ClosedCore};
 pub use replies::{Decided, Replies};
 pub use seat::Seat;
 pub use steps::StepAnswer;

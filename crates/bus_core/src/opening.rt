@@ -9,7 +9,7 @@ ghost use Rattle.bus_core.specs.Kept.{IsCore, roots_of};
 ghost use Rattle.bus_core.specs.Opens.{numbers_in, MayOpen, IsOpenedWith, IsFreshSeat, AreSeated};
 ghost use Rattle.bus_core.specs.Places.{HasRoom};
 
-use crate::parts::CoreParts;
+use crate::parts::CoreInside;
 use crate::seat::Seat;
 use bus_journal::Journal;
 use i2c_base::{ByteList, Caller, MOST_CALLERS, NoMemory, SegId};
@@ -84,14 +84,14 @@ fn seats_of<P: Port, C: Caller>(
 /// taken no reply, over a board that all of them were opened with. `limit` covers all steps that the callers may ask
 /// for; the journal has room for so many entries, and for twice as many bytes.
 ///
-/// Want of memory drops the ports and the callers. From then on nothing takes memory.
+/// Being out of memory drops the ports and the callers. From then on nothing takes memory.
 pub fn open<'b, P: Port, C: Caller>(
     alloc: Global,
     board: &'b Accepted,
     ports: Vec<(SegId, P)>,
     callers: Vec<(u8, C)>,
     limit: u32,
-) -> Result<CoreParts<'b, P, C>, NoMemory>
+) -> Result<CoreInside<'b, P, C>, NoMemory>
     requires { MayOpen P.Port C.Caller board.now ports.items callers.items limit }
     ensures core { IfOk result (IsCore P.Port C.Caller) }
     ensures opened { IfOk result (IsOpenedWith P.Port C.Caller board.now ports.items callers.items limit) }
@@ -104,7 +104,7 @@ pub fn open<'b, P: Port, C: Caller>(
     let locks = Locks::open(alloc, depths.as_slice(), roots, muxes)?;
     let mut board = CachedBoard::open(alloc, board)?;
     let (seats, places) = seats_of(alloc, &mut board, ports.as_slice(), callers)?;
-    Ok(CoreParts {
+    Ok(CoreInside {
         board,
         ports,
         seats,

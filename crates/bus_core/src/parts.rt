@@ -9,7 +9,7 @@ use std::snapshot::Snapshot;
 
 /// The parts of the core.
 #[derive(Drop)]
-pub struct CoreParts<'b, P, C> {
+pub struct CoreInside<'b, P, C> {
     pub board: CachedBoard<'b>,
     /// The ports, each with its root.
     pub ports: Vec<(SegId, P)>,

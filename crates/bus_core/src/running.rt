@@ -8,14 +8,14 @@ ghost use Rattle.bus_core.specs.Ready.{IsCallerHeldUp, AllHeldUp, HasPlace};
 ghost use Rattle.bus_core.specs.Runs.{HasMade, HasMadeLeast, HasWaited, KeepsSchedule};
 ghost use Rattle.bus_core.specs.State.{AllThrough, state_of};
 
-use crate::parts::CoreParts;
+use crate::parts::CoreInside;
 use crate::steps::{StepAnswer, step};
 use bus_laws::a_loop_follows;
 use i2c_base::{Caller, MOST_CALLERS};
 use ports::Port;
 
 /// Makes the next step of a caller, if it can make one; tells whether it did.
-pub fn advance<P: Port, C: Caller>(parts: &mut CoreParts<'_, P, C>, caller: u8) -> bool
+pub fn advance<P: Port, C: Caller>(parts: &mut CoreInside<'_, P, C>, caller: u8) -> bool
     requires core { IsCore P.Port C.Caller parts.old }
     requires has { HasPlace parts.old.places.items caller }
     ensures core { IsCore P.Port C.Caller parts.new }
@@ -33,7 +33,7 @@ pub fn advance<P: Port, C: Caller>(parts: &mut CoreParts<'_, P, C>, caller: u8) 
 }
 
 // The script of the caller of this number is used up, or there is no such caller.
-fn is_through<P: Port, C: Caller>(parts: &CoreParts<'_, P, C>, number: u8) -> bool
+fn is_through<P: Port, C: Caller>(parts: &CoreInside<'_, P, C>, number: u8) -> bool
     requires core { IsCore P.Port C.Caller parts.now }
     requires known { number < MOST_CALLERS }
     ensures through { result ≡ true → IsCallerHeldUp parts.now number }
@@ -46,7 +46,7 @@ fn is_through<P: Port, C: Caller>(parts: &CoreParts<'_, P, C>, number: u8) -> bo
 }
 
 // Makes the next step of the least caller that can make one; tells whether there is one.
-fn advance_least<P: Port, C: Caller>(parts: &mut CoreParts<'_, P, C>) -> bool
+fn advance_least<P: Port, C: Caller>(parts: &mut CoreInside<'_, P, C>) -> bool
     requires core { IsCore P.Port C.Caller parts.old }
     ensures core { IsCore P.Port C.Caller parts.new }
     ensures made { result ≡ true → HasMadeLeast P.Port C.Caller parts.old parts.new }
@@ -61,7 +61,7 @@ fn advance_least<P: Port, C: Caller>(parts: &mut CoreParts<'_, P, C>) -> bool
 }
 
 /// Steps the least caller that can make a step, until none can: then each script is used up.
-pub fn finish<P: Port, C: Caller>(parts: &mut CoreParts<'_, P, C>)
+pub fn finish<P: Port, C: Caller>(parts: &mut CoreInside<'_, P, C>)
     requires core { IsCore P.Port C.Caller parts.old }
     ensures core { IsCore P.Port C.Caller parts.new }
     ensures come { HasCome P.Port C.Caller parts.old parts.new }
@@ -75,7 +75,7 @@ pub fn finish<P: Port, C: Caller>(parts: &mut CoreParts<'_, P, C>)
 
 /// Steps the callers by a schedule of their numbers, a word of a caller that is blocked or used up passed over; and
 /// then the least that can make a step, until each script is used up.
-pub fn follow<P: Port, C: Caller>(parts: &mut CoreParts<'_, P, C>, words: &[u8])
+pub fn follow<P: Port, C: Caller>(parts: &mut CoreInside<'_, P, C>, words: &[u8])
     requires core { IsCore P.Port C.Caller parts.old }
     requires words { All (HasPlace parts.old.places.items) words.now }
     ensures core { IsCore P.Port C.Caller parts.new }

@@ -35,7 +35,7 @@ use crate::marks::seen as words_of;
 use crate::replies::{Decided, Replies};
 use bus_journal::EntryRef;
 use bus_message::{MsgResult, TransferCursor};
-use i2c_base::{Caller, Cut, End, Errno, Grant, Kind, Purpose, SegId, Transfer};
+use i2c_base::{Caller, Cut, End, Errno, Grant, Purpose, SegId, Transfer, TransferKind};
 use i2c_board::{Board, CachedBoard};
 use mux_plan::{Action, MuxUpdates, NextMsg, Outcome, Walk};
 use ports::Port;
@@ -62,7 +62,7 @@ pub struct Seat<C> {
     pub cut: Cut,
 }
 
-// The cut that a message tells for a settle directly behind it: where the transfer was cut off by a failed call on
+// The cut that a message tells for a settle directly after it: where the transfer was cut off by a failed call on
 // the port, on its way or in its own messages.
 fn cut_by(purpose: Purpose, part: u8, end: End) -> Cut
     requires { 0 < part }
@@ -100,7 +100,7 @@ impl<C: Caller> Seat<C> {
         ensures on { IsOn board.now result }
         ensures unused { IsUnused result }
     {
-        let transfer = Transfer::new(0, Kind::Plain, false);
+        let transfer = Transfer::new(0, TransferKind::Plain, false);
         let walk = Walk::ended(board, &transfer);
         Seat {
             number,
@@ -134,7 +134,7 @@ impl<C: Caller> Seat<C> {
         self.walk.settles()
     }
 
-    /// Which marks and kept channels change behind its next action, where it has this outcome, in the place of what `updates`
+    /// Which marks and kept channels change after its next action, where it has this outcome, in the place of what `updates`
     /// had.
     #[inline(always)]
     pub fn updates(&self, outcome: &Outcome<'_>, updates: &mut MuxUpdates)
@@ -144,7 +144,7 @@ impl<C: Caller> Seat<C> {
         self.walk.updates(outcome, updates);
     }
 
-    /// Goes on in its walk behind its next action, which had this outcome. The looks in front of the one that comes then are
+    /// Goes on in its walk after its next action, which had this outcome. The looks in front of the one that comes then are
     /// still to be answered.
     #[inline(always)]
     pub fn advance_walk(&mut self, outcome: &Outcome<'_>)
@@ -164,7 +164,7 @@ impl<C: Caller> Seat<C> {
         self.walk.look(board.board(), &words_of(locks));
     }
 
-    /// Goes on in its walk behind a lock or a settle, which tell no cut and change no mark.
+    /// Goes on in its walk after a lock or a settle, which tell no cut and change no mark.
     #[inline(always)]
     pub fn lock_done(&mut self, board: &CachedBoard<'_>, locks: &Locks)
         requires looked { IsLookedAt locks.now self.old }

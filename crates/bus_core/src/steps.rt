@@ -11,7 +11,7 @@ ghost use Rattle.bus_core.specs.Steps.{IsBlockedAt, HasEndedAt};
 ghost use Rattle.bus_core.specs.declared.steps.StepAnswer.TheVariants as answer;
 
 use crate::marks::set_marks;
-use crate::parts::CoreParts;
+use crate::parts::CoreInside;
 use bus_journal::{EntryRef, Head};
 use bus_message::{MsgResult, send_next, shift_line};
 use i2c_base::{Caller, Errno, LockId, MuxId};
@@ -42,7 +42,7 @@ fn message_entry<'a>(caller: u8, next: &NextMsg, msg: &MsgResult, bytes: &'a [u8
 }
 
 // Takes the lock that comes next, which is free.
-fn take<P: Port, C: Caller>(parts: &mut CoreParts<'_, P, C>, place: usize, lock: &LockId)
+fn take<P: Port, C: Caller>(parts: &mut CoreInside<'_, P, C>, place: usize, lock: &LockId)
     requires rests { IsResting P.Port C.Caller parts.old }
     requires next { ComesAt parts.old place (act.Take lock.now) }
     requires free { holder_in parts.old.locks lock.now ≡ None }
@@ -62,7 +62,7 @@ fn take<P: Port, C: Caller>(parts: &mut CoreParts<'_, P, C>, place: usize, lock:
 }
 
 // Frees the lock that comes next. Where that ends the walk, the reply is handed over, and the next transfer is loaded.
-fn free<P: Port, C: Caller>(parts: &mut CoreParts<'_, P, C>, place: usize, lock: &LockId)
+fn free<P: Port, C: Caller>(parts: &mut CoreInside<'_, P, C>, place: usize, lock: &LockId)
     requires rests { IsResting P.Port C.Caller parts.old }
     requires next { ComesAt parts.old place (act.Free lock.now) }
     ensures { HasMadeStep P.Port C.Caller place parts.old parts.new }
@@ -82,7 +82,7 @@ fn free<P: Port, C: Caller>(parts: &mut CoreParts<'_, P, C>, place: usize, lock:
 
 // Sends the message that comes next, with its entry, and the settle that it decides.
 fn send_and_record<P: Port, C: Caller>(
-    parts: &mut CoreParts<'_, P, C>,
+    parts: &mut CoreInside<'_, P, C>,
     place: usize,
     next: &NextMsg,
 )
@@ -105,7 +105,7 @@ fn send_and_record<P: Port, C: Caller>(
 }
 
 // Makes the line step that comes next, with its entry, and the settle that it decides where it fails.
-fn switch<P: Port, C: Caller>(parts: &mut CoreParts<'_, P, C>, place: usize, mux: MuxId, level: u8)
+fn switch<P: Port, C: Caller>(parts: &mut CoreInside<'_, P, C>, place: usize, mux: MuxId, level: u8)
     requires rests { IsResting P.Port C.Caller parts.old }
     requires next { HasShift parts.old place mux level }
     ensures { HasMadeStep P.Port C.Caller place parts.old parts.new }
@@ -129,8 +129,12 @@ fn switch<P: Port, C: Caller>(parts: &mut CoreParts<'_, P, C>, place: usize, mux
 }
 
 // Settles the refused transfer of the caller at a place, and loads its next one. A settle without an error stands
-// directly behind its message, so none comes by itself.
-fn refuse<P: Port, C: Caller>(parts: &mut CoreParts<'_, P, C>, place: usize, verdict: Option<Errno>)
+// directly after its message, so none comes by itself.
+fn refuse<P: Port, C: Caller>(
+    parts: &mut CoreInside<'_, P, C>,
+    place: usize,
+    verdict: Option<Errno>,
+)
     requires rests { IsResting P.Port C.Caller parts.old }
     requires next { ComesAt parts.old place (act.Settle verdict) }
     ensures { HasMadeStep P.Port C.Caller place parts.old parts.new }
@@ -159,7 +163,7 @@ pub enum StepAnswer {
 /// Makes the next step of the caller at a place: takes or frees a lock, sends a message or sets a line, with the settle
 /// that it decides, or settles a transfer that is refused. Nothing is done where it is blocked, or its script is used
 /// up.
-pub fn step<P: Port, C: Caller>(parts: &mut CoreParts<'_, P, C>, place: usize) -> StepAnswer
+pub fn step<P: Port, C: Caller>(parts: &mut CoreInside<'_, P, C>, place: usize) -> StepAnswer
     requires rests { IsResting P.Port C.Caller parts.old }
     requires there { place < length parts.old.seats.items }
     ensures rests { IsResting P.Port C.Caller parts.new }

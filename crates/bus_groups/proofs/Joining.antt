@@ -22,7 +22,7 @@ use Rattle.bus_core.specs.Opens.{numbers_in, callers_scripts, opening_of}
 use Rattle.bus_core.specs.Opening.{Opening}
 use Rattle.bus_core.specs.Places.{scripts_of, script_of, script_at}
 use Rattle.bus_core.specs.State.{CoreState, CoreTold, AllThrough, roots_in, has_caller, worlds_of, taken_of}
-use Rattle.bus_core.specs.declared.bus.Parts.{Parts}
+use Rattle.bus_core.specs.declared.bus.ClosedCore.{ClosedCore}
 use Rattle.bus_core.specs.declared.seat.Seat.{Seat}
 use Rattle.bus_core.proofs.Told.{roots-told, has-by}
 use Rattle.bus_spec.specs.Readings.{caller_of}
@@ -177,7 +177,7 @@ apart-by f g hs a d less fs gs = λ i is. by i (f i) refl is
     by i false e is = e
 
 module _ {P C S : Type 0} (p : PortGhosts P) (c : CallerGhosts C S) (b : BoardView) where
-  is-left : (x : Parts P C) (v : CoreState S) → v.opening.board ≡ b → IsLeftOf p c v x → v ≡ left_of p c b x v
+  is-left : (x : ClosedCore P C) (v : CoreState S) → v.opening.board ≡ b → IsLeftOf p c v x → v ≡ left_of p c b x v
   is-left x v board l =
       ap (λ (k : BoardView). record v { opening = record v.opening { board = k } }) board
       ∙ ap (λ (ss : List (ℕ × S)). record v { opening = record v.opening { board = b; scripts = ss } }) (sym l.scripts)
@@ -205,10 +205,10 @@ module _ {P C S : Type 0} (p : PortGhosts P) (c : CallerGhosts C S) (b : BoardVi
         logs = ls;
       }) (sym l.logs)
 
-  again-told : (x : Parts P C) (u v : CoreState S) → CoreTold c.asked (left_of p c b x u) → IsTold c.asked (left_of p c b x v)
+  again-told : (x : ClosedCore P C) (u v : CoreState S) → CoreTold c.asked (left_of p c b x u) → IsTold c.asked (left_of p c b x v)
   again-told x u v t = record { stepwise = t.stepwise; rests = t.rests; worlds = t.worlds; logs = t.logs }
 
-  again-through : (x : Parts P C) (u v : CoreState S) → AllThrough c.asked p.tells (left_of p c b x u)
+  again-through : (x : ClosedCore P C) (u v : CoreState S) → AllThrough c.asked p.tells (left_of p c b x u)
       → AllThrough c.asked p.tells (left_of p c b x v)
   again-through x u v h = λ i n rs at. (let t = h i n rs at in record { asks = t.asks; walk = t.walk; settled = t.settled })
 
@@ -216,7 +216,7 @@ module _ {P C S : Type 0} (p : PortGhosts P) (c : CallerGhosts C S) (b : BoardVi
   firsts = map (λ (w : ℕ × World). w.0)
 
   -- a share that was opened, ran, and was taken apart
-  one-ran : (s : Share P C) (o n : Option (CoreState S)) (x : Parts P C) → IsOpenedWith p c b s o → HasRun c.asked p.tells o n → AreLeftOf p c n x
+  one-ran : (s : Share P C) (o n : Option (CoreState S)) (x : ClosedCore P C) → IsOpenedWith p c b s o → HasRun c.asked p.tells o n → AreLeftOf p c n x
       → CameOut p c b s.ports.items s.callers.items x
   one-ran s None n x opened ran left = absurd opened
   one-ran s (Some v) None x opened ran left = absurd ran
@@ -231,7 +231,7 @@ module _ {P C S : Type 0} (p : PortGhosts P) (c : CallerGhosts C S) (b : BoardVi
         through = λ u. again-through x w u (subst (AllThrough c.asked p.tells) same ran.through);
       }
 
-  pub all-ran : (ss : List (Share P C)) (os ns : List (Option (CoreState S))) (xs : List (Parts P C)) → AllZip (λ s o. IsOpenedWith p c b s o) ss os
+  pub all-ran : (ss : List (Share P C)) (os ns : List (Option (CoreState S))) (xs : List (ClosedCore P C)) → AllZip (λ s o. IsOpenedWith p c b s o) ss os
       → AllZip (λ o n. HasRun c.asked p.tells o n) os ns → AllZip (λ n x. AreLeftOf p c n x) ns xs
       → AllZip (λ s x. CameOut p c b s.ports.items s.callers.items x) ss xs
   all-ran [] [] [] [] a r l = tt
@@ -258,11 +258,11 @@ module _ {P C S : Type 0} (p : PortGhosts P) (c : CallerGhosts C S) (b : BoardVi
     scripts = callers_scripts c callers
 
     -- each is left of the share of its home
-    abbrev AreRan : ℕ → List (Parts P C) → Type 0
+    abbrev AreRan : ℕ → List (ClosedCore P C) → Type 0
     AreRan h [] = Unit {0}
     AreRan h (x ∷ xs) = CameOut p c b (of_home rh h ports) (of_home ch h callers) x × AreRan (h + 1) xs
 
-    ran-from : (ss : List (Share P C)) (xs : List (Parts P C)) (h n : ℕ)
+    ran-from : (ss : List (Share P C)) (xs : List (ClosedCore P C)) (h n : ℕ)
         → map (λ s. s.ports.items) ss ≡ map (λ k. of_home rh k ports) (range_with_len h n)
         → map (λ s. s.callers.items) ss ≡ map (λ k. of_home ch k callers) (range_with_len h n)
         → AllZip (λ s x. CameOut p c b s.ports.items s.callers.items x) ss xs → AreRan h xs
@@ -277,21 +277,21 @@ module _ {P C S : Type 0} (p : PortGhosts P) (c : CallerGhosts C S) (b : BoardVi
     )
 
     module _ (v : CoreState S) where
-      abbrev left : Parts P C → CoreState S
+      abbrev left : ClosedCore P C → CoreState S
       left x = left_of p c b x v
 
-      part-scripts : (h : ℕ) (x : Parts P C) → CameOut p c b (of_home rh h ports) (of_home ch h callers) x
+      part-scripts : (h : ℕ) (x : ClosedCore P C) → CameOut p c b (of_home rh h ports) (of_home ch h callers) x
           → scripts_of c x.seats.items ≡ of_home ch h scripts
       part-scripts h x came = came.scripts ∙ map-of (λ (y : ℕ × C). (y.0, c.script y.1)) ch h callers
 
-      part-roots : (h : ℕ) (x : Parts P C) → CameOut p c b (of_home rh h ports) (of_home ch h callers) x
+      part-roots : (h : ℕ) (x : ClosedCore P C) → CameOut p c b (of_home rh h ports) (of_home ch h callers) x
           → roots_in (left x) ≡ roots_of (of_home rh h ports)
       part-roots h x came = roots-told p.world x.ports.items ∙ came.roots
 
       once : AreDistinct (map (λ (s : ℕ × S). s.0) scripts)
       once = subst AreDistinct (sym (map-map (λ (s : ℕ × S). s.0) (λ (y : ℕ × C). (y.0, c.script y.1)) callers)) runs.may.distinct
 
-      of-group : (h : ℕ) (x : Parts P C) → CameOut p c b (of_home rh h ports) (of_home ch h callers) x → IsOfGroup c.asked p.tells b scripts (left x)
+      of-group : (h : ℕ) (x : ClosedCore P C) → CameOut p c b (of_home rh h ports) (of_home ch h callers) x → IsOfGroup c.asked p.tells b scripts (left x)
       of-group h x came =
           record {
             board = refl;
@@ -308,7 +308,7 @@ module _ {P C S : Type 0} (p : PortGhosts P) (c : CallerGhosts C S) (b : BoardVi
             through = came.through v;
           }
 
-      root-home : (h : ℕ) (x : Parts P C) → CameOut p c b (of_home rh h ports) (of_home ch h callers) x → (r : ℕ)
+      root-home : (h : ℕ) (x : ClosedCore P C) → CameOut p c b (of_home rh h ports) (of_home ch h callers) x → (r : ℕ)
           → has_root (roots_in (left x)) r ≡ true → slice_get rh r ≡ Some h
       root-home h x came r is =
           let k = any-from (roots_of (of_home rh h ports)) r (subst (λ (rs : List ℕ). has_root rs r ≡ true) (part-roots h x came) is) in
@@ -317,7 +317,7 @@ module _ {P C S : Type 0} (p : PortGhosts P) (c : CallerGhosts C S) (b : BoardVi
           let n = counts (roots_of ports) many f.0 q.0.0 roots (map_at (λ (y : ℕ × P). y.0) ports f.0 q.0 f.1) in
           ap (slice_get rh) (sym q.2 ∙ n.0) ∙ f.2
 
-      who-home : (h : ℕ) (x : Parts P C) → CameOut p c b (of_home rh h ports) (of_home ch h callers) x → (n : ℕ)
+      who-home : (h : ℕ) (x : ClosedCore P C) → CameOut p c b (of_home rh h ports) (of_home ch h callers) x → (n : ℕ)
           → has_caller (scripts_of c x.seats.items) n ≡ true → slice_get ch n ≡ Some h
       who-home h x came n is =
           let k = found (of_home ch h scripts) n (subst (λ (ss : List (ℕ × S)). has_caller ss n ≡ true) (part-scripts h x came) is) in
@@ -326,11 +326,11 @@ module _ {P C S : Type 0} (p : PortGhosts P) (c : CallerGhosts C S) (b : BoardVi
           let m = counts (numbers_in callers) (length masks) f.0 q.0.0 runs.numbers (map_at (λ (y : ℕ × C). y.0) callers f.0 q.0 q.1) in
           ap (slice_get ch) (ap (λ (s : ℕ × S). s.0) (sym q.2) ∙ m.0) ∙ f.2
 
-      groups-from : (h : ℕ) (xs : List (Parts P C)) → AreRan h xs → AreOfGroups c.asked p.tells b scripts (map left xs)
+      groups-from : (h : ℕ) (xs : List (ClosedCore P C)) → AreRan h xs → AreOfGroups c.asked p.tells b scripts (map left xs)
       groups-from h [] are = tt
       groups-from h (x ∷ xs) are = (of-group h x are.0, groups-from (h + 1) xs are.1)
 
-      from-rest : (a d : ℕ) (x : Parts P C) (xs : List (Parts P C)) → a < d → CameOut p c b (of_home rh a ports) (of_home ch a callers) x
+      from-rest : (a d : ℕ) (x : ClosedCore P C) (xs : List (ClosedCore P C)) → a < d → CameOut p c b (of_home rh a ports) (of_home ch a callers) x
           → AreRan d xs → IsApartFrom (part_of c.asked (left x)) (map (part_of c.asked) (map left xs))
       from-rest a d x [] less came are = tt
       from-rest a d x (y ∷ ys) less came are = (
@@ -342,15 +342,15 @@ module _ {P C S : Type 0} (p : PortGhosts P) (c : CallerGhosts C S) (b : BoardVi
         from-rest a (d + 1) x ys (omega (arith, less)) came are.1,
       )
 
-      apart-from : (h : ℕ) (xs : List (Parts P C)) → AreRan h xs → ArePartsApart (map (part_of c.asked) (map left xs))
+      apart-from : (h : ℕ) (xs : List (ClosedCore P C)) → AreRan h xs → ArePartsApart (map (part_of c.asked) (map left xs))
       apart-from h [] are = tt
       apart-from h (x ∷ xs) are = (from-rest h (h + 1) x xs (omega arith) are.0 are.1, apart-from (h + 1) xs are.1)
 
-      joined-entries : (xs : List (Parts P C)) → flat_map (λ y. y.journal.entries) xs ≡ joined (map (part_of c.asked) (map left xs))
+      joined-entries : (xs : List (ClosedCore P C)) → flat_map (λ y. y.journal.entries) xs ≡ joined (map (part_of c.asked) (map left xs))
       joined-entries [] = refl
       joined-entries (x ∷ xs) = ap (λ (es : List Entry). x.journal.entries ++ es) (joined-entries xs)
 
-      whole : (x : Parts P C) (xs : List (Parts P C)) → x.ports.items ≡ joined_by rh (map (λ y. y.ports.items) xs)
+      whole : (x : ClosedCore P C) (xs : List (ClosedCore P C)) → x.ports.items ≡ joined_by rh (map (λ y. y.ports.items) xs)
           → x.seats.items ≡ joined_by ch (map (λ y. y.seats.items) xs) → x.journal.entries ≡ flat_map (λ y. y.journal.entries) xs
           → IsWhole b c.asked (map left xs) (left x)
       whole x xs ps ss es =
@@ -410,7 +410,7 @@ module _ {P C S : Type 0} (p : PortGhosts P) (c : CallerGhosts C S) (b : BoardVi
 
     -- THE END: all came out as of one core
     pub came-out : IsTree b → (count_ports : length ports ≡ many) → (count : length callers ≡ length masks) → All (λ h. h < many) ch
-        → (ss : List (Share P C)) (xs : List (Parts P C)) (x : Parts P C) → map (λ s. s.ports.items) ss ≡ parts_by rh many ports
+        → (ss : List (Share P C)) (xs : List (ClosedCore P C)) (x : ClosedCore P C) → map (λ s. s.ports.items) ss ≡ parts_by rh many ports
         → map (λ s. s.callers.items) ss ≡ parts_by ch many callers
         → AllZip (λ s y. CameOut p c b s.ports.items s.callers.items y) ss xs
         → x.ports.items ≡ joined_by rh (map (λ y. y.ports.items) xs) → x.seats.items ≡ joined_by ch (map (λ y. y.seats.items) xs)
@@ -445,7 +445,7 @@ module _ {P C S : Type 0} (p : PortGhosts P) (c : CallerGhosts C S) (b : BoardVi
         }
 
     -- of each home's journal all entries are of callers of that home
-    homes-own : (v : CoreState S) (h : ℕ) (x : Parts P C) → CameOut p c b (of_home rh h ports) (of_home ch h callers) x
+    homes-own : (v : CoreState S) (h : ℕ) (x : ClosedCore P C) → CameOut p c b (of_home rh h ports) (of_home ch h callers) x
         → IsOwn (part_of c.asked (left v x)) → AreOfHome (caller_home_at rh masks) h x.journal.entries
     homes-own v h x came own =
         each-own (λ e. caller_home_at rh masks (caller_of e) ≡ h) (λ n. has_caller (scripts_of c x.seats.items) n) x.journal.entries
@@ -454,7 +454,7 @@ module _ {P C S : Type 0} (p : PortGhosts P) (c : CallerGhosts C S) (b : BoardVi
         ap (caller_home rh) (get_or_from_slice_get masks (caller_of e) m.0 0 m.1) ∙ m.2) own
 
     -- the journals of the homes from this one on, one after the other
-    from-home : (v : CoreState S) (h : ℕ) (xs : List (Parts P C)) → AreRan h xs → AreOwn (map (part_of c.asked) (map (left v) xs))
+    from-home : (v : CoreState S) (h : ℕ) (xs : List (ClosedCore P C)) → AreRan h xs → AreOwn (map (part_of c.asked) (map (left v) xs))
         → AreFrom (caller_home_at rh masks) h (flat_map (λ y. y.journal.entries) xs)
     from-home v h [] are own = λ i e at. absurd (let f : None ≡ Some e = at in cc)
     from-home v h (x ∷ xs) are own =
@@ -462,7 +462,7 @@ module _ {P C S : Type 0} (p : PortGhosts P) (c : CallerGhosts C S) (b : BoardVi
         (λ i e at. let is = homes-own v h x are.0 own.0 i e at in omega (arith, is))
         (λ i e at. let le = from-home v (h + 1) xs are.1 own.1 i e at in omega (arith, le))
 
-    by-homes : (v : CoreState S) (h : ℕ) (xs : List (Parts P C)) → AreRan h xs → AreOwn (map (part_of c.asked) (map (left v) xs))
+    by-homes : (v : CoreState S) (h : ℕ) (xs : List (ClosedCore P C)) → AreRan h xs → AreOwn (map (part_of c.asked) (map (left v) xs))
         → AreByHomes (caller_home_at rh masks) (flat_map (λ y. y.journal.entries) xs)
     by-homes v h [] are own = λ i j e f le at to. absurd (let g : None ≡ Some e = at in cc)
     by-homes v h (x ∷ xs) are own =
@@ -471,7 +471,7 @@ module _ {P C S : Type 0} (p : PortGhosts P) (c : CallerGhosts C S) (b : BoardVi
 
     -- the groups' journals stand one after the other
     pub are-groups : IsTree b → (v : CoreState S) → IsTrue p.tells
-        → (ss : List (Share P C)) (xs : List (Parts P C)) (x : Parts P C) → map (λ s. s.ports.items) ss ≡ parts_by rh many ports
+        → (ss : List (Share P C)) (xs : List (ClosedCore P C)) (x : ClosedCore P C) → map (λ s. s.ports.items) ss ≡ parts_by rh many ports
         → map (λ s. s.callers.items) ss ≡ parts_by ch many callers
         → AllZip (λ s y. CameOut p c b s.ports.items s.callers.items y) ss xs
         → x.ports.items ≡ joined_by rh (map (λ y. y.ports.items) xs) → x.seats.items ≡ joined_by ch (map (λ y. y.seats.items) xs)

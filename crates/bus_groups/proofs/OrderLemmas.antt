@@ -33,13 +33,13 @@ each-own P who (x ∷ xs) gives own (suc i) e at =
     (subst (Everywhere (λ e before. who (caller_of e) ≡ true)) (reverse-append (x ∷ []) xs) own) in
     each-own P who xs gives parts.0 i e at
 
--- entries behind others, where all of them are from a home on
+-- entries after others, where all of them are from a home on
 pub from-both : (home : ℕ → ℕ) (h : ℕ) (xs ys : List Entry) → AreFrom home h xs → AreFrom home h ys → AreFrom home h (xs ++ ys)
 from-both home h [] ys first then i e at = then i e at
 from-both home h (x ∷ xs) ys first then zero e at = first zero e at
 from-both home h (x ∷ xs) ys first then (suc i) e at = from-both home h xs ys (λ k f to. first (suc k) f to) then i e at
 
--- entries of one home, and behind them those of greater homes
+-- entries of one home, and after them those of greater homes
 pub by-both : (home : ℕ → ℕ) (h : ℕ) (xs ys : List Entry) → AreOfHome home h xs → AreFrom home h ys → AreByHomes home ys
     → AreByHomes home (xs ++ ys)
 by-both home h [] ys own from sorted i j e f le at to = sorted i j e f le at to

@@ -213,7 +213,7 @@ cost_elsewhere homes costs h i low same other =
     ∙ ap (λ b. cond b (get_or costs i 0) 0 + cost_of_home (drop (i + 1) homes) h (drop (i + 1) costs)) (ne_eqb (get_or homes i 0) h other) in
     omega (arith, more)
 
--- and behind the last place
+-- and after the last place
 no-cost : (homes : List ℕ) (h : ℕ) → cost_of_home homes h [] ≡ 0
 no-cost [] h = refl
 no-cost (k ∷ ks) h = refl

@@ -10,7 +10,7 @@ use Rattle.bus_core.specs.Kept.{roots_of}
 use Rattle.bus_core.specs.Opens.{MayOpen, callers_scripts, numbers_in, opening_of}
 use Rattle.bus_core.specs.Places.{scripts_of}
 use Rattle.bus_core.specs.State.{CoreState, AllThrough, worlds_of, logs_of, taken_of}
-use Rattle.bus_core.specs.declared.bus.Parts.{Parts}
+use Rattle.bus_core.specs.declared.bus.ClosedCore.{ClosedCore}
 use Rattle.bus_journal.specs.View.{JournalView}
 use Rattle.i2c_base.specs.Transfer.{TransferView}
 use Rattle.i2c_spec.specs.Tree.{buses, root_of}
@@ -27,19 +27,19 @@ IsOpenedWith p c b share (Some v) = (v.opening ≡ opening_of p c b share.ports.
     × (v.worlds ≡ worlds_of p.world share.ports.items)
 
 -- the parts that a core is taken apart into
-pub record IsLeftOf {P C S : Type 0} (p : PortGhosts P) (c : CallerGhosts C S) (v : CoreState S) (x : Parts P C) : Type 0 where
+pub record IsLeftOf {P C S : Type 0} (p : PortGhosts P) (c : CallerGhosts C S) (v : CoreState S) (x : ClosedCore P C) : Type 0 where
   pub scripts : scripts_of c x.seats.items ≡ v.opening.scripts
   pub taken : taken_of c x.seats.items ≡ v.taken
   pub worlds : worlds_of p.world x.ports.items ≡ v.worlds
   pub logs : logs_of p.log x.ports.items ≡ v.logs
   pub journal : x.journal ≡ v.journal
 
-abbrev pub AreLeftOf : {P C S : Type 0} → PortGhosts P → CallerGhosts C S → Option (CoreState S) → Parts P C → Type 0
+abbrev pub AreLeftOf : {P C S : Type 0} → PortGhosts P → CallerGhosts C S → Option (CoreState S) → ClosedCore P C → Type 0
 AreLeftOf p c None x = Unit {0}
 AreLeftOf p c (Some v) x = IsLeftOf p c v x
 
 -- what is left of cores, as of one core: its journal is theirs, one after the other
-abbrev pub one_of : {P C : Type 0} → Ran P C → Parts P C
+abbrev pub one_of : {P C : Type 0} → Ran P C → ClosedCore P C
 one_of x =
     record {
       ports = x.ports;
@@ -48,7 +48,7 @@ one_of x =
     }
 
 -- the state of a core over a board that these are left of
-abbrev pub left_of : {P C S : Type 0} → PortGhosts P → CallerGhosts C S → BoardView → Parts P C → CoreState S → CoreState S
+abbrev pub left_of : {P C S : Type 0} → PortGhosts P → CallerGhosts C S → BoardView → ClosedCore P C → CoreState S → CoreState S
 left_of p c b x v =
     record v {
       opening = record v.opening { board = b; scripts = scripts_of c x.seats.items };
@@ -60,7 +60,7 @@ left_of p c b x v =
 
 -- callers and ports came through a run: they are the same, in their order, and what is left of them is as of one core
 pub record CameOut {P C S : Type 0} (p : PortGhosts P) (c : CallerGhosts C S) (b : BoardView) (ports : List (ℕ × P)) (callers : List (ℕ × C))
-    (x : Parts P C) : Type 0 where
+    (x : ClosedCore P C) : Type 0 where
   pub scripts : scripts_of c x.seats.items ≡ callers_scripts c callers
   pub roots : roots_of x.ports.items ≡ roots_of ports
   pub told : (v : CoreState S) → IsTrue p.tells → IsTold c.asked (left_of p c b x v)
@@ -82,8 +82,8 @@ pub record AreBegun {P C S : Type 0} (p : PortGhosts P) (c : CallerGhosts C S) (
 
 -- what is left of the cores is put together
 pub record AreEnded {P C S : Type 0} (p : PortGhosts P) (c : CallerGhosts C S) (roots callers_at : List ℕ) (slots : List (Option (CoreState S)))
-    (x : Parts P C) : Type 0 where
-  pub parts : List (Parts P C)
+    (x : ClosedCore P C) : Type 0 where
+  pub parts : List (ClosedCore P C)
   pub left : AllZip (λ o y. AreLeftOf p c o y) slots parts
   pub ports : x.ports.items ≡ joined_by roots (map (λ y. y.ports.items) parts)
   pub seats : x.seats.items ≡ joined_by callers_at (map (λ y. y.seats.items) parts)

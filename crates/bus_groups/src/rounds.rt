@@ -8,7 +8,7 @@ ghost use Rattle.bus_groups.specs.Shares.{cost_of_home};
 
 use crate::Slot;
 use crate::shares::cost_of_home;
-use bus_core::{BusCore, Parts, Seat};
+use bus_core::{BusCore, ClosedCore, Seat};
 use bus_journal::Journal;
 use i2c_base::{Caller, NoMemory, SegId};
 use i2c_board::Accepted;
@@ -73,8 +73,8 @@ pub fn opened<'b, P: Port, C: Caller>(
 // What is left of the core of each slot, in a list that has room for it.
 pub fn left<'b, P: Port, C: Caller>(
     slots: Vec<Slot<'b, P, C>>,
-    room: Vec<Parts<P, C>>,
-) -> Vec<Parts<P, C>>
+    room: Vec<ClosedCore<P, C>>,
+) -> Vec<ClosedCore<P, C>>
     requires empty { room.items ≡ [] }
     requires room { length slots.items ≤ vec_capacity room }
     requires full { All (λ slot. IsSome slot.core) slots.items }
@@ -98,7 +98,7 @@ pub struct Lists<P, C> {
 }
 
 // Takes the parts of all groups apart, in lists that have room for them.
-pub fn apart<P: Drop, C: Drop>(parts: Vec<Parts<P, C>>, room: Lists<P, C>) -> Lists<P, C>
+pub fn apart<P: Drop, C: Drop>(parts: Vec<ClosedCore<P, C>>, room: Lists<P, C>) -> Lists<P, C>
     requires empty { (room.ports.items ≡ []) × (room.seats.items ≡ []) × (room.journals.items ≡ []) }
     requires room { (length parts.items ≤ vec_capacity room.ports) × (length parts.items ≤ vec_capacity room.seats) × (length parts.items ≤ vec_capacity room.journals) }
     ensures ports { result.ports.items ≡ map (λ x. x.ports) parts.items }
@@ -107,7 +107,7 @@ pub fn apart<P: Drop, C: Drop>(parts: Vec<Parts<P, C>>, room: Lists<P, C>) -> Li
 {
     let mut all = room;
     for part in parts {
-        let Parts {
+        let ClosedCore {
             ports,
             seats,
             journal,

@@ -9,7 +9,7 @@ use crate::homes::{Homes, groups};
 use crate::rounds::{Lists, apart, left, opened, shares};
 use crate::shares::{parted, rejoined};
 use crate::{Slot, run_slots};
-use bus_core::{Parts, Seat};
+use bus_core::{ClosedCore, Seat};
 use bus_journal::Journal;
 use i2c_base::{Caller, NoMemory, SegId};
 use i2c_board::Accepted;
@@ -61,7 +61,7 @@ pub struct Ran<P, C> {
 // Room for what is left of so many cores with so many callers.
 #[derive(Drop)]
 struct Room<P, C> {
-    parts: Vec<Parts<P, C>>,
+    parts: Vec<ClosedCore<P, C>>,
     lists: Lists<P, C>,
     ports: Vec<(SegId, P)>,
     seats: Vec<Seat<C>>,
@@ -132,7 +132,7 @@ fn run_in<'b, P: Port, C: Caller + Send, G: Gate + Sync, H: Threads + Wait + Syn
 /// also through others: what is left is as of one core that ran, and the groups' journals stand one after the other. `masks`
 /// tells of each caller which roots it names, as bits, and `costs` how many steps it may make.
 ///
-/// All memory is taken before the first core runs. Want of memory drops the ports and the callers.
+/// All memory is taken before the first core runs. Being out of memory drops the ports and the callers.
 pub fn run_groups<'b, P: Port, C: Caller + Send, G: Gate + Sync, H: Threads + Wait + Sync>(
     rt: &H,
     alloc: Global,

@@ -186,7 +186,7 @@ count_within whole cut last limit len byte rest before count got w w_new log log
     ∙ ap (λ n. gets world_listener cut last n (with_byte s byte)) (sym rest_is))
     behind world_is log_is r
 
--- the byte behind a count that no block has
+-- the byte after a count that no block has
 abbrev over_next : Option ℕ → World → Said World → TalkTold World
 over_next cut w s = ended world_listener cut true (with_byte s (gives w)) end.Proto
 

@@ -14,7 +14,7 @@ use Rattle.bus_spec.specs.Legal.{start_failed}
 use Rattle.bus_message.specs.Talks.{TellsTalk}
 use Rattle.bus_message.specs.Talks.{Stands, Reaches}
 
--- a place of failure that is behind this one, and this one
+-- a place of failure that is after this one, and this one
 not_here : (cut : Option ℕ) (n : ℕ) → ((k : ℕ) → cut ≡ Some k → n + 1 ≤ k) → is_it cut n ≡ false
 not_here None n behind = refl
 not_here (Some k) n behind = let h = behind k refl in grind (arith, nat_tests)
@@ -31,7 +31,7 @@ cut_after end.Slow n behind k is = absurd (cc)
 cut_after end.Refused n behind k is = absurd (cc)
 cut_after end.Proto n behind k is = absurd (cc)
 
--- where a call behind the start failed, the start itself did not
+-- where a call after the start failed, the start itself did not
 pub started : (e : End) → ((q : ℕ) → e ≡ end.Cut q → 1 ≤ q) → start_failed e ≡ true → ⊥
 started (end.Cut zero) behind f = (let low : 1 ≤ 0 = behind 0 refl in omega (arith, low))
 started (end.Cut (suc q)) behind f = (let h : false ≡ true = f in cc)

@@ -43,7 +43,7 @@ pub record IsStarted {P : Type 0} (p : PortGhosts P) (limit : ℕ) (m : MessageV
   pub none : bytes ≡ []
   pub room : HasRoom p x (bytes_most limit m + 1)
 
--- what any port keeps over a message of at most so many bytes: behind it another may start, and the port is idle
+-- what any port keeps over a message of at most so many bytes: after it another may start, and the port is idle
 -- unless it went through and isn't the last of its transfer
 pub record Spoke (tells last : Bool) (most : ℕ) (bytes : List ℕ) (e : End) (old new : RootPort) : Type 0 where
   pub root : new.root ≡ old.root

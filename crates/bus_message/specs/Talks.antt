@@ -76,8 +76,8 @@ pub record HasFailed (least most faults_old faults_new : ℕ) (e : End) : Type 0
   pub place : (q : ℕ) → e ≡ end.Cut q → (least ≤ q) × (q ≤ most)
   pub cause : (q : ℕ) → e ≡ end.Cut q → Rose faults_old faults_new
 
--- A MESSAGE IN PROGRESS went on to its end on a port: this was left of it, behind so many calls and these bytes, and at
--- most so many bytes were to come. Another may start behind it, and the port is idle unless it went through and isn't the
+-- A MESSAGE IN PROGRESS went on to its end on a port: this was left of it, after so many calls and these bytes, and at
+-- most so many bytes were to come. Another may start after it, and the port is idle unless it went through and isn't the
 -- last of its transfer.
 pub record MessageEnded {P : Type 0} (p : PortGhosts P) (last : Bool) (left : Option ℕ → Said World → TalkTold World) (calls most : ℕ)
     (got : List ℕ) (old new : P) (bytes : List ℕ) (e : End) : Type 0 where

@@ -6,7 +6,7 @@
 //!
 //! Its contract: over a port that tells, the calls, bytes and end of a message are those of its conversation with the
 //! world of the root, counted reads included, whichever call fails; who is told to have heard it has. Over any port:
-//! another message may start behind it, the port is idle unless the message went through and isn't the last of its
+//! another message may start after it, the port is idle unless the message went through and isn't the last of its
 //! transfer, and a read that went through gave all that it asks for. Definitions: `specs/Talks.antt` (a conversation, and
 //! a message in progress), `specs/Ports.antt` (ports as plain data, and what a message and a line step leave of one),
 //! `specs/Cursors.antt` (a transfer partway), `specs/Sends.antt` (the next message of a walk). Standard: UM10204 section

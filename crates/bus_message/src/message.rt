@@ -97,7 +97,7 @@ fn put_all<P: Port>(port: &mut P, bytes: &[u8], last: bool, sent: &mut ByteList)
     through(port, calls, last)
 }
 
-// Gets so many bytes behind those that came, one after the other, and acknowledges each but the last. The message has
+// Gets so many bytes after those that came, one after the other, and acknowledges each but the last. The message has
 // made so many calls before.
 fn get_all<P: Port>(port: &mut P, calls: u16, len: u16, last: bool, got: &mut ByteList) -> End
     requires phase { P.phase port.old ≡ Phase.Reading }
@@ -118,7 +118,7 @@ fn get_all<P: Port>(port: &mut P, calls: u16, len: u16, last: bool, got: &mut By
     through(port, calls + len, last)
 }
 
-// Gets one byte more behind a count that no block has, and ends there.
+// Gets one byte more after a count that no block has, and ends there.
 fn get_one_more<P: Port>(port: &mut P, got: &mut ByteList) -> End
     requires phase { P.phase port.old ≡ Phase.Reading }
     requires one { length got.old ≡ 1 }

@@ -88,7 +88,7 @@ impl<'b, P: Port, C: Caller, N: Naming<C::Script>> Desk<'b, P, C, N> {
         self.held.lock(rt).has(caller)
     }
 
-    // Makes the next step of a caller, and waits while it is blocked; behind the step all that wait are woken. Tells what
+    // Makes the next step of a caller, and waits while it is blocked; after the step all that wait are woken. Tells what
     // the step did; none where the script is used up.
     pub(crate) fn turn<H: Wait>(&self, rt: &H, caller: u8) -> Option<Point>
         requires { has_caller N.opening.scripts caller ≡ true }

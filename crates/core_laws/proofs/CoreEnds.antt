@@ -1,4 +1,4 @@
--- A walk that ends, with the next transfer loaded behind it. No induction.
+-- A walk that ends, with the next transfer loaded after it. No induction.
 use Rattle.std.proofs.Common.{◌≡◌, ℕ, ◌+◌, ◌-◌, ◌≤◌, true, false, List, [], ◌∷◌, ◌++◌, length, set, Option, Some, None, refl, sym, ◌∙◌, ap, subst, inl, arith}
 use Rattle.std.specs.Prelude.{not}
 use Rattle.i2c_base.specs.declared.ids.LockId.{LockId}
@@ -153,7 +153,7 @@ module _ (run : Run) (fair : IsFairRun run) (whole : Whole) (core : CoreKept run
         (sym (ap (begun run.board) none))
         (seat-over run fair p.number replies p.transfer none (n - 1))
 
-  -- A TRANSFER IS REFUSED: its lone settle is its walk, and the next one is loaded behind it
+  -- A TRANSFER IS REFUSED: its lone settle is its walk, and the next one is loaded after it
   module _ (verdict : Option Errno) (first : next_of whole.locks p.tree ≡ Some (Settle verdict)) (rooms : whole.room ≡ room2 + 1)
       (refused : Reply) (decided : refused ≡ reply_by verdict (run.asks p.number p.taken) p.got) where
     lone_its : IsGoing run p n

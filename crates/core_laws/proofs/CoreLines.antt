@@ -127,7 +127,7 @@ module _ (run : Run) (fair : IsFairRun run) (whole : Whole) (core : CoreKept run
           (lined tell) goes words shifted.marked leaves.quiet)
           room2 rooms 0 (omega arith) whole.room_bytes (omega arith)
 
-    -- that failed, with its settle behind it
+    -- that failed, with its settle after it
     module _ (err : Errno) (decides : IsDecided run.board p.transfer (Some err) behind) (unsettled : has_reply p.owed ≡ false)
         (rooms : whole.room ≡ room2 + 2) where
       abbrev pub after_line : WalkTree

@@ -209,7 +209,7 @@ module _ (run : Run) (fair : IsFairRun run) (whole : Whole) (core : CoreKept run
           (said tell) goes words sent.marked leaves.quiet)
           room2 rooms (length bytes) (omega (arith, weight, sent.keeps.few, got-grows job msg.reading bytes p.got)) room_bytes2 rooms_bytes
 
-    -- that decides, with its settle behind it: the caller isn't told yet
+    -- that decides, with its settle after it: the caller isn't told yet
     module _ (verdict : Option Errno) (decides : IsDecided run.board p.transfer verdict behind) (unsettled : has_reply p.owed ≡ false)
         (reply : Reply) (decided : reply ≡ reply_by verdict (Some p.transfer) got)
         (fits : Fits p.transfer reply) (rooms : whole.room ≡ room2 + 2) (room_bytes2 : ℕ)

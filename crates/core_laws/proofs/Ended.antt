@@ -22,7 +22,7 @@ use Rattle.core_laws.proofs.Holding.{home_seen}
 use Rattle.core_laws.proofs.Opens.{none-ready}
 use Rattle.core_laws.specs.Spots.{seen_of}
 
--- a look holds a lock, so a step comes behind it
+-- a look holds a lock, so a step comes after it
 none_over : (b : BoardView) (v : Slots) → ((p : ℕ) → IsMarkOn b p (mark_in (v p).slot)) → (ls : List LockId) (w : WalkTree)
     → HoldsLocks b ls w → first_act (seen v w) ≡ None → is_over w ≡ true
 none_over b v home ls Ends holds none = refl

@@ -1,4 +1,4 @@
--- What a walk holds behind each of its steps, and where its marks are. The inductions go over lists of marks.
+-- What a walk holds after each of its steps, and where its marks are. The inductions go over lists of marks.
 use Rattle.std.proofs.Common.{◌≡◌, ℕ, zero, suc, ◌<◌, Bool, true, false, List, [], ◌∷◌, length, Option, Some, None, cond, eqb, refl, sym, subst, inl, inr, arith}
 use Rattle.std.specs.Prelude.{slice_index_or}
 use Rattle.std.proofs.lemmas.Bool.Decides.{eqb_tells, leb_tells}
@@ -90,7 +90,7 @@ module _ (b : BoardView) (words : SeenView) (home : (p : ℕ) → IsMarkOn b p (
       let h : HoldsLocks b ls (Then (Settle verdict) a.0 a.1) = subst (λ (x : WalkTree). HoldsLocks b ls x) a.2 here in
       subst (λ (x : WalkTree). HoldsLocks b ls (rest_of x Passed)) (sym a.2) h
 
--- THE MARKS behind a message or a line step are of muxes at home
+-- THE MARKS after a message or a line step are of muxes at home
 module _ (b : BoardView) (ls : List LockId) where
   abbrev pub AreHome : Slots → Type 0
   AreHome y = (p : ℕ) → IsMarkOn b p (mark_in (y p).slot)

@@ -21,7 +21,7 @@ is_ok end.Refused = inr (λ h. let f : end.Refused ≡ end.Ok = h in cc)
 is_ok end.Proto = inr (λ h. let f : end.Proto ≡ end.Ok = h in cc)
 is_ok (end.Cut q) = inr (λ h. let f : end.Cut q ≡ end.Ok = h in cc)
 
--- so many went through behind it: one more where it is the caller's and its end is good
+-- so many went through after it: one more where it is the caller's and its end is good
 pub message-leaves : (b : BoardView) (t : TransferView) (v : Slots) (w : WalkTree) (settled : Bool) (sent : ℕ) → IsLeft b t settled sent w
     → (job : Job) (more : ℕ) → first_act (seen v w) ≡ Some (Send job more) → (e : End) (bytes : List ℕ)
     → SendLeaves b t settled (gone_after sent job e) job more e (rest_of (seen v w) (Sent e bytes))

@@ -1,5 +1,5 @@
 -- What lock words tell of kept channels: one channel for each mux, beside one mark for each bus. They answer every look of a
--- walk that holds its locks, and they go on telling it behind each step. The inductions go over walks and over marks.
+-- walk that holds its locks, and they go on telling it after each step. The inductions go over walks and over marks.
 use Rattle.std.proofs.Common.{◌≡◌, ℕ, zero, suc, ◌<◌, Bool, true, false, cond, List, [], ◌∷◌, ◌++◌, length, set, Option, Some, None, refl, sym, ◌∙◌, ap, subst, arith, ◌⊎◌, inl, inr}
 use Rattle.std.specs.Prelude.{slice_index_or}
 use Rattle.std.proofs.lemmas.Bool.{eq-eqb}

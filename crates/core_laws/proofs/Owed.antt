@@ -31,7 +31,7 @@ module _ (b : BoardView) (w : WalkTree) (unsettled : Bool) (behind n : ℕ) (owe
         record { ahead = rest.0; within = rest.2 out; most = omega (arith, low, most) },
       )
 
-  -- .. and the one that ends a walk what its transfer cost: all that is left is for the transfers behind it
+  -- .. and the one that ends a walk what its transfer cost: all that is left is for the transfers after it
   pub owes-end : (weight_at b act ≤ n) × (behind ≤ n - weight_at b act)
   owes-end = (let low : weight_at b act + rest.0 ≤ owes.ahead = rest.1 in let most = owes.most in
       (omega (arith, low, most), omega (arith, low, most)))

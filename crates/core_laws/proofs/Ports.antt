@@ -67,7 +67,7 @@ module _ (b : BoardView) (tells : Bool) (trees : List WalkTree) (place : ℕ) (w
         short = λ tell. (let h = kept.short tell in omega (arith, h, fewer));
       }
 
-  -- every port behind a step that touches none
+  -- every port after a step that touches none
   pub sockets-still : (sockets : List RootPort) (owed less : ℕ) → less ≤ owed
       → ((k : ℕ) (y : RootPort) → slice_get sockets k ≡ Some y → PortKept b tells owed trees y)
       → (v : Slots) (act : Act) → first_act (seen v w) ≡ Some act
@@ -76,7 +76,7 @@ module _ (b : BoardView) (tells : Bool) (trees : List WalkTree) (place : ℕ) (w
   sockets-still sockets owed less fewer kept v act first other k y at =
       still-kept owed less fewer y (kept k y at) (not-inside b v w y.root act first (λ bus ms left is root. other bus ms left is))
 
-  -- every port behind a step on one of them
+  -- every port after a step on one of them
   pub sockets-spoken : (sockets : List RootPort) → AreRooted sockets → (owed less calls : ℕ) → calls + 2 * less ≤ 2 * owed
       → ((k : ℕ) (y : RootPort) → slice_get sockets k ≡ Some y → PortKept b tells owed trees y)
       → (v : Slots) (act : Act) → first_act (seen v w) ≡ Some act → (at : ℕ) (old now : RootPort) → slice_get sockets at ≡ Some old

@@ -113,7 +113,7 @@ module _ (run : Run) (whole : Whole) (core : CoreKept run whole) where
           let short : length old.log + 2 * total whole.owes ≤ MOST_CALLS = (core.sockets_kept at old port).short tell in
           omega (arith, weighs, low, short)
 
-      -- the journal has room for its bytes, and for those of the settle behind it
+      -- the journal has room for its bytes, and for those of the settle after it
       module _ (bytes : List ℕ) (few : length bytes ≤ message_most run.board job more) where
         pub bytes-message : length bytes ≤ whole.room_bytes
         bytes-message = omega (arith, few, weighs, low, core.bytes_left)

@@ -1,4 +1,4 @@
--- A message, a line step and the settle behind them keep what is told of all. No induction.
+-- A message, a line step and the settle after them keep what is told of all. No induction.
 use Rattle.std.proofs.Common.{◌≡◌, ℕ, zero, suc, ◌+◌, ◌<◌, ◌≤◌, Bool, false, cond, List, [], ◌∷◌, ◌++◌, length, reverse, set, Option, Some, None, refl, sym, ◌∙◌, ap, subst, inl, inr, arith}
 use Rattle.std.specs.Prelude.{slice_get, slice_index_or, is_some}
 use Rattle.std.proofs.lemmas.Bool.Decides.{eqb_tells, leb_tells}
@@ -49,7 +49,7 @@ use Rattle.mux_plan.specs.Plans.{ends_with}
 use Rattle.core_laws.proofs.MessageTold.{call-hears, control-hears, call-message, control-message, last-is}
 use Rattle.i2c_base.proofs.ListLemmas.{set_elsewhere}
 
--- who settles next behind a step, by what is left of the walk
+-- who settles next after a step, by what is left of the walk
 abbrev pub due_at : ℕ → Option Act → Option ℕ
 due_at c a = cond (is_due a) (Some c) None
 

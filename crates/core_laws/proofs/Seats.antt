@@ -1,4 +1,4 @@
--- The seat of a caller whose walk goes on behind a step, and behind its settle. No induction.
+-- The seat of a caller whose walk goes on after a step, and after its settle. No induction.
 use Rattle.std.proofs.Common.{◌≡◌, ℕ, ◌-◌, ◌≤◌, Bool, true, false, List, [], ◌∷◌, Option, Some, refl, sym, ◌∙◌, ap, subst, inl}
 use Rattle.std.specs.Prelude.{take, not}
 use Rattle.i2c_base.specs.declared.ids.LockId.{LockId}
@@ -21,13 +21,13 @@ use Rattle.core_laws.proofs.Holding.{holder-goes, holds-settled}
 use Rattle.core_laws.proofs.Owed.{owes-settle}
 use Rattle.core_laws.proofs.WalkSteps.{left-settled}
 
--- what a caller's walk owes, with all that it may ask for behind it
+-- what a caller's walk owes, with all that it may ask for after it
 abbrev pub OwesAt : Run → Place → WalkTree → Bool → ℕ → Type 0
 OwesAt run p w unsettled n = OwesUpTo run.board w unsettled (run.left p.number p.taken - cost_of run.board p.transfer) n
 
 module _ (run : Run) (p : Place) (n : ℕ) (its : IsGoing run p n) (ls : List LockId) (w : WalkTree) (holds : HoldsLocks run.board ls w)
     (gone : ℕ) where
-  -- A WALK THAT GOES ON, behind a step other than its settle
+  -- A WALK THAT GOES ON, after a step other than its settle
   pub seat-behind : is_over w ≡ false → IsLeft run.board p.transfer (has_reply p.owed) gone w → (got : List ℕ)
       → (p.owed ≡ [] → FitsReads (take gone p.transfer.msgs) got) → (has_reply p.owed ≡ true → got ≡ [])
       → (cut : Cut) (less : ℕ) → OwesAt run p w (not (has_reply p.owed)) less

@@ -80,7 +80,7 @@ module _ (b : BoardView) (tree : IsTree b) (plain : IsPlainBoard b) (lines : Lin
         (behind_of v x.tree (Sent msg.end bytes)) refl goes words are.all (marks_by (Send job left) (Sent msg.end bytes) words said.first are)
         (kept_by (Send job left) (Sent msg.end bytes) words said.first are) quiet
 
-    -- a message that decides, and its settle behind it; the caller is told at its walk's end
+    -- a message that decides, and its settle after it; the caller is told at its walk's end
     module _ (verdict : Option Errno) (settles : first_act (behind_of v x.tree (Sent msg.end bytes)) ≡ Some (Settle verdict))
         (unpaid : x.owed ≡ []) (asked : asks x.number x.taken ≡ Some t)
         (reply : Reply) (decided : reply ≡ reply_by verdict (Some t) (got_after job msg.reading bytes x.got))

@@ -40,7 +40,7 @@ seen_act v w act e = ap (λ (x : WalkTree). first_act x) (seen-first v w act e) 
 abbrev pub IsLastCall : Job → ℕ → End → Type 0
 IsLastCall job left e = (bus : ℕ) × (ms : List MessageView) × (job ≡ Call bus ms) × (left ≡ 0) × (e ≡ end.Ok)
 
--- behind a message its settle comes next, or the walk goes on
+-- after a message its settle comes next, or the walk goes on
 abbrev pub SettlesNext : BoardView → TransferView → Bool → Job → ℕ → End → WalkTree → Type 0
 SettlesNext b t settled job left e w = (settled ≡ false) × (verdict : Option Errno) × IsDecided b t verdict w
     × (verdict ≡ None → IsLastCall job left e)

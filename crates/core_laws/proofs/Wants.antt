@@ -94,7 +94,7 @@ module _ (run : Run) (whole : Whole) (core : CoreKept run whole)
       (numbers_of whole.places) whole.held whole.locks core.table core.distinct (holds-at run whole core)
       place p.tree (tree-here run whole core place p here) job first old rooted (core.sockets_kept at old port)
 
-  -- A MESSAGE OR A LINE STEP THAT COMES NEXT has the locks held that it needs, and is done behind the transfer's root
+  -- A MESSAGE OR A LINE STEP THAT COMES NEXT has the locks held that it needs, and is done after the transfer's root
   pub send-wants : (job : Job) (more : ℕ) → next_of whole.locks p.tree ≡ Some (Send job more)
       → SendsIn run.board job (first_note (seen (slots_of (seen_of whole.locks)) p.tree)).marks own.0
   send-wants job more first = (holds-sent run.board (seen_of whole.locks) core.table.home own.0 p.tree seat.holds job more first).0

@@ -36,7 +36,7 @@ use Rattle.core_laws.specs.Steps.{next_of, HasSaid, GivesBytes, KeepsPort, AreMa
 use Rattle.core_laws.specs.Table.{AreDistinct, TableKept}
 use Rattle.mux_plan.specs.Plans.{SeenView}
 
--- a caller with its seat; behind its settle its reply is owed, and it has read nothing more
+-- a caller with its seat; after its settle its reply is owed, and it has read nothing more
 pub record Place : Type 0 where
   pub number : ℕ
   pub taken : List Reply
@@ -75,7 +75,7 @@ pub record IsLone (b : BoardView) (w : WalkTree) : Type 0 where
   pub errno : Errno
   pub is : w ≡ Then (Settle (Some errno)) plain (λ o. Ends)
 
--- what stays as it is while a core runs: its board, whether its ports tell, what each caller asks for behind its replies and
+-- what stays as it is while a core runs: its board, whether its ports tell, what each caller asks for after its replies and
 -- what it has left then, and a bound of the callers' numbers
 pub record Run : Type 0 where
   pub board : BoardView

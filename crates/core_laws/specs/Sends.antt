@@ -1,4 +1,4 @@
--- A message that is sent next is the message of a job, and how many of the caller's went through behind it.
+-- A message that is sent next is the message of a job, and how many of the caller's went through after it.
 use Rattle.std.specs.Prelude.{◌≡◌, ℕ, ◌+◌, if◌then◌else◌}
 use Rattle.i2c_base.specs.declared.entry.End.{End}
 use Rattle.bus_spec.specs.Walk.{Job, job_bus, job_purpose, part_of, parts_of}

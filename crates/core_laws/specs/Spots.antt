@@ -54,7 +54,7 @@ pub record PortTold (n : Now) (x : RootPort) : Type 0 where
   pub world : x.world ≡ n.worlds x.root
   pub log : x.log ≡ reverse (n.calls x.root)
 
--- who settles next: nobody between two steps, the caller of a message that decides behind that message
+-- who settles next: nobody between two steps, the caller of a message that decides after that message
 pub record IsTold (b : BoardView) (callers : ℕ) (asks : Asks) (past : List Entry) (spots : List Spot) (v : LocksView)
     (sockets : List RootPort) (due : Option ℕ) : Type 0 where
   pub stepwise : IsStepwise b callers asks past

@@ -58,7 +58,7 @@ pub record IsLined (b : BoardView) (x : Spot) (v : LocksView) (job : Job) (old n
   pub world : new.world ≡ after old.world (line_call job failed)
   pub log : new.log ≡ old.log ++ line_call job failed ∷ []
 
--- the marks and the kept channels behind a step
+-- the marks and the kept channels after a step
 pub record AreMarked (b : BoardView) (w : WalkTree) (v : LocksView) (out : ActOutcome) (words : SeenView) : Type 0 where
   pub all : length words.marks ≡ buses b
   pub counted : length words.kept ≡ length b.muxes

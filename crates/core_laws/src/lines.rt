@@ -16,7 +16,7 @@ ghost use Rattle.bus_message.specs.Ports.{RootPort};
 ghost use Rattle.core_laws.specs.Steps.{next_of};
 ghost use Rattle.mux_plan.specs.Plans.{SeenView};
 
-/// A line step finds its port idle. What is kept stays so over it, and over one that failed, with its settle behind it.
+/// A line step finds its port idle. What is kept stays so over it, and over one that failed, with its settle after it.
 pub fn the_whole_over_a_line()
     ensures idle { (run : Run) (whole : Whole) → CoreKept run whole → (place : ℕ) (p : Place) → slice_get whole.places place ≡ Some p
         → (job : Job) → next_of whole.locks p.tree ≡ Some (Shift job) → (at : ℕ) (old : RootPort) → slice_get whole.sockets at ≡ Some old → old.root ≡ root_of run.board (job_bus job) → old.phase ≡ Idle }

@@ -22,7 +22,7 @@ ghost use Rattle.core_laws.specs.Steps.{behind_of};
 ghost use Rattle.i2c_base.specs.Need.{bytes_given};
 ghost use Rattle.mux_plan.specs.Plans.{SeenView};
 
-/// What is kept stays so over a message, and over one that decides, with its settle behind it.
+/// What is kept stays so over a message, and over one that decides, with its settle after it.
 pub fn the_whole_over_a_message()
     ensures quiet { (run : Run) → IsFairRun run → (whole : Whole) → CoreKept run whole → (place : ℕ) (p : Place) (ls : List LockId) (n : ℕ) → StandsAt whole place p ls n → (room room_bytes : ℕ)
         → (job : Job) (more : ℕ) (next : NextMsg) (at : ℕ) (old new : RootPort) (bytes : List ℕ) (msg : MsgResult) (words : SeenView)

@@ -20,7 +20,7 @@ pub fn lock_words_answer_each_look()
         → ((p : ℕ) → IsMarkOn b p (mark_on s p)) → (w : WalkTree) → HoldsLocks b held w → seen v w ≡ seen (slots_of s) w }
 {}
 
-/// The channels that a step changes: with them those of all muxes tell what is known behind the step.
+/// The channels that a step changes: with them those of all muxes tell what is known after the step.
 pub fn changed_channels_are_told()
     ensures { (b : BoardView) (held : List LockId) (act : Option Act) (note : Note) (out : ActOutcome) → WantsIn b held act note
         → (v : Slots) (kept : List (Option ℕ)) → length kept ≡ length b.muxes → TellsKept b v kept

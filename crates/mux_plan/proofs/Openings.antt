@@ -49,7 +49,7 @@ module _ (c : RouteView) where
   part_tree true n w ts out = refl
   part_tree false n w ts out = refl
 
-  -- behind the work of a mux that stays as it is nothing is left to do
+  -- after the work of a mux that stays as it is nothing is left to do
   left_nothing : (h : Hop) (on : Doer) (k : JobOutcome → WalkTree) → left_behind true h on k ≡ k
   left_nothing h on k = fun_ext (λ out. refl)
 
@@ -106,7 +106,7 @@ module _ (c : RouteView) where
       (sym (part_tree (hop_at c k).parent (k + 1) (switch_of c k (Some m) (keeps (hop_at c k) (kept_of s (hop_at c k).mux)) w)
       (AwaitClose k m w ∷ ts) out))
 
-  -- behind a close
+  -- after a close
   pub tree_of-pass : (s : SeenView) (k : ℕ) (w : Work) (ts : List Task) (out : JobOutcome)
       → seen (slots_of s) (tree_of c (Pass k w ∷ ts) out)
       ≡ seen (slots_of s) (tree_of c
@@ -157,7 +157,7 @@ module _ (c : RouteView) where
       ap (seen (slots_of s)) (inner_bus (drop n c.path) (job_of c w) (note_of c ts) (tree_of c ts) at_end)
       ∙ seen_bus (slots_of s) (job_of c w) (note_of c ts) (tree_of c ts)
 
-  -- a lock is taken, and freed behind the job
+  -- a lock is taken, and freed after the job
   locked_first : (on : Doer) (hs rest : List Hop) (job : Job) (note : Note) (k : JobOutcome → WalkTree) → rest ≡ drop 1 hs
       → locked (locks_of c.root hs) on job note k
       ≡ Then (walk.Take (first_lock c.root hs)) plain
@@ -278,7 +278,7 @@ no_settle c (AwaitSelect k w) ts out step other = absurd step
 no_settle c (AwaitWork k) ts out step other = absurd step
 no_settle c (AwaitDeselect k was) ts out step other = absurd step
 
--- behind a close: what comes first there, over what waits for it
+-- after a close: what comes first there, over what waits for it
 pub passes-by : (c : RouteView) (s : SeenView) (k : ℕ) (w : Work) (ts : List Task)
     (out : JobOutcome)
     → (parent : Bool) → (hop_at c k).parent ≡ parent

@@ -53,7 +53,7 @@ module _ (c c1 : RouteView) (k : ℕ) (w next : Work) (parent : Bool) (mark : Op
         placed = ((own, omega arith, omega (arith, within), omega (arith, waits.1)), waits.0);
       }))
 
--- behind a close, what comes first stands over what waits for it
+-- after a close, what comes first stands over what waits for it
 module _ (c c1 : RouteView) (k : ℕ) (w next : Work) (keep : Bool) (ts new : List Task) (p : IsPlanned c (Pass k w ∷ ts))
     (own : IsPlacedWork (length c.path) next) (same : c1 ≡ c) (stack : new ≡ select_tasks keep k w ts) where
   below : IsPlaced (length c.path) (select_tasks keep k w ts) × (length (select_tasks keep k w ts) ≤ 6 * (k + 1))

@@ -34,7 +34,7 @@ left_open h left (Sent end.Proto bytes) = None
 left_open h left (Sent (end.Cut q) bytes) = None
 left_open h left (Lined failed) = if failed then None else Some h.channel
 
--- what is marked or cleared behind a message or line step that turns this mux, which has this channel open where the port
+-- what is marked or cleared after a message or line step that turns this mux, which has this channel open where the port
 -- didn't fail
 abbrev pub updates_on : ℕ → ℕ → Option ℕ → List Mark → ActOutcome → List MuxUpdate
 updates_on on mux c marks Passed = []
@@ -46,13 +46,13 @@ updates_on on mux c marks (Sent end.Proto bytes) = cleared on mux c ∷ []
 updates_on on mux c marks (Sent (end.Cut q) bytes) = all_marked marks
 updates_on on mux c marks (Lined failed) = if failed then all_marked marks else cleared on mux c ∷ []
 
--- behind one of a job; the caller's own messages switch nothing
+-- after one of a job; the caller's own messages switch nothing
 abbrev pub updates_of_job : Job → ℕ → List Mark → ActOutcome → List MuxUpdate
 updates_of_job (Call bus messages) left marks out = []
 updates_of_job (Select h) left marks out = updates_on h.on h.mux (left_open h left out) marks out
 updates_of_job (SwitchOff off) left marks out = updates_on (off_bus off) (off_mux off) None marks out
 
--- behind a step, which marks so much where it fails by the port
+-- after a step, which marks so much where it fails by the port
 abbrev pub updates_after : Option Act → Note → ActOutcome → List MuxUpdate
 updates_after None note out = []
 updates_after (Some (walk.Take l)) note out = []

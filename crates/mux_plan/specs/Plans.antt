@@ -206,7 +206,7 @@ slots_of s p = record { slot = slot_of (mark_on s p); kept = kept_of s }
 pub record TellsMarks (v : Slots) (marks : List (Option ℕ)) : Type 0 where
   pub at : (p : ℕ) → p < length marks → mark_in (v p).slot ≡ slice_index_or marks p None
 
--- what is known behind a step, which marks so much where it fails by the port
+-- what is known after a step, which marks so much where it fails by the port
 abbrev pub slots_after : Option Act → Note → ActOutcome → Slots → Slots
 slots_after None note out v = v
 slots_after (Some (walk.Take l)) note out v = v

@@ -5,7 +5,7 @@ ghost use Rattle.bus_spec.specs.Walk.{Act, ActOutcome, Note};
 ghost use Rattle.mux_plan.specs.Plans.{slots_after, TellsMarks};
 ghost use Rattle.mux_plan.specs.Marks.{updates_after, applied, MayMark, AreOn};
 
-/// The marks that a step changes: with them the marks of all buses tell what is known behind the step; and each is of a
+/// The marks that a step changes: with them the marks of all buses tell what is known after the step; and each is of a
 /// bus that is held, where the buses are that the step switches on and that its failure marks.
 pub fn changed_marks_are_told()
     ensures told { (act : Option Act) (note : Note) (out : ActOutcome) (v : Slots) (marks : List (Option ℕ)) → TellsMarks v marks

@@ -1,8 +1,8 @@
 //! The walk of a transfer: which lock, message or line a caller takes next, on a bus behind any muxes.
 //!
 //! Its public contract: a `Walk` stands for a tree of `bus_spec`'s grammar, `next` is the first step of that tree
-//! behind its looks, `advance` leaves what follows the step's outcome, and `updates` tells which marks and kept channels
-//! change behind it.
+//! after its looks, `advance` leaves what follows the step's outcome, and `updates` tells which marks and kept channels
+//! change after it.
 //! Definitions: `specs/Plans.antt`, `specs/Marks.antt`, and the grammar itself in `bus_spec`. Standard: Linux i2c-topology.
 #![tactic(auto)]
 

@@ -18,7 +18,7 @@ use i2c_board::Board;
 
 /// The parts of a walk.
 #[derive(Drop)]
-pub struct WalkParts {
+pub struct WalkState {
     pub route: Route,
     pub stack: Stack<Task>,
     /// What came of the last piece of work.
@@ -26,7 +26,7 @@ pub struct WalkParts {
 }
 
 // The task that does a piece of work on the bus of a mux: the locks of a mux-locked one come first.
-fn part(parent: bool, place: u8, work: &Work) -> Task
+fn part_task(parent: bool, place: u8, work: &Work) -> Task
     ensures { result ≡ part_task parent place work.now }
 {
     if parent {
@@ -65,7 +65,7 @@ fn has_deselect(tasks: &[Task]) -> bool
     tasks.iter().any(is_deselect)
 }
 
-impl WalkParts {
+impl WalkState {
     /// Begins anew with this task.
     pub fn start(&mut self, task: Task)
         ensures stack { self.new.stack ≡ task ∷ [] }
@@ -134,7 +134,7 @@ impl WalkParts {
     {
         let next = self.wait(board, seen, hop, work);
         if !self.route.is_parent(hop) {
-            self.stack.push(part(false, hop + 1, &next));
+            self.stack.push(part_task(false, hop + 1, &next));
         }
         next
     }
@@ -181,7 +181,7 @@ impl WalkParts {
         self.reach(&work);
     }
 
-    // Goes on behind the close of a marked mux: the look at the kept channel is answered, and those on the way of what
+    // Goes on after the close of a marked mux: the look at the kept channel is answered, and those on the way of what
     // comes then. Apart, since few walks come here.
     #[inline(never)]
     fn pass(&mut self, board: &Board, seen: &Seen<'_>, hop: u8, work: &Work)
@@ -199,7 +199,7 @@ impl WalkParts {
         if self.route.is_parent(hop) {
             self.enter(board, seen, hop + 1, next);
         } else {
-            self.stack.push(part(false, hop + 1, &next));
+            self.stack.push(part_task(false, hop + 1, &next));
         }
     }
 
@@ -362,7 +362,7 @@ impl WalkParts {
         self.stack.push(Task::Pass { hop, work });
     }
 
-    // The mux waits for the work behind it, but where it stays as it is.
+    // The mux waits for the work after it, but where it stays as it is.
     fn wait_work(&mut self, hop: u8)
         requires room { length self.old.stack < STACK_ROOM }
         requires there { hop < length self.old.route.path }
@@ -389,7 +389,7 @@ impl WalkParts {
     {
         self.wait_work(hop);
         self.stack
-            .push(part(self.route.is_parent(hop), hop + 1, &work));
+            .push(part_task(self.route.is_parent(hop), hop + 1, &work));
     }
 
     // The work is done: the mux is deselected, whatever came of it.
@@ -410,7 +410,7 @@ impl WalkParts {
         });
         let work = Work::Deselect(hop);
         self.stack
-            .push(part(self.route.is_parent(hop), hop + 1, &work));
+            .push(part_task(self.route.is_parent(hop), hop + 1, &work));
     }
 
     // Goes on with what waits on the top, if it does. Tells whether what is below it has to go on too.

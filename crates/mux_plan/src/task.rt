@@ -11,7 +11,7 @@ pub enum Work {
     Call,
     /// The channel of that mux is selected.
     Select(u8),
-    /// It is deselected, behind work on it.
+    /// It is deselected, after work on it.
     Deselect(u8),
     /// A mux is closed, because a mark says that it may be open.
     Close {
@@ -57,7 +57,7 @@ pub enum Task {
     AwaitSelect { hop: u8, work: Work },
     /// Waits for the work behind the mux.
     AwaitWork { hop: u8 },
-    /// Waits for the deselect, behind work of which this came.
+    /// Waits for the deselect, after work of which this came.
     AwaitDeselect { hop: u8, came: WorkResult },
 }
 

@@ -12,7 +12,7 @@ ghost use Rattle.mux_plan.specs.Rooms.{IsStep};
 ghost use Rattle.mux_plan.specs.declared.task.Action.TheVariants.{Done};
 
 use crate::marks::{MuxUpdates, mark_work};
-use crate::parts::WalkParts;
+use crate::parts::WalkState;
 use crate::stack::Stack;
 use crate::{Action, Outcome, Route, Seen, Task, Work, WorkResult};
 use i2c_base::{Errno, SegId, Transfer, empty};
@@ -24,7 +24,7 @@ use std::snapshot::Snapshot;
 /// which `walk_of` is the tree, and as they are with those looks answered, of which `looked_of` is the tree.
 #[derive(Drop)]
 pub struct Walk {
-    parts: WalkParts,
+    parts: WalkState,
     before: Snapshot<Stack<Task>>,
 }
 
@@ -108,7 +108,7 @@ impl Walk {
         let stack = Stack::new();
         let before = Snapshot::of(&stack);
         Walk {
-            parts: WalkParts {
+            parts: WalkState {
                 route: Route::nowhere(board, transfer),
                 stack,
                 came: WorkResult::Good,
@@ -117,7 +117,7 @@ impl Walk {
         }
     }
 
-    /// The next action: the first step of the walk behind its looks, which are answered. Done exactly where the walk is over.
+    /// The next action: the first step of the walk after its looks, which are answered. Done exactly where the walk is over.
     #[inline(always)]
     pub fn next(&self) -> Action
         requires { IsStep self.now.looked }
@@ -152,7 +152,7 @@ impl Walk {
         self.parts.stack.is_empty()
     }
 
-    /// Which marks and kept channels change behind the next action, where it has this outcome, in the place of what `updates`
+    /// Which marks and kept channels change after the next action, where it has this outcome, in the place of what `updates`
     /// had. A lock and a settle change none.
     #[inline(always)]
     pub fn updates(&self, outcome: &Outcome<'_>, updates: &mut MuxUpdates)
@@ -171,7 +171,7 @@ impl Walk {
         }
     }
 
-    /// Goes on behind the next action, which had this outcome. The looks in front of the next step are still to be answered.
+    /// Goes on after the next action, which had this outcome. The looks in front of the next step are still to be answered.
     #[inline(always)]
     pub fn advance(&mut self, outcome: &Outcome<'_>)
         requires { IsStep self.old.looked }

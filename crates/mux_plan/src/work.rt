@@ -12,7 +12,7 @@ use i2c_base::{ChannelCode, End, Errno, MuxId, POLLS, Purpose, SegId};
 use i2c_board::Hop;
 use i2c_spec::errno_of;
 
-/// How a piece of work goes on behind one of its messages: with the next one, with its last one, or not at all.
+/// How a piece of work goes on after one of its messages: with the next one, with its last one, or not at all.
 #[derive(Clone, Copy)]
 pub enum Continuation {
     On,
@@ -169,7 +169,7 @@ impl Work {
         }
     }
 
-    /// How it goes on behind a message that `left` + 1 more might have followed.
+    /// How it goes on after a message that `left` + 1 more might have followed.
     pub fn after_msg(&self, left: u8, outcome: &Outcome<'_>) -> Continuation
         ensures { (c : RouteView) → go_of result ≡ goes (job_of c self.now) left (outcome_of outcome.now) }
     {

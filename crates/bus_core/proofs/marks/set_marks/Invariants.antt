@@ -3,7 +3,7 @@ use Rattle.core_laws.specs.Spots.{seen_of, turned_to}
 use Rattle.bus_core.specs.Marks.{AreHeld, words_after}
 use Rattle.bus_core.proofs.marks.set_marks.Given as goal
 
--- the words behind what is left are those behind all
+-- the words after what is left are those behind all
 abbrev pub invariant-loop-due : goal.invariant-loop-due
 invariant-loop-due l =
     record {

@@ -4,7 +4,7 @@ use Rattle.bus_core.specs.Kept.{IsCore, HasStepped}
 use Rattle.bus_core.specs.Ready.{IsHeldUpAt}
 use Rattle.bus_core.specs.Runs.{HasWaited}
 use Rattle.bus_core.specs.Steps.{IsBlockedAt, HasEndedAt}
-use Rattle.bus_core.specs.declared.parts.CoreParts.{CoreParts}
+use Rattle.bus_core.specs.declared.parts.CoreInside.{CoreInside}
 use Rattle.bus_core.proofs.Advances.{waits-by, within as is_within, blocked-held_up, ended-held_up, blocked-stuck, ended-stuck, has-made}
 use Rattle.bus_core.proofs.SeatLemmas.{number_read}
 use Rattle.bus_core.proofs.running.advance.Goals as goal
@@ -70,7 +70,7 @@ returns-in_default-step g c =
           (subst (λ (k : ℕ). HasEndedAt x k) c.from-2.ensures e.1) tell;
     }) in
     record {
-      core = subst (λ (y : CoreParts _ _). IsCore g.P.Port g.C.Caller y) (sym waits.same) c.requires.core;
+      core = subst (λ (y : CoreInside _ _). IsCore g.P.Port g.C.Caller y) (sym waits.same) c.requires.core;
       made = λ is. absurd (let f : false ≡ true = is in cc);
       waited = λ is. waits;
       held_up = λ is place at2.

@@ -5,7 +5,7 @@ use Rattle.std.proofs.lemmas.Option.{slice_get_within}
 use Rattle.bus_core.specs.Kept.{IsCore}
 use Rattle.bus_core.specs.Ready.{IsHeldUpAt}
 use Rattle.bus_core.specs.Runs.{HasMade}
-use Rattle.bus_core.specs.declared.parts.CoreParts.{CoreParts}
+use Rattle.bus_core.specs.declared.parts.CoreInside.{CoreInside}
 use Rattle.bus_core.proofs.running.advance_least.Goals.{else-not-is_through-via-then-not-is_through+else-advance, else-not-is_through-via-else-not-is_through}
 use Rattle.bus_core.proofs.running.advance_least.Goals as goal
 
@@ -13,7 +13,7 @@ pub loop-number-init : goal.loop-number-init
 loop-number-init g c = record { same = refl; before = λ m low q at. absurd (omega (arith, low)) }
 
 pub advance-requires-clause-core : goal.advance-requires-clause-core
-advance-requires-clause-core g c κs within = subst (λ (y : CoreParts _ _). IsCore g.P.Port g.C.Caller y)
+advance-requires-clause-core g c κs within = subst (λ (y : CoreInside _ _). IsCore g.P.Port g.C.Caller y)
     (sym c.loop-number.invariant.same) c.requires.core
 
 pub advance-requires-clause-has : goal.advance-requires-clause-has
@@ -26,9 +26,9 @@ returns-then-advance-clause-made g c is =
     record {
       caller = c.loop-number.number;
       place = there.place;
-      at = ap (λ (y : CoreParts _ _). slice_get y.places.items c.loop-number.number) (sym same) ∙ there.at;
+      at = ap (λ (y : CoreInside _ _). slice_get y.places.items c.loop-number.number) (sym same) ∙ there.at;
       before = c.loop-number.invariant.before;
-      made = subst (λ (y : CoreParts _ _). HasMade g.P.Port g.C.Caller c.loop-number.number y c.advance.new.parts) same
+      made = subst (λ (y : CoreInside _ _). HasMade g.P.Port g.C.Caller c.loop-number.number y c.advance.new.parts) same
           (c.advance.ensures.made c.if-advance.true);
     }
 
@@ -46,12 +46,12 @@ loop-number-preserved g c =
       before = λ m below q at.
           elim (eqb_tells m c.loop-number.number) [
             | inl e ↦ (let here : slice_get now.places.items c.loop-number.number ≡ Some (Some q) =
-                ap (λ (y : CoreParts _ _). slice_get y.places.items c.loop-number.number) same ∙ ap (slice_get x.places.items) (sym e.1)
+                ap (λ (y : CoreInside _ _). slice_get y.places.items c.loop-number.number) same ∙ ap (slice_get x.places.items) (sym e.1)
                 ∙ at in
                 elim c.else-not-is_through.branch [
-                  | else-not-is_through-via-then-not-is_through+else-advance w ↦ subst (λ (y : CoreParts _ _). IsHeldUpAt y q) same
+                  | else-not-is_through-via-then-not-is_through+else-advance w ↦ subst (λ (y : CoreInside _ _). IsHeldUpAt y q) same
                       (w.advance.ensures.held_up w.if-advance.false q here)
-                  | else-not-is_through-via-else-not-is_through w ↦ subst (λ (y : CoreParts _ _). IsHeldUpAt y q) same
+                  | else-not-is_through-via-else-not-is_through w ↦ subst (λ (y : CoreInside _ _). IsHeldUpAt y q) same
                       (c.is_through.ensures.through w.if-not-is_through.false q here)
                 ])
             | inr e ↦ c.loop-number.invariant.before m (omega (arith, below, e.1)) q at
@@ -59,7 +59,7 @@ loop-number-preserved g c =
     }
 
 pub returns-clause-core : goal.returns-clause-core
-returns-clause-core g c = subst (λ (y : CoreParts _ _). IsCore g.P.Port g.C.Caller y) (sym c.loop-number.invariant.same) c.requires.core
+returns-clause-core g c = subst (λ (y : CoreInside _ _). IsCore g.P.Port g.C.Caller y) (sym c.loop-number.invariant.same) c.requires.core
 
 pub returns-clause-none : goal.returns-clause-none
 returns-clause-none g c is = (

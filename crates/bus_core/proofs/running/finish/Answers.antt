@@ -6,7 +6,7 @@ use Rattle.bus_laws.specs.Following.{GoesOnBy}
 use Rattle.bus_core.specs.Kept.{asks_in, HasCome}
 use Rattle.bus_core.specs.Runs.{KeepsSchedule}
 use Rattle.bus_core.specs.State.{AllThrough, state_of}
-use Rattle.bus_core.specs.declared.parts.CoreParts.{CoreParts}
+use Rattle.bus_core.specs.declared.parts.CoreInside.{CoreInside}
 use Rattle.bus_core.proofs.Loops.{come-refl, come-then, least-keeps, all-through}
 use Rattle.bus_core.proofs.running.finish.Goals as goal
 
@@ -35,18 +35,18 @@ steps-preserved g c =
     }
 
 pub returns-clause-come : goal.returns-clause-come
-returns-clause-come g c = subst (λ (y : CoreParts _ _). HasCome g.P.Port g.C.Caller c.args.parts.now y)
+returns-clause-come g c = subst (λ (y : CoreInside _ _). HasCome g.P.Port g.C.Caller c.args.parts.now y)
     (sym (c.advance_least.ensures.none c.steps-test.false).0) c.steps.invariant.come
 
 pub returns-clause-through : goal.returns-clause-through
 returns-clause-through g c =
     let none = c.advance_least.ensures.none c.steps-test.false in
-    subst (λ (y : CoreParts _ _). AllThrough g.C.Caller.asked g.P.Port.tells (state_of g.P.Port g.C.Caller y)) (sym none.0)
+    subst (λ (y : CoreInside _ _). AllThrough g.C.Caller.asked g.P.Port.tells (state_of g.P.Port g.C.Caller y)) (sym none.0)
     (all-through g.P.Port g.C.Caller c.steps.parts c.steps.invariant.core none.1)
 
 pub returns-clause-keeps : goal.returns-clause-keeps
 returns-clause-keeps g c words from keeps =
-    subst (λ (y : CoreParts _ _). KeepsSchedule g.P.Port g.C.Caller words from [] y)
+    subst (λ (y : CoreInside _ _). KeepsSchedule g.P.Port g.C.Caller words from [] y)
     (sym (c.advance_least.ensures.none c.steps-test.false).0)
     (c.steps.invariant.keeps words from keeps)
 

@@ -3,7 +3,7 @@ use Rattle.i2c_base.specs.declared.ids.LockId.{LockId}
 use Rattle.mux_plan.specs.declared.task.Action.TheVariants as action
 use Rattle.seg_locks.specs.Locks.{holder_in}
 use Rattle.bus_core.specs.Kept.{HasStepped, IsResting}
-use Rattle.bus_core.specs.declared.parts.CoreParts.{CoreParts}
+use Rattle.bus_core.specs.declared.parts.CoreInside.{CoreInside}
 use Rattle.bus_core.specs.declared.steps.StepAnswer.TheVariants as answer
 use Rattle.bus_core.proofs.Nexts.{tells-next, take-there, comes-take, comes-free, comes-settle, comes-message, comes-shift}
 use Rattle.bus_core.proofs.SeatLemmas.{there_read}
@@ -81,22 +81,22 @@ pub returns-clause-stepped : goal.returns-clause-stepped
 returns-clause-stepped g c is =
     let x = c.args.parts.now in
     elim c.match-next.branch [
-      | in-Take+in_default w ↦ subst (λ (y : CoreParts _ _). HasStepped g.P.Port g.C.Caller c.args.place x y)
+      | in-Take+in_default w ↦ subst (λ (y : CoreInside _ _). HasStepped g.P.Port g.C.Caller c.args.place x y)
           (sym w.parts-is) w.take.ensures.stepped
-      | in-Free w ↦ subst (λ (y : CoreParts _ _). HasStepped g.P.Port g.C.Caller c.args.place x y) (sym w.parts-is) w.free.ensures.stepped
-      | in-Send w ↦ subst (λ (y : CoreParts _ _). HasStepped g.P.Port g.C.Caller c.args.place x y)
+      | in-Free w ↦ subst (λ (y : CoreInside _ _). HasStepped g.P.Port g.C.Caller c.args.place x y) (sym w.parts-is) w.free.ensures.stepped
+      | in-Send w ↦ subst (λ (y : CoreInside _ _). HasStepped g.P.Port g.C.Caller c.args.place x y)
           (sym w.parts-is) w.send_and_record.ensures.stepped
-      | in-Line w ↦ subst (λ (y : CoreParts _ _). HasStepped g.P.Port g.C.Caller c.args.place x y) (sym w.parts-is) w.switch.ensures.stepped
-      | in-Settle w ↦ subst (λ (y : CoreParts _ _). HasStepped g.P.Port g.C.Caller c.args.place x y)
+      | in-Line w ↦ subst (λ (y : CoreInside _ _). HasStepped g.P.Port g.C.Caller c.args.place x y) (sym w.parts-is) w.switch.ensures.stepped
+      | in-Settle w ↦ subst (λ (y : CoreInside _ _). HasStepped g.P.Port g.C.Caller c.args.place x y)
           (sym w.parts-is) w.refuse.ensures.stepped
     ]
 
 pub returns-clause-rests : goal.returns-clause-rests
 returns-clause-rests g c =
     elim c.match-next.branch [
-      | in-Take+in_default w ↦ subst (λ (y : CoreParts _ _). IsResting g.P.Port g.C.Caller y) (sym w.parts-is) w.take.ensures.rests
-      | in-Free w ↦ subst (λ (y : CoreParts _ _). IsResting g.P.Port g.C.Caller y) (sym w.parts-is) w.free.ensures.rests
-      | in-Send w ↦ subst (λ (y : CoreParts _ _). IsResting g.P.Port g.C.Caller y) (sym w.parts-is) w.send_and_record.ensures.rests
-      | in-Line w ↦ subst (λ (y : CoreParts _ _). IsResting g.P.Port g.C.Caller y) (sym w.parts-is) w.switch.ensures.rests
-      | in-Settle w ↦ subst (λ (y : CoreParts _ _). IsResting g.P.Port g.C.Caller y) (sym w.parts-is) w.refuse.ensures.rests
+      | in-Take+in_default w ↦ subst (λ (y : CoreInside _ _). IsResting g.P.Port g.C.Caller y) (sym w.parts-is) w.take.ensures.rests
+      | in-Free w ↦ subst (λ (y : CoreInside _ _). IsResting g.P.Port g.C.Caller y) (sym w.parts-is) w.free.ensures.rests
+      | in-Send w ↦ subst (λ (y : CoreInside _ _). IsResting g.P.Port g.C.Caller y) (sym w.parts-is) w.send_and_record.ensures.rests
+      | in-Line w ↦ subst (λ (y : CoreInside _ _). IsResting g.P.Port g.C.Caller y) (sym w.parts-is) w.switch.ensures.rests
+      | in-Settle w ↦ subst (λ (y : CoreInside _ _). IsResting g.P.Port g.C.Caller y) (sym w.parts-is) w.refuse.ensures.rests
     ]

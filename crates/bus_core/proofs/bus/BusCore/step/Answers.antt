@@ -5,7 +5,7 @@ use Rattle.bus_core.specs.Answers.{HasAdded, WaitsFor, HasUsedUp, IsOverIn}
 use Rattle.bus_core.specs.Kept.{HasCome, HasStepped}
 use Rattle.bus_core.specs.State.{CoreState, CoreTold, has_caller, roots_in, state_of}
 use Rattle.bus_core.specs.Steps.{IsBlockedAt, HasEndedAt}
-use Rattle.bus_core.specs.declared.parts.CoreParts.{CoreParts}
+use Rattle.bus_core.specs.declared.parts.CoreInside.{CoreInside}
 use Rattle.bus_core.proofs.Advances.{within as is_within, has-made}
 use Rattle.bus_core.proofs.SeatLemmas.{number_read}
 use Rattle.bus_core.proofs.Told.{added, came-by, core-after, core-told, over-told, opening-same, placed-of, roots-same, used-up, waits-for}
@@ -80,14 +80,14 @@ returns-in-Some g c =
           (subst (λ (k : ℕ). HasStepped g.P.Port g.C.Caller k x new) c.from-in-Some.ensures (c.step.ensures.stepped is))));
       blocked = λ l h is.
           let b = c.step.ensures.blocked l h is in (
-            ap (λ (y : CoreParts _ _). state_of g.P.Port g.C.Caller y) b.0 ∙ c.self.view_is,
+            ap (λ (y : CoreInside _ _). state_of g.P.Port g.C.Caller y) b.0 ∙ c.self.view_is,
             subst (λ (v : CoreState _). WaitsFor asked tells v c.args.caller l h) c.self.view_is
                 (waits-for g.P.Port g.C.Caller x core c.args.caller c.in-Some.place at l h
                 (subst (λ (k : ℕ). IsBlockedAt x k l h) c.from-in-Some.ensures b.1)),
           );
       finished = λ is.
           let e = c.step.ensures.finished is in (
-            ap (λ (y : CoreParts _ _). state_of g.P.Port g.C.Caller y) e.0 ∙ c.self.view_is,
+            ap (λ (y : CoreInside _ _). state_of g.P.Port g.C.Caller y) e.0 ∙ c.self.view_is,
             subst (λ (v : CoreState _). HasUsedUp asked v c.args.caller) c.self.view_is
                 (used-up g.P.Port g.C.Caller x core c.args.caller c.in-Some.place at
                 (subst (λ (k : ℕ). HasEndedAt x k) c.from-in-Some.ensures e.1)),

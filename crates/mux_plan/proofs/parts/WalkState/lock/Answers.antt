@@ -4,7 +4,7 @@ use Rattle.i2c_base.specs.declared.ids.LockId.{LockId}
 use Rattle.mux_plan.specs.declared.task.Task.TheVariants.{Enter, Lock, Free}
 use Rattle.mux_plan.specs.Plans.{tree_of}
 use Rattle.mux_plan.proofs.Openings.{tree_of-locked}
-use Rattle.mux_plan.proofs.parts.WalkParts.lock.Goals as goal
+use Rattle.mux_plan.proofs.parts.WalkState.lock.Goals as goal
 
 pub returns-then-locks_on-clause-tree : goal.returns-then-locks_on-clause-tree
 returns-then-locks_on-clause-tree c = λ out out2 o.

@@ -3,7 +3,7 @@ use Rattle.std.specs.List.{list_any}
 use Rattle.std.proofs.lemmas.List.Sorted.{list_any-IsPermutation, IsPermutation-reverse}
 use Rattle.mux_plan.specs.Plans.{is_deselect}
 use Rattle.mux_plan.proofs.Openings.{note_of-forward}
-use Rattle.mux_plan.proofs.parts.WalkParts.is_forward.Goals as goal
+use Rattle.mux_plan.proofs.parts.WalkState.is_forward.Goals as goal
 
 pub returns : goal.returns
 returns c =

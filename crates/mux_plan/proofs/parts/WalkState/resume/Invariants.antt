@@ -1,7 +1,7 @@
 use Rattle.std.proofs.Common.{◌≡◌, length}
 use Rattle.mux_plan.specs.Plans.{tree_of, came_of}
 use Rattle.mux_plan.specs.Rooms.{IsPlanned}
-use Rattle.mux_plan.proofs.parts.WalkParts.resume.Given as goal
+use Rattle.mux_plan.proofs.parts.WalkState.resume.Given as goal
 
 -- the tree stays the same
 abbrev pub invariant-waiting : goal.invariant-waiting

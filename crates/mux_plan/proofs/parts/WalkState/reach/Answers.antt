@@ -1,7 +1,7 @@
 use Rattle.std.proofs.Common.{List, sym, subst}
 use Rattle.mux_plan.specs.declared.task.Task.{Task}
 use Rattle.mux_plan.specs.Rooms.{IsPlanned}
-use Rattle.mux_plan.proofs.parts.WalkParts.reach.Goals as goal
+use Rattle.mux_plan.proofs.parts.WalkState.reach.Goals as goal
 
 pub returns-clause-planned : goal.returns-clause-planned
 returns-clause-planned c = λ n h.

@@ -4,9 +4,9 @@ use Rattle.bus_spec.specs.Grammar.{seen}
 use Rattle.mux_plan.specs.declared.task.Task.TheVariants.{Enter}
 use Rattle.mux_plan.specs.Plans.{tree_of, slots_of}
 use Rattle.mux_plan.specs.Rooms.{IsPlanned}
-use Rattle.mux_plan.proofs.parts.WalkParts.enter.Given as goal
+use Rattle.mux_plan.proofs.parts.WalkState.enter.Given as goal
 
--- the tree behind its looks stays the same
+-- the tree after its looks stays the same
 abbrev pub invariant-muxes : goal.invariant-muxes
 invariant-muxes l = record {
   planned : IsPlanned l.self.route (Enter l.place l.work ∷ l.self.stack);

@@ -4,7 +4,7 @@ use Rattle.bus_spec.specs.Grammar.{rest_of}
 use Rattle.mux_plan.specs.declared.task.Task.TheVariants.{Lock, Rest}
 use Rattle.mux_plan.specs.Plans.{came_of, outcome_of}
 use Rattle.mux_plan.proofs.Rooms.{top-tree}
-use Rattle.mux_plan.proofs.parts.WalkParts.act.Goals as goal
+use Rattle.mux_plan.proofs.parts.WalkState.act.Goals as goal
 
 pub returns-in-Lock-clause-tree : goal.returns-in-Lock-clause-tree
 returns-in-Lock-clause-tree c =
