@@ -182,7 +182,7 @@ module _ (g h : ℕ → Option ℕ) where
   AreGrantedAlike f [] = Unit {0}
   AreGrantedAlike f (m ∷ ms) = (g m.addr ≡ h (f m.addr)) × AreGrantedAlike f ms
 
-  -- what is told behind a message that ended so
+  -- what is told after a message that ended so
   abbrev told_then : List ℕ → MessageView → End → FlatListener → List ℕ → AllTold FlatListener → AllTold FlatListener
   told_then got m e w bytes rest = cond (is_good e) rest (record { bytes = cond m.reading (got ++ bytes) got; now = w; end = e })
 

@@ -9,7 +9,7 @@ use Rattle.i2c_base.specs.declared.board.Idle.TheVariants.{Disconnect}
 use Rattle.i2c_base.specs.declared.board.LockMode.TheVariants.{Parent}
 use Rattle.i2c_base.specs.declared.board.MuxKind.TheVariants as mux_kind
 use Rattle.i2c_base.specs.declared.board.MuxSpec.{MuxSpec}
-use Rattle.i2c_base.specs.declared.transfer.Kind.TheVariants.{Plain}
+use Rattle.i2c_base.specs.declared.transfer.TransferKind.TheVariants.{Plain}
 use Rattle.i2c_base.specs.declared.transfer.Msg.{Msg}
 use Rattle.i2c_base.specs.Board.{BoardView, DeviceView}
 use Rattle.i2c_base.specs.Transfer.{TransferView}

@@ -91,7 +91,7 @@ map_in b ms = tested_rows (length b.muxes) ms >>= λ rows. as_map b (map transla
 unfoldable pub translators_of : BoardView → List ℕ → Result (List TranslatorView) MapFault
 translators_of b text = document_of text >>= map_in b
 
--- what a document that isn't read, and a reader of translators, tell; want of memory says nothing
+-- what a document that isn't read, and a reader of translators, tell; being out of memory says nothing
 abbrev pub DocumentFails : List ℕ → MapFault → Type 0
 DocumentFails text map_fault.Memory = ⊤
 DocumentFails text map_fault.NotToml = document_of text ≡ Err map_fault.NotToml
@@ -114,7 +114,7 @@ abbrev pub GivesRead : {X Y : Type 0} → (X → Y) → Result X MapFault → Re
 GivesRead see (Ok x) read = read ≡ Ok (see x)
 GivesRead see (Err e) read = FailsRead e read
 
--- what is told of a text that is no map of this board. Want of memory says nothing
+-- what is told of a text that is no map of this board. Being out of memory says nothing
 abbrev pub Fails : BoardView → List ℕ → MapFault → Type 0
 Fails b text map_fault.Memory = ⊤
 Fails b text (map_fault.Rule broken) =

@@ -7,7 +7,7 @@ ghost use Rattle.addr_atr.specs.Callers.{AtrView, AtrCallersAreFair, left_of};
 
 use crate::map::AtrMap;
 use caller_core::Script;
-use i2c_base::{Caller, Kind, NoMemory, ReplyHead, Transfer};
+use i2c_base::{Caller, NoMemory, ReplyHead, Transfer, TransferKind};
 use std::marker::Model;
 
 /// What it is opened with, as contracts see it: the map's translators and the script. No value of it is made.
@@ -77,7 +77,7 @@ impl<'m> Caller for AtrCaller<'m> {
     ghost spare = { λ c. c.script.spare };
 
     fn next(&self) -> Option<Transfer> {
-        let mut transfer = Transfer::new(0, Kind::Smbus, false);
+        let mut transfer = Transfer::new(0, TransferKind::Smbus, false);
         if !self.refill(&mut transfer) {
             return None;
         }

@@ -4,7 +4,7 @@ ghost use Rattle.addr_atr.specs.Maps.{pairs_of, route_of, route_view};
 ghost use Rattle.addr_atr.specs.Lowering.{lowered, lowered_device, IsMap};
 
 use crate::map::Translator;
-use i2c_base::{AliasPair, DeviceSpec, MuxId, Run, SegId, alias_of};
+use i2c_base::{AliasPair, DeviceSpec, MemoryRun, MuxId, SegId, alias_of};
 use i2c_board::{Accepted, Board};
 use std::alloc::{AllocError, Global};
 
@@ -35,16 +35,16 @@ pub(crate) fn route<'t>(
 }
 
 // A copy of a run.
-fn copy_run(alloc: Global, run: &Run) -> Result<Run, AllocError>
+fn copy_run(alloc: Global, run: &MemoryRun) -> Result<MemoryRun, AllocError>
     ensures { IfOk result (λ r. r ≡ run.now) }
 {
-    Ok(Run {
+    Ok(MemoryRun {
         start: run.start,
         bytes: run.bytes.as_slice().to_vec(alloc)?,
     })
 }
 
-fn copy_runs(alloc: Global, runs: &[Run]) -> Result<Vec<Run>, AllocError>
+fn copy_runs(alloc: Global, runs: &[MemoryRun]) -> Result<Vec<MemoryRun>, AllocError>
     ensures { IfOk result (λ rs. rs.items ≡ runs.now) }
 {
     let mut copy = Vec::with_capacity(alloc, runs.len())?;
@@ -91,7 +91,7 @@ fn lowered_devices(
     Ok(devices)
 }
 
-/// The lowered board. `Err` is want of memory.
+/// The lowered board. `Err` is being out of memory.
 pub(crate) fn lower(
     alloc: Global,
     accepted: &Accepted,

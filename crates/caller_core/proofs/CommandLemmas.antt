@@ -49,7 +49,7 @@ pub record AreRead (count : ℕ) (cs : List CommandView) : Type 0 where
   pub fits : All IsSpoken cs
   pub most : count ≤ 1000 → count + length cs ≤ 1000
 
--- a command behind so many others
+-- a command after so many others
 record IsNext (limit count : ℕ) (c : Cmd) : Type 0 where
   fits : IsInRange limit c
   room : count < 1000

@@ -34,7 +34,7 @@ answers b v (cmd.Tool t) = tools.answers b t
 answers b v (cmd.Driver d) = drivers.answers (driver_run b d)
 answers b v (cmd.Handle h) = handle_lines b v h
 
--- the handles behind it are near where those before it are
+-- the handles after it are near where those before it are
 pub near_behind : (b : BoardView) (v : HandlesView) (limit : ℕ) (c : Cmd) → IsInRange limit c → AreNear v → AreNear (handles_behind b v c)
 near_behind b v limit (cmd.Tool t) range near = near
 near_behind b v limit (cmd.Driver d) range near = near

@@ -1,4 +1,4 @@
--- What is marked of a script's lines: one mark more, marks in turn, and a line behind those before it.
+-- What is marked of a script's lines: one mark more, marks in turn, and a line after those before it.
 use Rattle.std.proofs.Common.{◌≡◌, ℕ, ◌+◌, ◌<◌, ◌≤◌, ◌==◌, nat_lt, Bool, true, false, ◌&&◌, ◌||◌, List, [], ◌∷◌, ◌++◌, length, take, drop, append_assoc, append-nil, filter_map, replicate, Option, Result, Ok, Err, get_or, slice_get, slice_set, Some, None, refl, sym, ap, subst, ◌∙◌, inl, inr, arith}
 use Rattle.std.specs.List.{list_any}
 use Rattle.std.specs.Option.{option_map_or}
@@ -52,7 +52,7 @@ one_mark at old i x was =
 pub no_mark : (old : List Bool) → AreMarked (λ i. false) old old
 no_mark old i x was = was ∙ ap Some (or_false x)
 
--- marks behind others
+-- marks after others
 pub marks_on : (told more all : ℕ → Bool) (old mid new : List Bool) → AreMarked told old mid → AreMarked more mid new
     → ((i : ℕ) → (told i || more i) ≡ all i) → AreMarked all old new
 marks_on told more all old mid new first then both i x was =

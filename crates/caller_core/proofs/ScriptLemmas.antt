@@ -1,4 +1,4 @@
--- A line of a script, behind the commands before it.
+-- A line of a script, after the commands before it.
 use Rattle.std.proofs.Common.{◌≡◌, ℕ, ◌+◌, ◌≤◌, List, [], ◌∷◌, ◌++◌, length, take, drop, Some, None, Result, Ok, Err, refl, sym, ap, ◌∙◌, append_assoc, length-append, subst, arith}
 use Rattle.std.proofs.lemmas.List.{drop-drop}
 use Rattle.i2c_base.specs.Board.{BoardView}
@@ -74,7 +74,7 @@ is_refused b number count line old before line_fault.Memory told n e is =
     let refused : IsRefused b number old line before (fault_at line_fault.Memory number) = record { refused = λ ls. tt } in
     subst (IsRefused b number old line before) (sym is) refused
 
--- a step behind the lines that are read, and a line that is refused there
+-- a step after the lines that are read, and a line that is refused there
 pub script_steps : (b : BoardView) (number at len skip : ℕ) (text : List ℕ) (old new : List CommandView)
     (before after : HandlesView) (all : Result (List CommandView) Place)
     → IsStep b number old new (take len (drop at text)) before after

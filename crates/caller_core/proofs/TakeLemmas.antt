@@ -114,7 +114,7 @@ module _ (script : ScriptView) (cs : List CommandView) (taken : PackedView Reply
         (sym k.next ∙ asks cs before turn from place c is.at there) in
         subst (λ (t : TransferView). Fits t r) same k.fits
 
-    -- .. and that reply kept behind the others
+    -- .. and that reply kept after the others
     module _ (answer : ReplyHead) (bytes : List ℕ) (then : PackedView ReplyHead) (same : reply_by answer bytes ≡ r)
         (these : bytes ≡ bytes_given r) (items : then.items ≡ taken.items ++ (answer, bytes) ∷ []) (one : then.room + 1 ≡ taken.room)
         (room_bytes : then.room_bytes + length bytes ≡ taken.room_bytes) where

@@ -1,4 +1,4 @@
--- What the line of a handle is as it runs, which is known where a script is opened, and the handles behind it (Linux i2c-dev).
+-- What the line of a handle is as it runs, which is known where a script is opened, and the handles after it (Linux i2c-dev).
 use Rattle.std.specs.Prelude.{⊤, ℕ, Bool, List, [], ◌∷◌, ◌++◌, None, Result, Ok, Err, codes}
 use Rattle.std.specs.Fmt.{decimal}
 use Rattle.bus_spec.specs.Lines.{errno_text}
@@ -71,7 +71,7 @@ handle_run b v (handle.Proc h reg word) = run_by_answer (call_by_handle (held.Pr
 handle_run b v (handle.Bproc h reg bytes) = run_by_answer (call_by_handle (held.BlockProc reg bytes)) (answer_by_handle v h target_of)
 handle_run b v (handle.Close h) = says_line (done_text (answer_by_handle v h (λ x. Ok tt)))
 
--- the handles behind it
+-- the handles after it
 abbrev pub handles_after : BoardView → HandlesView → HandleCmd → HandlesView
 handles_after b v (handle.Open bus) = opened b v bus
 handles_after b v (handle.Slave h addr force) = changed v h (slaved b addr force)

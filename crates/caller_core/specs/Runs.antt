@@ -17,7 +17,7 @@ abbrev pub command_dialogue : CommandRun → Dialogue
 command_dialogue (run.Tool r) = forms.dialogue_of r
 command_dialogue (run.Driver r) = drivers.driver_dialogue r
 
--- how it runs, and the handles behind it
+-- how it runs, and the handles after it
 abbrev pub command_run : BoardView → HandlesView → Cmd → CommandRun
 command_run b v (cmd.Tool t) = run.Tool (tools.tool_run b t)
 command_run b v (cmd.Driver d) = run.Driver (driver_run b d)

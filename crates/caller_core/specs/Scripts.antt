@@ -45,7 +45,7 @@ behind_line_read b v number line (Err word) same more = Err (record { line = num
 behind_line_read b v number line (Ok None) same more = same
 behind_line_read b v number line (Ok (Some c)) same more = behind_commands (command_of b v line c ∷ []) (more (handles_behind b v c))
 
--- the lines from this number on, behind so many commands and these handles; they are read with the block limit of the board
+-- the lines from this number on, after so many commands and these handles; they are read with the block limit of the board
 abbrev pub lines_read : BoardView → (number count : ℕ) → List (List ℕ) → HandlesView → Result (List CommandView) Place
 lines_read b number count [] v = Ok []
 lines_read b number count (l ∷ ls) v =

@@ -16,7 +16,7 @@ use crate::reach::Reach;
 use crate::run::CommandRun;
 use crate::script::{ReadScript, ScriptFault, read_script};
 use crate::totals::{Totals, front_room, room_from, totals_of};
-use i2c_base::{Caller, Kind, NoMemory, ReplyHead, Transfer};
+use i2c_base::{Caller, NoMemory, ReplyHead, Transfer, TransferKind};
 use i2c_board::Accepted;
 use packed::Packed;
 use std::alloc::Global;
@@ -169,7 +169,7 @@ fn push_command(out: &mut Text, echo: &[u8], run: &CommandRun, replies: Window<'
     run.print(replies, out);
 }
 
-// The replies behind all that are kept: none.
+// The replies after all that are kept: none.
 fn no_replies(taken: &Packed<ReplyHead>) -> Window<'_>
     ensures { result ≡ [] }
 {
@@ -179,7 +179,7 @@ fn no_replies(taken: &Packed<ReplyHead>) -> Window<'_>
     }
 }
 
-// Prints the commands from a place on that ask for nothing. Tells the place behind them.
+// Prints the commands from a place on that ask for nothing. Tells the place after them.
 #[inline(always)]
 fn push_quiet(commands: &Commands, turn: usize, taken: &Packed<ReplyHead>, out: &mut Text) -> usize
     requires within { turn ≤ length commands.now }
@@ -222,7 +222,7 @@ impl Caller for Script {
     ghost spare = { λ s. s.spare };
 
     fn next(&self) -> Option<Transfer> {
-        let mut transfer = Transfer::new(0, Kind::Smbus, false);
+        let mut transfer = Transfer::new(0, TransferKind::Smbus, false);
         if !self.refill(&mut transfer) {
             return None;
         }

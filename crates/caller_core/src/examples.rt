@@ -5,7 +5,7 @@ ghost use Rattle.i2c_base.specs.Board.{BoardView};
 ghost use Rattle.i2c_base.specs.declared.errno.Errno.TheVariants.{Enxio};
 ghost use Rattle.i2c_base.specs.declared.reply.Reply.TheVariants.{Done, Read, Err};
 ghost use Rattle.i2c_base.specs.Transfer.{plain_read};
-ghost use Rattle.i2c_base.specs.declared.transfer.Kind.TheVariants.{Plain};
+ghost use Rattle.i2c_base.specs.declared.transfer.TransferKind.TheVariants.{Plain};
 ghost use Rattle.dev_handle.specs.Examples.{one_bus};
 ghost use Rattle.dev_handle.specs.Handles.{fresh};
 ghost use Rattle.tools.specs.Dialogues.{transfers_of};
@@ -18,7 +18,7 @@ ghost use Rattle.caller_core.specs.Runs.{command_dialogue, handles_behind, comma
 ghost use Rattle.caller_core.specs.Turns.{quiet, progress};
 ghost use Rattle.caller_core.specs.View.{CommandView};
 
-/// A command of two transfers takes two replies, and then it is the next one's turn; so it is behind one that is an error.
+/// A command of two transfers takes two replies, and then it is the next one's turn; so it is after one that is an error.
 pub fn replies_go_to_the_commands_in_turn()
     ensures both { (b : BoardView) (echo : List ℕ)
         → let next : CommandView = record { echo = echo; run = command_run b [] (Tool (Get (record { force = false; bus = 0; addr = 0x20; reg = None; mode = None; pec = false; len = None }))) }
@@ -33,7 +33,7 @@ pub fn replies_go_to_the_commands_in_turn()
         ≡ Done ∷ [] }
 {}
 
-/// A command that asks for nothing is over at its turn: before the first reply, and behind the reply that ends the one before.
+/// A command that asks for nothing is over at its turn: before the first reply, and after the reply that ends the one before.
 pub fn a_command_that_asks_for_nothing_is_over_at_its_turn()
     ensures first { (b : BoardView) (echo : List ℕ)
         → let list : CommandView = record { echo = echo; run = command_run b [] (Tool Listing) }

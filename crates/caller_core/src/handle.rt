@@ -13,8 +13,8 @@ use i2c_base::NoMemory;
 use i2c_board::Accepted;
 use std::alloc::Global;
 use tools::{
-    Callee, Combined, Desc, DescOp, Descs, HandleCmd, HeldBlock, HeldCall, HeldOp, Lines, Messages,
-    ToolRun,
+    Callee, Combined, Desc, DescOp, Descs, HandleCmd, HeldBlock, HeldCall, HeldOp, KnownLines,
+    Messages, ToolRun,
 };
 
 // Says one line.
@@ -22,12 +22,12 @@ fn says_line(alloc: Global, line: &[u8]) -> Result<ToolRun, NoMemory>
     requires { IsLine line.now }
     ensures { IfOk result (λ r. r ≡ says_line line.now) }
 {
-    let mut lines = Lines::new(alloc);
+    let mut lines = KnownLines::new(alloc);
     lines.push(line)?;
     Ok(ToolRun::Says(lines))
 }
 
-// Says why there is no answer. Want of memory isn't said.
+// Says why there is no answer. Being out of memory isn't said.
 fn refused(alloc: Global, fault: HandleFault) -> Result<ToolRun, NoMemory>
     ensures { IfOk result (λ r. r ≡ says_line (fault_text fault)) }
 {

@@ -81,7 +81,7 @@ impl CommandRun {
     /// said to.
     #[inline(always)]
     pub fn repeats(&self, place: u16) -> bool
-        ensures next_place { result ≡ true → 0 < place }
+        ensures later { result ≡ true → 0 < place }
         ensures alike { result ≡ true → AreAlike ((command_dialogue self.now).at (place - 1)) ((command_dialogue self.now).at place) }
     {
         match self {
@@ -90,7 +90,7 @@ impl CommandRun {
         }
     }
 
-    /// The place behind a reply, whatever bytes it brings.
+    /// The place after a reply, whatever bytes it brings.
     #[inline(always)]
     pub fn behind(&self, place: u16, head: ReplyHead) -> u16
         requires { place < (command_dialogue self.now).places }

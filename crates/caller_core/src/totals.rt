@@ -15,7 +15,7 @@ ghost use Rattle.caller_core.specs.Scripts.{front_room, room_of};
 
 use crate::commands::Commands;
 use crate::run::CommandRun;
-use i2c_base::{Kind, SegId, Transfer};
+use i2c_base::{SegId, Transfer, TransferKind};
 use i2c_board::{Accepted, BusBill};
 
 /// Sums over transfers: their cost, how many they are, the bytes that their replies may have, and a bit for each root
@@ -108,7 +108,7 @@ pub fn totals_of(board: &Accepted, commands: &Commands) -> Totals
     ensures bytes { result.bytes ≡ sum_by (sum_of most_brought) commands.now }
     ensures roots { HasRoots board.now commands.now result.roots }
 {
-    let mut transfer = Transfer::new(0, Kind::Smbus, false);
+    let mut transfer = Transfer::new(0, TransferKind::Smbus, false);
     let mut bill = board.bill(0);
     let mut totals = Totals::NONE;
     for place in 0..commands.len() {

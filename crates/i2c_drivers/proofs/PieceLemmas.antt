@@ -40,7 +40,7 @@ one_page C02 o n p some within = omega (arith, some, within)
 one_page C32 o n p some within = omega (arith, some, within)
 one_page C256 o n p some within = omega (arith, some, within)
 
--- behind a piece stands the next one, or the end
+-- after a piece stands the next one, or the end
 goes_on : (s : Size) (o n p : ℕ) → 1 ≤ n → p < pieces_of s o n
     → min n (begin_at s o n (p + 1) - o) ≡ min n (begin_at s o n p - o) + (end_at s o n p - begin_at s o n p)
 goes_on C02 o n p some within = omega (arith, some, within)

@@ -11,7 +11,7 @@ use Rattle.i2c_base.specs.declared.errno.Errno.{Errno}
 use Rattle.i2c_base.specs.declared.errno.Errno.TheVariants as errno
 use Rattle.i2c_base.specs.declared.reply.Reply.{Reply}
 use Rattle.i2c_base.specs.declared.reply.Reply.TheVariants as reply
-use Rattle.i2c_base.specs.declared.transfer.Kind.TheVariants.{Plain}
+use Rattle.i2c_base.specs.declared.transfer.TransferKind.TheVariants.{Plain}
 use Rattle.i2c_spec.specs.Eeprom.{page_of_eeprom, is_wide}
 use Rattle.tools.specs.Dialogues.{Dialogue}
 use Rattle.i2c_drivers.specs.Bound.{eeprom_at}
@@ -89,7 +89,7 @@ TRIES = 8
 abbrev pub is_tried_again : (try : ℕ) → Errno → Bool
 is_tried_again try e = (number_of e == 6) && nat_lt try 7
 
--- behind a success the tries that are left are passed over, and behind an error all places, where it isn't tried again
+-- after a success the tries that are left are passed over, and after an error all places, where it isn't tried again
 abbrev pub tries_skipped : (places try : ℕ) → Reply → ℕ
 tries_skipped places try reply.Done = 7 - try
 tries_skipped places try (reply.Read bytes) = 7 - try

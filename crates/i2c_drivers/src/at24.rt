@@ -12,7 +12,7 @@ ghost use Rattle.tools.specs.Dialogues.{MOST_PLACES, AreAlike, AreReplies, next_
 use crate::bound::bound_eeprom;
 use crate::rows::{count, push_byte_lines};
 use crate::text::{MOST_OF_ERRNO, push_errno_line, push_refusal, refusal_size};
-use i2c_base::{Addr, ByteStore, Errno, Kind, ReplyHead, Size, Transfer};
+use i2c_base::{Addr, ByteStore, Errno, ReplyHead, Size, Transfer, TransferKind};
 use i2c_board::Board;
 use i2c_spec::{eeprom_bytes, eeprom_page, is_wide};
 use std::marker::Model;
@@ -97,7 +97,7 @@ fn is_tried_again(tries: u16, errno: Errno) -> bool
     errno.number() == 6 && tries < 7
 }
 
-// So many places are passed over behind the reply to a try.
+// So many places are passed over after the reply to a try.
 fn tries_skipped(places: u16, tries: u16, head: ReplyHead) -> u16
     requires { tries < 8 }
     ensures value { (bytes : List ℕ) → result ≡ tries_skipped places tries (reply_by head bytes) }
@@ -139,7 +139,7 @@ fn failure(replies: &Window<'_>) -> Option<Errno>
 // The transfer at a place is that of the place before: it isn't the first try of a piece.
 fn is_repeated(place: u16) -> bool
     ensures value { result ≡ is_repeated place }
-    ensures next_place { result ≡ true → 0 < place }
+    ensures later { result ≡ true → 0 < place }
     ensures piece { result ≡ true → (place - 1) / 8 ≡ place / 8 }
 {
     place % TRIES != 0
@@ -171,7 +171,7 @@ impl PageRead {
         let begin = self.offset + PIECE * piece;
         let size = (self.count - PIECE * piece).min(PIECE);
         let front = place_bytes(self.of.size, begin);
-        transfer.restart(self.of.bus, Kind::Plain, true);
+        transfer.restart(self.of.bus, TransferKind::Plain, true);
         let _ = transfer.add_write(self.of.addr, front.as_slice());
         let _ = transfer.add_read(self.of.addr, size);
     }
@@ -198,7 +198,7 @@ impl PageRead {
         3 * usize::from(self.count) + MOST_OF_ERRNO
     }
 
-    /// The place behind a reply.
+    /// The place after a reply.
     pub fn behind(&self, place: u16, head: ReplyHead) -> u16
         requires { place < (page_reads self.now).places }
         ensures { (bytes : List ℕ) → result ≡ next_place (page_reads self.now) place (reply_by head bytes) }
@@ -227,7 +227,7 @@ impl PageWrite {
         TRIES * self.pieces()
     }
 
-    // The bytes of a piece, behind those that tell its place.
+    // The bytes of a piece, after those that tell its place.
     fn bytes_of(&self, piece: u16) -> ByteStore<66>
         requires { piece < write_pieces self.now }
         ensures value { result ≡ place_bytes self.now.of.size (write_begin self.now piece) ++ write_bytes self.now piece }
@@ -249,7 +249,7 @@ impl PageWrite {
         ensures { transfer.new ≡ (page_writes self.now).at place }
     {
         let bytes = self.bytes_of(place / TRIES);
-        transfer.restart(self.of.bus, Kind::Plain, true);
+        transfer.restart(self.of.bus, TransferKind::Plain, true);
         let _ = transfer.add_write(self.of.addr, bytes.as_slice());
     }
 
@@ -265,7 +265,7 @@ impl PageWrite {
         }
     }
 
-    /// The place behind a reply.
+    /// The place after a reply.
     pub fn behind(&self, place: u16, head: ReplyHead) -> u16
         requires { place < (page_writes self.now).places }
         ensures { (bytes : List ℕ) → result ≡ next_place (page_writes self.now) place (reply_by head bytes) }
@@ -354,7 +354,7 @@ impl At24Run {
     /// The transfer at a place is that of the place before, as it is at each try of a piece but the first.
     pub fn repeats(&self, place: u16) -> bool
         ensures value { result ≡ at24_repeats self.now place }
-        ensures next_place { result ≡ true → 0 < place }
+        ensures later { result ≡ true → 0 < place }
         ensures alike { result ≡ true → AreAlike ((at24_dialogue self.now).at (place - 1)) ((at24_dialogue self.now).at place) }
     {
         match self {
@@ -364,7 +364,7 @@ impl At24Run {
         }
     }
 
-    /// The place behind a reply, whatever bytes it brings.
+    /// The place after a reply, whatever bytes it brings.
     pub fn behind(&self, place: u16, head: ReplyHead) -> u16
         requires { place < (at24_dialogue self.now).places }
         ensures { (bytes : List ℕ) → result ≡ next_place (at24_dialogue self.now) place (reply_by head bytes) }

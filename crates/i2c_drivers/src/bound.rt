@@ -70,7 +70,7 @@ pub fn bound_sensor(board: &Board, bus: u16, addr: Addr) -> bool
     false
 }
 
-/// All temperature sensors of a board that a driver is bound to, in file order. Want of memory is the only failure.
+/// All temperature sensors of a board that a driver is bound to, in file order. Being out of memory is the only failure.
 pub fn bound_sensors(alloc: Global, board: &Board) -> Result<Vec<Sensor>, NoMemory>
     ensures value { IfOk result (λ sensors. sensors.items ≡ sensors_of board.now) }
     ensures few { IfOk result (λ sensors. length sensors.items ≤ MOST_DEVICES) }

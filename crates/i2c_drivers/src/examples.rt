@@ -5,7 +5,7 @@ ghost use Rattle.i2c_base.specs.Transfer.{written, plain_read};
 ghost use Rattle.i2c_base.specs.declared.board.Size.TheVariants.{C02};
 ghost use Rattle.i2c_base.specs.declared.errno.Errno.TheVariants.{Ebusy, Einval, Eio, Enodev, Enxio};
 ghost use Rattle.i2c_base.specs.declared.reply.Reply.TheVariants.{Done, Read, Err};
-ghost use Rattle.i2c_base.specs.declared.transfer.Kind.TheVariants.{Plain, Smbus};
+ghost use Rattle.i2c_base.specs.declared.transfer.TransferKind.TheVariants.{Plain, Smbus};
 ghost use Rattle.smb_emul.specs.Calls.{messages_of_call};
 ghost use Rattle.tools.specs.Dialogues.{place_after, is_over};
 ghost use Rattle.i2c_drivers.specs.At24.{read_run, eeprom_write_run};
@@ -61,7 +61,7 @@ pub fn only_a_bound_device_of_the_bus_is_found()
     ensures refused { sensor_read_run example.two_buses 1 0x4a Temp ≡ NoSensor Enodev }
 {}
 
-/// A piece is tried eight times: behind seven refusals stands its eighth try, and behind the eighth nothing, which is told as ETIMEDOUT.
+/// A piece is tried eight times: after seven refusals stands its eighth try, and after the eighth nothing, which is told as ETIMEDOUT.
 pub fn the_eighth_refusal_is_the_last()
     ensures seven { place_after example.nine_bytes (replicate 7 (Err Enxio)) ≡ 7 }
     ensures eight { is_over example.nine_bytes (place_after example.nine_bytes (replicate 8 (Err Enxio))) ≡ true }

@@ -1,7 +1,7 @@
 //! The drivers that are bound to devices of a board, after Linux: EEPROMs (at24) and temperature sensors (lm75).
 //!
 //! Its public contract: a `DriverRun` is a line of a driver as it runs, and a dialogue (`dialogue_of` of `specs/Runs.antt`) as a
-//! `ToolRun` of `tools` is: places with a transfer each, where it goes on behind a reply, the lines that it prints, and the room
+//! `ToolRun` of `tools` is: places with a transfer each, where it goes on after a reply, the lines that it prints, and the room
 //! for them. Its caller keeps its place and its replies. A driver reaches only devices of its kind that are bound, each on its
 //! very own bus (`bound_at` of `specs/Bound.antt`); where there is none, a line is refused without a transfer.
 //!

@@ -184,7 +184,7 @@ impl Lm75Run {
         }
     }
 
-    /// The place behind a reply, whatever bytes it brings.
+    /// The place after a reply, whatever bytes it brings.
     pub fn behind(&self, place: u16, head: ReplyHead) -> u16
         requires { place < (lm75_dialogue self.now).places }
         ensures { (bytes : List ℕ) → result ≡ next_place (lm75_dialogue self.now) place (reply_by head bytes) }

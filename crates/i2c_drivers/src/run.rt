@@ -101,7 +101,7 @@ impl DriverRun {
     /// again. It is said of each try of a piece but the first, and it may do so where none is said to.
     pub fn repeats(&self, place: u16) -> bool
         ensures value { result ≡ repeats self.now place }
-        ensures next_place { result ≡ true → 0 < place }
+        ensures later { result ≡ true → 0 < place }
         ensures alike { result ≡ true → AreAlike ((driver_dialogue self.now).at (place - 1)) ((driver_dialogue self.now).at place) }
     {
         match self {
@@ -111,7 +111,7 @@ impl DriverRun {
         }
     }
 
-    /// The place behind a reply, whatever bytes it brings.
+    /// The place after a reply, whatever bytes it brings.
     pub fn behind(&self, place: u16, head: ReplyHead) -> u16
         requires { place < (driver_dialogue self.now).places }
         ensures { (bytes : List ℕ) → result ≡ next_place (driver_dialogue self.now) place (reply_by head bytes) }

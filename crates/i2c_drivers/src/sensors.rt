@@ -43,7 +43,7 @@ impl Model for Sensors {
 const MOST_OF_LINE: usize = 22;
 
 impl Sensors {
-    /// The sensors of a board. Want of memory is the only failure.
+    /// The sensors of a board. Being out of memory is the only failure.
     pub fn open(alloc: Global, board: &Board) -> Result<Self, NoMemory>
         ensures { IfOk result (λ s. s ≡ sensors_of board.now) }
     {
@@ -69,7 +69,7 @@ impl Sensors {
         }
     }
 
-    /// The place behind a reply, whatever it is.
+    /// The place after a reply, whatever it is.
     pub fn behind(&self, place: u16) -> u16
         requires { place < (senses self.now).places }
         ensures { result ≡ place + 1 }

@@ -7,7 +7,7 @@ use Rattle.i2c_gen.specs.Draws.{behind, drawn, number_behind, draw}
 use Rattle.i2c_gen.specs.Scripts.{line_by, line_of}
 use Rattle.i2c_gen.specs.declared.plan.Plan.{Plan}
 
--- a number behind so many draws, and behind one more
+-- a number behind so many draws, and after one more
 next_behind : (seed k j x y : ℕ) → suc k ≡ j → x ≡ number_behind seed k → y ≡ behind x → y ≡ number_behind seed j
 next_behind seed k j x y e h g = g ∙ ap behind h ∙ ap (number_behind seed) e
 

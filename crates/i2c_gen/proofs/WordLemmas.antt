@@ -1,4 +1,4 @@
--- Words with one space between each two are the words of their line, and lines with a line feed behind each are the lines of their
+-- Words with one space between each two are the words of their line, and lines with a line feed after each are the lines of their
 -- text. The inductions go over the bytes of a word, and over the words.
 use Rattle.std.proofs.Common.{◌≡◌, ℕ, Bool, true, false, cond, List, [], ◌∷◌, ◌++◌, map, refl, ap, ◌∙◌, append_assoc, arith}
 use Rattle.std.specs.Prelude.{◌==◌, ◌&&◌, not, nat_lt}
@@ -77,7 +77,7 @@ lines_of-append (b ∷ bs) rest h =
     ap (λ ls. cond (b == 10) ([] ∷ ls) (cond ((b == 13) && begins_feed more) ls (onto_first b ls))) (lines_of-append bs rest p.1)
     ∙ onto_line b (begins_feed more) bs (lines_of rest) p.0
 
--- a line feed behind it
+-- a line feed after it
 abbrev pub ended_line : List ℕ → List ℕ
 ended_line line = line ++ 10 ∷ []
 

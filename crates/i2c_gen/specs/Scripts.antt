@@ -32,14 +32,14 @@ line_of p n = line_by (draw p.seed (5 * n + 2) 3)
     (draw p.seed (5 * n + 3) 256)
     (draw p.seed (5 * n + 4) 256)
 
--- the script of a caller: its lines come behind those of the callers before it
+-- the script of a caller: its lines come after those of the callers before it
 abbrev pub script_of : Plan → (caller : ℕ) → List ℕ
 script_of p caller = flat_map (line_of p) (range_with_len (caller * p.lines) p.lines)
 
 abbrev pub scripts_of : Plan → List (List ℕ)
 scripts_of p = map (script_of p) (range_with_len 0 MOST_CALLERS)
 
--- the draws behind those of all lines are the callers of the schedule
+-- the draws after those of all lines are the callers of the schedule
 abbrev pub lines_in : Plan → ℕ
 lines_in p = MOST_CALLERS * p.lines
 

@@ -12,7 +12,7 @@ ghost use Rattle.i2c_gen.specs.Draws.{draw, number_behind};
 ghost use Rattle.i2c_gen.specs.Scripts.{schedule_of};
 
 /// The five draws of a line of seed 7, with two roots; the fourth would be another one bit lower, and in the low half. What is
-/// multiplied wraps, and the schedule comes behind the draws of all lines.
+/// multiplied wraps, and the schedule comes after the draws of all lines.
 pub fn draws_are_the_high_bits()
     ensures root { draw 7 0 2 ≡ 0 }
     ensures channel { draw 7 1 8 ≡ 7 }

@@ -21,7 +21,7 @@ pub struct Made {
     pub schedule: Vec<u8>,
 }
 
-/// What a plan asks for. It fails only for want of memory.
+/// What a plan asks for. It fails only when out of memory.
 pub fn make(alloc: Global, plan: &Plan) -> Result<Made, NoMemory>
     requires { IsPlan plan.now }
     ensures made { IfOk result (λ m. AreMade plan.now m.board m.scripts.items) }

@@ -9,7 +9,7 @@ use crate::draws::Draws;
 use i2c_base::{MOST_CALLERS, NoMemory};
 use std::alloc::Global;
 
-/// The callers that the draws behind those of all lines name.
+/// The callers that the draws after those of all lines name.
 pub fn made_schedule(alloc: Global, plan: &Plan, draws: &mut Draws) -> Result<Vec<u8>, NoMemory>
     requires plan { IsPlan plan.now }
     requires behind { draws.old.x ≡ number_behind plan.now.seed (5 * lines_in plan.now) }

@@ -58,7 +58,7 @@ fn push_line(out: &mut Vec<u8>, plan: &Plan, draws: &mut Draws) -> Result<(), No
     push_by(out, op, roots + 8 * root + channel, reg, val)
 }
 
-// The text of the script of a caller, by the draws behind those of the callers before it.
+// The text of the script of a caller, by the draws after those of the callers before it.
 fn made_text(alloc: Global, plan: &Plan, draws: &mut Draws) -> Result<Vec<u8>, NoMemory>
     requires plan { IsPlan plan.now }
     ensures behind { (c : ℕ) → draws.old.x ≡ number_behind plan.now.seed (5 * (c * plan.now.lines)) → OnOk result

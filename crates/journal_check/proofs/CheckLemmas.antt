@@ -34,7 +34,7 @@ use Rattle.check_laws.specs.Wrong.{CantBeTold, HasStepped, IsFirstWrong, first_s
 use Rattle.check_laws.specs.Wrong as wrong
 use Rattle.journal_check.specs.Steps.{AreLines, asks_on, MadeAnother, Differs}
 use Rattle.journal_check.proofs.LineLemmas.{entry-lines, lines-append}
-use Rattle.journal_check.specs.declared.steps.Place.{Place}
+use Rattle.journal_check.specs.declared.steps.JournalPlace.{JournalPlace}
 
 all-at : {X : Type 0} (P : X → Type 0) (xs : List X) (i : ℕ) (x : X) → All P xs → slice_get xs i ≡ Some x → P x
 all-at P xs i x all here = subst P (get_or_from_slice_get xs i x x here) (All-get_or P xs i x (slice_get_within xs i x here) all)
@@ -92,7 +92,7 @@ module _ {S : Type 0} (asked : S → List Reply → Option TransferView) (o : Op
           (subst (λ (cs : List PortCall). FailedBy cs (named (world p.0.1).root)) (log_is ∙ ap (calls_of b asks (reverse v.journal.entries)) root) mine)
 
   -- so what is told can't come
-  pub cant-be-told : v.opening ≡ o → (place : Place) → (d : Differs asked o v es place)
+  pub cant-be-told : v.opening ≡ o → (place : JournalPlace) → (d : Differs asked o v es place)
       → CantBeTold b MOST_CALLERS asks (gaps_told b (d.front ++ d.next ∷ d.rest)) (reverse d.front) (caller_of d.next) (d.next ∷ d.rest)
   cant-be-told opened place d =
       elim d.came [
@@ -119,7 +119,7 @@ module _ {S : Type 0} (asked : S → List Reply → Option TransferView) (o : Op
           }
 
   -- the step that is told there ends with the first entry that isn't legal
-  pub wrong-at : (lines : List ℕ) → AreLines lines es → v.opening ≡ o → (place : Place) → Differs asked o v es place
+  pub wrong-at : (lines : List ℕ) → AreLines lines es → v.opening ≡ o → (place : JournalPlace) → Differs asked o v es place
       → ((front : List Entry) (next : Entry) (rest : List Entry) → IsStepwise b MOST_CALLERS asks (reverse front) → (now b asks (reverse front)).due ≡ None
       → CantBeTold b MOST_CALLERS asks (gaps_told b (front ++ next ∷ rest)) (reverse front) (caller_of next) (next ∷ rest)
       → IsFirstWrong b MOST_CALLERS asks (front ++ next ∷ rest) (length front + first_step (next ∷ rest) - 1))
@@ -148,7 +148,7 @@ fewer-lines (e ∷ es) =
     omega (arith, more, counted)
 
 pub before-fits : {S : Type 0} (asked : S → List Reply → Option TransferView) (o : Opening S) (v : CoreState S) (es : List Entry) (lines : List ℕ)
-    → AreLines lines es → (place : Place) → Differs asked o v es place → place.before < length lines
+    → AreLines lines es → (place : JournalPlace) → Differs asked o v es place → place.before < length lines
 before-fits asked o v es lines are place d =
     let counted : length lines ≡ length (flat_map ended_line es) = ap (λ (xs : List ℕ). length xs) are.lines in
     let few : length es ≤ length (flat_map ended_line es) = fewer-lines es in

@@ -136,7 +136,7 @@ pub tells-first : (b : BoardView) (text : List ℕ) (first : ℕ) (gaps : List R
 tells-first b text first gaps none =
     record { es = []; in_range = All-nil IsEntry; parts = refl; few = omega arith; goes = λ f offence. offence; told = none }
 
--- something behind the line `end` is an offence
+-- something after the line `end` is an offence
 over_last : (n : ℕ) (xs : List ℕ) (d : ℕ) → FirstOffence Over n (last_line (xs ++ d ∷ [])) n
 over_last n [] d = refl
 over_last n (x ∷ xs) d = refl

@@ -14,7 +14,7 @@ use Rattle.bus_spec.specs.Readings.{caller_of}
 use Rattle.bus_spec.specs.Schedule.{is_settle}
 use Rattle.bus_journal.specs.Guess.{entry_of}
 use Rattle.bus_journal.specs.Reports.{IsLine}
-use Rattle.bus_tally.proofs.FrontLemmas.{drop_line}
+use Rattle.bus_journal.proofs.FrontLemmas.{drop_line}
 use Rattle.check_laws.specs.Wrong.{first_step}
 use Rattle.bus_journal.proofs.Whole.{entry-read, lines_are_distinct}
 use Rattle.i2c_base.specs.declared.entry.Entry.{Entry}

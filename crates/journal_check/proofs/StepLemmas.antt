@@ -18,7 +18,7 @@ use Rattle.bus_core.specs.Opening.{Opening}
 use Rattle.bus_core.specs.Places.{asks_of}
 use Rattle.bus_core.specs.State.{CoreState, CoreTold, asks_in_state, has_caller}
 use Rattle.journal_check.specs.Steps.{AreLines, HasMadeTold, HasMadeOther, HasMadeElse, asks_on, IsSteady, MadeAnother, Differs}
-use Rattle.journal_check.specs.declared.steps.Place.{Place}
+use Rattle.journal_check.specs.declared.steps.JournalPlace.{JournalPlace}
 use Rattle.journal_check.proofs.LineLemmas.{entry-lines, stands-in, some-entry, lines-append}
 
 module _ {S : Type 0} (asked : S → List Reply → Option TransferView) (o : Opening S) (lines : List ℕ) (es : List Entry) where
@@ -93,7 +93,7 @@ module _ {S : Type 0} (asked : S → List Reply → Option TransferView) (o : Op
       ∙ length-append (flat_map ended_line v.journal.entries) rest in
       omega (arith, whole)
 
-  differs-at : AreLines lines es → (v new : CoreState S) (rest : List ℕ) (follows : IsFollowing v rest) (n : HasNext v rest) (place : Place)
+  differs-at : AreLines lines es → (v new : CoreState S) (rest : List ℕ) (follows : IsFollowing v rest) (n : HasNext v rest) (place : JournalPlace)
       → place.before ≡ length v.journal.entries → place.at ≡ length lines - length rest
       → ((has_caller o.scripts (caller_of n.next) ≡ false)
       ⊎ (IsStuck o.board (asks_on asked o) (reverse v.journal.entries) (caller_of n.next) ⊎ MadeAnother asked o new v.journal.entries n.next n.more))
@@ -112,7 +112,7 @@ module _ {S : Type 0} (asked : S → List Reply → Option TransferView) (o : Op
       }
 
   pub stranger-differs : AreLines lines es → (v : CoreState S) (rest : List ℕ) (follows : IsFollowing v rest) → (length rest == 0) ≡ false
-      → (place : Place) → place.before ≡ length v.journal.entries → place.at ≡ length lines - length rest
+      → (place : JournalPlace) → place.before ≡ length v.journal.entries → place.at ≡ length lines - length rest
       → (caller : ℕ) → IsRead rest caller → has_caller v.opening.scripts caller ≡ false → Differs asked o v es place
   stranger-differs are v rest follows some place before at caller read nobody =
       let n = has-next v rest follows some in
@@ -121,7 +121,7 @@ module _ {S : Type 0} (asked : S → List Reply → Option TransferView) (o : Op
       (subst (λ (k : ℕ). has_caller v.opening.scripts k ≡ false) (read-next v rest n caller read) nobody)))
 
   pub else-differs : AreLines lines es → (v new : CoreState S) (rest : List ℕ) (follows : IsFollowing v rest) → (length rest == 0) ≡ false
-      → (place : Place) → place.before ≡ length v.journal.entries → place.at ≡ length lines - length rest
+      → (place : JournalPlace) → place.before ≡ length v.journal.entries → place.at ≡ length lines - length rest
       → (caller : ℕ) → IsRead rest caller → CoreTold asked new → HasMadeElse asked caller v new rest → Differs asked o new es place
   else-differs are v new rest follows some place before at caller read told came =
       let n = has-next v rest follows some in

@@ -1,4 +1,4 @@
--- The form of a report: whole lines, of which one is `journal`; behind the first such the lines of entries; and `end` as the last one.
+-- The form of a report: whole lines, of which one is `journal`; after the first such the lines of entries; and `end` as the last one.
 use Rattle.std.specs.Prelude.{◌≡◌, ◌⊎◌, ℕ, ◌+◌, ◌≤◌, ◌==◌, Bool, true, false, cond, List, [], ◌∷◌, ◌++◌, length, codes, take, drop, MatchBool}
 use Rattle.std.specs.Str.{bytes_eq}
 use Rattle.i2c_base.specs.declared.entry.Entry.{Entry}
@@ -28,7 +28,7 @@ lines_from front (c ∷ text) = cond (c == 10) ((record { text = front; ended = 
 abbrev pub lines_of : List ℕ → List Line
 lines_of text = lines_from [] text
 
--- where a text stands: before the line `journal`, in the journal, behind the line `end`
+-- where a text stands: before the line `journal`, in the journal, after the line `end`
 pub data Stage : Type 0 where
   Sections : Stage
   Entries : Stage
@@ -38,7 +38,7 @@ abbrev pub IsEntryLine : List ℕ → Type 0
 IsEntryLine line = (e : Entry) × IsEntry e × (entry_line e ≡ line)
 
 -- THE FIRST OFFENCE against the form is this line, where the next line has that number: one without a line feed; one that is no
--- entry's in the journal; any behind `end`; and the missing one, where the text ends before `journal` or `end`
+-- entry's in the journal; any after `end`; and the missing one, where the text ends before `journal` or `end`
 abbrev pub FirstOffence : Stage → ℕ → List Line → ℕ → Type 0
 FirstOffence Sections n [] f = f ≡ n
 FirstOffence Entries n [] f = f ≡ n

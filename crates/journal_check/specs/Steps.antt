@@ -18,7 +18,7 @@ use Rattle.bus_core.specs.Opening.{Opening}
 use Rattle.bus_core.specs.Places.{asks_of}
 use Rattle.bus_core.specs.State.{CoreState, CoreTold, asks_in_state, has_caller}
 use Rattle.check_laws.specs.Wrong.{BeginsWith}
-use Rattle.journal_check.specs.declared.steps.Place.{Place}
+use Rattle.journal_check.specs.declared.steps.JournalPlace.{JournalPlace}
 
 -- a text is the lines of these entries
 pub record AreLines (text : List ℕ) (es : List Entry) : Type 0 where
@@ -43,7 +43,7 @@ pub record HasMadeOther {S : Type 0} (asked : S → List Reply → Option Transf
 abbrev pub HasMadeElse : {S : Type 0} → (S → List Reply → Option TransferView) → ℕ → CoreState S → CoreState S → List ℕ → Type 0
 HasMadeElse asked caller old new text = IsStuckIn asked old caller ⊎ HasMadeOther asked caller old new text
 
--- over what a core was opened with each of these entries might come where it did, and no settle is due behind them
+-- over what a core was opened with each of these entries might come where it did, and no settle is due after them
 abbrev pub asks_on : {S : Type 0} → (S → List Reply → Option TransferView) → Opening S → Asks
 asks_on asked o = asks_of asked o.scripts
 
@@ -60,7 +60,7 @@ pub record MadeAnother {S : Type 0} (asked : S → List Reply → Option Transfe
 
 -- the core has made the first of these entries, and then its caller is none of the core's, is stuck, or made another step
 pub record Differs {S : Type 0} (asked : S → List Reply → Option TransferView) (o : Opening S) (v : CoreState S) (es : List Entry)
-    (place : Place) : Type 0 where
+    (place : JournalPlace) : Type 0 where
   pub front : List Entry
   pub next : Entry
   pub rest : List Entry

@@ -24,7 +24,7 @@ ghost use Rattle.journal_check.specs.Steps.{AreLines, asks_on};
 use crate::front::{behind, byte_at, caller_of_line, first_line};
 use crate::steps::follow_told;
 use crate::told_port::FailsAsTold;
-use bus_core::{BusCore, Parts};
+use bus_core::{BusCore, ClosedCore};
 use check_laws::{
     the_failed_calls_are_told, the_roots_tell_each_call, where_a_step_differs_a_journal_is_wrong,
 };
@@ -112,7 +112,7 @@ pub fn follow_journal<'b, P: FailsAsTold, C: Caller>(
     the_failed_calls_are_told();
     the_roots_tell_each_call();
     where_a_step_differs_a_journal_is_wrong();
-    let Parts { ports, .. } = core.take_apart();
+    let ClosedCore { ports, .. } = core.take_apart();
     all_fail_as_told(ports.as_slice());
     Err(place.before + first_step(behind(lines, place.at)) - 1)
 }

@@ -20,7 +20,7 @@ use crate::told_port::FailsAsTold;
 use bus_core::BusCore;
 use i2c_base::Caller;
 
-/// A core follows a journal, over ports of which those calls fail that the journal tells to have failed. The core behind it, where the
+/// A core follows a journal, over ports of which those calls fail that the journal tells to have failed. The core after it, where the
 /// journal is legal and complete; or what is wrong with it first.
 pub fn check_entries<'b, P: FailsAsTold, C: Caller>(
     core: BusCore<'b, P, C>,

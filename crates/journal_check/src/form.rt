@@ -49,7 +49,7 @@ pub fn ended_line(text: &[u8]) -> Option<&[u8]>
     }
 }
 
-/// The line behind the first line `journal`, or the first line at fault.
+/// The line after the first line `journal`, or the first line at fault.
 pub fn behind_heading(text: &[u8]) -> Result<LineAt, u32>
     requires { length text.now ≤ 2 ^ 28 }
     ensures ok { IfOk result (λ x. HeadingAt text.now x.at x.number) }

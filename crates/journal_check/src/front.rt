@@ -16,7 +16,7 @@ pub fn byte_at(text: &[u8], place: usize) -> u8
     if place < text.len() { text[place] } else { 0 }
 }
 
-/// The text behind its first so many bytes.
+/// The text after its first so many bytes.
 pub fn behind(text: &[u8], count: usize) -> &[u8]
     ensures { result.now ≡ drop count text.now }
 {

@@ -23,5 +23,5 @@ pub use laws::a_report_has_one_answer;
 pub use open::first_open;
 pub use report::{ReportParts, read_report};
 pub use sections::{LinesLeft, goes_on, line_too_many, section_goes_on};
-pub use steps::{Place, follow_told};
+pub use steps::{JournalPlace, follow_told};
 pub use told_port::{FailsAsTold, Telling, ToldPort, told_ports};

@@ -9,9 +9,9 @@ use bus_core::{BusCore, StepAnswer};
 use i2c_base::Caller;
 use ports::Port;
 
-/// Where a core and a text part: behind so many entries, whose lines have so many bytes.
+/// Where a core and a text part: after so many entries, whose lines have so many bytes.
 #[derive(Clone, Copy)]
-pub struct Place {
+pub struct JournalPlace {
     pub before: usize,
     pub at: usize,
 }
@@ -49,7 +49,10 @@ fn step_told<P: Port, C: Caller>(
 
 /// The core follows the steps that these lines tell, up to the first that it doesn't make so. Tells the place of that one; none
 /// where it has made them all.
-pub fn follow_told<P: Port, C: Caller>(core: &mut BusCore<'_, P, C>, lines: &[u8]) -> Option<Place>
+pub fn follow_told<P: Port, C: Caller>(
+    core: &mut BusCore<'_, P, C>,
+    lines: &[u8],
+) -> Option<JournalPlace>
     requires tells { IsTrue P.tells }
     requires lines { AreLines lines.now (entries_of lines.now) }
     requires empty { core.old.journal.entries ≡ [] }
@@ -64,7 +67,7 @@ pub fn follow_told<P: Port, C: Caller>(core: &mut BusCore<'_, P, C>, lines: &[u8
         let before = core.journal().len();
         let caller = caller_told(rest);
         if !core.has(caller) {
-            return Some(Place {
+            return Some(JournalPlace {
                 before,
                 at: lines.len() - rest.len(),
             });
@@ -72,7 +75,7 @@ pub fn follow_told<P: Port, C: Caller>(core: &mut BusCore<'_, P, C>, lines: &[u8
         match step_told(core, caller, rest) {
             Some(count) => rest = behind(rest, count),
             None => {
-                return Some(Place {
+                return Some(JournalPlace {
                     before,
                     at: lines.len() - rest.len(),
                 });

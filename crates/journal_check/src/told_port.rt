@@ -50,7 +50,7 @@ pub trait FailsAsTold: Port {
 #[derive(Drop)]
 pub struct ToldPort<N: Telling> {
     sim: SimPort,
-    /// So many calls go through before the next one that fails, where there is one; and the gaps behind that, from a place on.
+    /// So many calls go through before the next one that fails, where there is one; and the gaps after that, from a place on.
     left: Option<u32>,
     place: usize,
     gaps: Vec<u32>,
@@ -82,7 +82,7 @@ fn next_gap(gaps: &[u32], place: &mut usize) -> Option<u32>
     }
 }
 
-// Whether the next call fails, by the gaps that are left; behind it fewer are left.
+// Whether the next call fails, by the gaps that are left; after it fewer are left.
 fn fails_next(left: &mut Option<u32>, place: &mut usize, gaps: &[u32]) -> bool
     ensures now { result ≡ fails_by (still left.old (drop place.old gaps.now)) 0 }
     ensures behind { (n : ℕ) → fails_by (still left.old (drop place.old gaps.now)) (1 + n) ≡ fails_by (still left.new (drop place.new gaps.now)) n }

@@ -45,7 +45,7 @@ pub answered-all : ScriptsAreFair → (s : ScriptView) (taken : List Reply) (kep
 answered-all fair s taken kept ks is none =
     hits-over asked_by left_of board_of fair (λ x. ks) s taken (ap (λ (js : List Kept). hit js (asked_by s taken)) (sym is) ∙ none)
 
--- A REPLY TAKEN, and the hits behind it answered
+-- A REPLY TAKEN, and the hits after it answered
 pub record IsTaken (s : CachedScript) (full new : List Reply) (reply : Reply) (kept : List Kept) : Type 0 where
   pub cached : IsCached s new kept
   pub taken : taken_of s new ≡ taken_of s full ++ reply ∷ []

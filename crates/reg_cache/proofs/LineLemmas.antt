@@ -114,7 +114,7 @@ module _ (b : BoardView) (text : List ℕ) where
       by false true every = inr (addr, refl, every.0)
       by false false every = inl refl
 
-  -- the handles behind a line
+  -- the handles after a line
   pub after-ok : (v : HandlesView) (h : HandleCmd) → HandlesOk v → AllForced (forced_by_handle h) → HandlesOk (handles_after b v h)
   after-ok v (handle.Open bus) ok all = by (nat_lt bus (buses b))
     where

@@ -12,7 +12,7 @@ use crate::access::access_of;
 use crate::known::{learn, pair_at};
 use cache_laws::{Kept, Pair};
 use caller_core::{Script, scripts_are_fair};
-use i2c_base::{Caller, DevId, Kind, NoMemory, ReplyHead, Transfer};
+use i2c_base::{Caller, DevId, NoMemory, ReplyHead, Transfer, TransferKind};
 use i2c_board::Accepted;
 use std::alloc::Global;
 use std::marker::Model;
@@ -71,7 +71,7 @@ fn answer_hit(script: &mut Script, kept: &mut Vec<Kept>, transfer: &mut Transfer
 }
 
 // Answers the transfers of a script that are hits, one after the other. The transfer is room for them, and holds the one
-// behind them then.
+// after them then.
 fn answer_hits(script: &mut Script, kept: &mut Vec<Kept>, transfer: &mut Transfer)
     requires room { Covers script.old.spare (owed_by script.old.script script.old.taken) }
     ensures script { script.new.script ≡ script.old.script }
@@ -153,7 +153,7 @@ impl CachedCaller {
         for device in devices.as_slice() {
             kept.push_reserved(unknown(board, *device));
         }
-        let mut transfer = Transfer::new(0, Kind::Smbus, false);
+        let mut transfer = Transfer::new(0, TransferKind::Smbus, false);
         hold_next(&script, &kept, &mut transfer);
         Ok(CachedCaller {
             script,

@@ -4,7 +4,7 @@ use Rattle.i2c_base.specs.Limits.{I2C_BLOCK_LIMIT, LARGEST_BLOCK}
 use Rattle.i2c_base.specs.Transfer.{TransferView, written, plain_read, counted_read}
 use Rattle.i2c_base.specs.declared.reply.Reply.{Reply}
 use Rattle.i2c_base.specs.declared.reply.Reply.TheVariants as reply
-use Rattle.i2c_base.specs.declared.transfer.Kind.TheVariants.{Smbus}
+use Rattle.i2c_base.specs.declared.transfer.TransferKind.TheVariants.{Smbus}
 use Rattle.i2c_base.specs.declared.transfer.Msg.{Msg}
 use Rattle.i2c_spec.specs.SmbusCalls.{quick_row, send_byte_row, receive_byte_row, write_byte_row, read_byte_row, write_word_row, read_word_row, proc_call_row, block_write_row, block_read_row, block_proc_row, i2c_block_write_row, i2c_block_read_row}
 use Rattle.i2c_spec.specs.declared.smbus_row.CallRow.{CallRow}
@@ -73,7 +73,7 @@ write_on_wire addr (Some bytes) = 2 * addr ∷ bytes
 abbrev pub read_on_wire : ℕ → List ℕ → List ℕ
 read_on_wire addr bytes = (2 * addr + 1) ∷ bytes
 
--- a call that reads nothing has its error code behind the bytes of its write
+-- a call that reads nothing has its error code after the bytes of its write
 abbrev pub code_sent : ℕ → Bool → ReadShape → List ℕ → List ℕ
 code_sent addr coded read.Nothing bytes = if coded then pec (write_on_wire addr (Some bytes)) ∷ [] else []
 code_sent addr coded (read.Plain n) bytes = []

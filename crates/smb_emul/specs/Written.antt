@@ -2,6 +2,6 @@
 use Rattle.std.specs.Prelude.{ℕ, List, ◌++◌}
 use Rattle.smb_emul.specs.declared.written.Written.{Written}
 
--- the bytes of the head, and behind them those of the block
+-- the bytes of the head, and after them those of the block
 abbrev pub written_bytes : Written → List ℕ
 written_bytes w = w.head ++ w.block.now

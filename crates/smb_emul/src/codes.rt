@@ -11,7 +11,7 @@ use crate::written::Written;
 use i2c_base::Addr;
 use smb_pec::pec_with;
 
-/// The error code of some bytes and of these behind them, from the code of those; of no byte it is 0.
+/// The error code of some bytes and of these after them, from the code of those; of no byte it is 0.
 pub(crate) fn code_behind(code: u8, bytes: &[u8]) -> u8
     ensures { RunsOn code bytes.now result }
 {

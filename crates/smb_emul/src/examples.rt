@@ -4,7 +4,7 @@ ghost use Rattle.std.specs.Prelude.{◌≡◌, ℕ, true, false, Ok, Err, List, 
 ghost use Rattle.std.specs.Borrow.{Bor};
 ghost use Rattle.i2c_base.specs.Transfer.{written, plain_read, counted_read};
 ghost use Rattle.i2c_base.specs.declared.reply.Reply.TheVariants.{Read};
-ghost use Rattle.i2c_base.specs.declared.transfer.Kind.TheVariants.{Smbus};
+ghost use Rattle.i2c_base.specs.declared.transfer.TransferKind.TheVariants.{Smbus};
 ghost use Rattle.smb_emul.specs.Calls.{messages_of_call, value_of_call};
 ghost use Rattle.smb_emul.specs.Value as value;
 ghost use Rattle.smb_emul.specs.declared.call.SmbOp.TheVariants.{BlockProc, ReadByte, WriteWord};
@@ -34,7 +34,7 @@ pub fn a_word_goes_low_byte_first()
         ≡ record { bus = 0; kind = Smbus; force = false; msgs = written 0x20 3 ∷ []; out = 5 ∷ 0x34 ∷ 0x12 ∷ [] } }
 {}
 
-/// A block goes behind its count, and comes behind one, which isn't among its bytes.
+/// A block goes after its count, and comes after one, which isn't among its bytes.
 pub fn a_block_has_its_count_before_it()
     ensures asked { (sent : Bor (List ℕ)) → sent.now ≡ 7 ∷ 8 ∷ []
         → messages_of_call (record { bus = 0; addr = 0x20; force = false; pec = false; op = BlockProc 5 sent })

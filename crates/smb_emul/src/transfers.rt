@@ -9,7 +9,7 @@ use crate::SmbCall;
 use crate::codes::code_of_write;
 use crate::rows::row_shape;
 use crate::written::Written;
-use i2c_base::{Addr, ByteList, ByteStore, Kind, Transfer};
+use i2c_base::{Addr, ByteList, ByteStore, Transfer, TransferKind};
 use i2c_spec::ReadShape;
 
 /// The transfer that a call asks for (SMBus 3.2, sections 6.4 and 6.5).
@@ -17,7 +17,7 @@ pub fn messages(call: &SmbCall<'_>) -> Transfer
     requires { HasBlock call.now.op }
     ensures { result ≡ messages_of_call call.now }
 {
-    let mut transfer = Transfer::new(call.bus, Kind::Smbus, call.force);
+    let mut transfer = Transfer::new(call.bus, TransferKind::Smbus, call.force);
     put_messages(call, &mut transfer);
     transfer
 }
@@ -29,14 +29,14 @@ pub fn put_messages(call: &SmbCall<'_>, transfer: &mut Transfer)
 {
     let shape = row_shape(&call.op);
     let coded = call.pec && shape.checked;
-    transfer.restart(call.bus, Kind::Smbus, call.force);
+    transfer.restart(call.bus, TransferKind::Smbus, call.force);
     if let Some(write) = Written::of(&call.op) {
         add_write(transfer, call.addr, coded, shape.read, &write);
     }
     add_read(transfer, call.addr, coded, shape.read);
 }
 
-// Adds what is written, with the error code behind it where nothing is read.
+// Adds what is written, with the error code after it where nothing is read.
 fn add_write(transfer: &mut Transfer, addr: Addr, coded: bool, read: ReadShape, write: &Written<'_>)
     requires room { HasRoom transfer.old.msgs 259 259 }
     ensures { let bytes = Some (written_bytes write.now) in transfer.new ≡ record transfer.old {
@@ -56,7 +56,7 @@ fn add_write(transfer: &mut Transfer, addr: Addr, coded: bool, read: ReadShape, 
     }
 }
 
-// The bytes of a write, with the error code behind them where nothing is read.
+// The bytes of a write, with the error code after them where nothing is read.
 fn sent<const N: usize>(
     addr: Addr,
     coded: bool,
@@ -75,7 +75,7 @@ fn sent<const N: usize>(
     bytes
 }
 
-// Adds what is read, with the error code behind it.
+// Adds what is read, with the error code after it.
 fn add_read(transfer: &mut Transfer, addr: Addr, coded: bool, read: ReadShape)
     requires short { IsShortRead read }
     requires room { HasRoom transfer.old.msgs 258 258 }

@@ -6,7 +6,7 @@ ghost use Rattle.std.specs.Prelude.{◌≤◌, length};
 use crate::SmbOp;
 use i2c_base::ByteStore;
 
-/// The bytes of a write: the command byte with what stands beside it, and behind them the block.
+/// The bytes of a write: the command byte with what stands beside it, and after them the block.
 #[derive(Drop)]
 pub(crate) struct Written<'b> {
     pub head: ByteStore<3>,
@@ -68,7 +68,7 @@ impl<'b> Written<'b> {
         Self::behind(&[command, block.len() as u8], block)
     }
 
-    // A block behind these bytes.
+    // A block after these bytes.
     fn behind(bytes: &[u8], block: &'b [u8]) -> Self
         requires head { length bytes.now ≤ 3 }
         requires short { length block.now ≤ LARGEST_BLOCK }

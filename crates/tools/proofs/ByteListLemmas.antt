@@ -62,7 +62,7 @@ module _ {A : Type 0} (made : List ℕ → A) where
   bytes_refused n ws i (fault.Word k) h = read_some n [] ws i ∙ ap (λ (x : Result (List ℕ) ℕ). x >>= whole_bytes) h
   bytes_refused n ws i fault.Memory h = tt
 
--- behind a number, as that of a handle is
+-- after a number, as that of a handle is
 module _ {A : Type 0} (number : Class ℕ) (most : ℕ) (made : ℕ → List ℕ → A) (ws : List Word) (i n : ℕ) (is : one_at number.of ws i ≡ Ok n) where
   pub line_read : (bytes : List ℕ) → bytes_at most [] ws (i + 1) ≡ Ok bytes
       → read_at (class number (λ x. some_bytes most [] (made x))) ws i ≡ Ok (made n bytes)

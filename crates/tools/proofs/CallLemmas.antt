@@ -1,7 +1,7 @@
 -- How long the value of an SMBus call is, and which replies its transfer may get.
 use Rattle.std.proofs.Common.{◌≡◌, ℕ, ◌+◌, ◌-◌, ◌≤◌, Bool, true, false, cond, List, [], ◌∷◌, ◌++◌, length, take, drop, get_or, Ok, Err, Some, refl, subst, ap, length-take, length-drop, arith}
 use Rattle.std.specs.Prelude.{◌==◌, ◌&&◌, slice_get}
-use Rattle.i2c_base.specs.declared.transfer.Kind.TheVariants.{Smbus}
+use Rattle.i2c_base.specs.declared.transfer.TransferKind.TheVariants.{Smbus}
 use Rattle.tools.specs.Values.{call_result_text}
 use Rattle.tools.specs.declared.run.call.Callee.{Callee}
 use Rattle.i2c_base.specs.Fitting.{Fits, count_of}
@@ -49,7 +49,7 @@ no_block call none bytes fits = block_bound call.addr (is_coded call) (call_row 
 exact : (n : ℕ) (bytes : List ℕ) → (n ≤ length bytes) × (drop n bytes ≡ []) → length bytes ≤ n
 exact n bytes h = omega (arith, ap length h.1, length-drop n bytes)
 
--- of a block behind its count
+-- of a block after its count
 counted : (addr : ℕ) (coded : Bool) (row : CallRow) (bytes : List ℕ)
     → ((held : List ℕ) → block_of_value (value_by row.value held) ≡ drop 1 held) → length bytes ≤ 256 + cond coded 1 0
     → length (block_in (read_value addr coded row bytes)) ≤ 255
@@ -120,7 +120,7 @@ pub first_fits : (d : Dialogue) (rs : List Reply) (r : Reply) → AreReplies d 0
 first_fits d [] r are is = absurd cc
 first_fits d (x ∷ xs) r are is = subst (Fits (d.at 0)) (some_same x r is) are.0
 
--- behind whatever reply, the second call of a chain receives
+-- after whatever reply, the second call of a chain receives
 received_by : (c : Chain) (sent r : Reply) → Fits ((chains c).at (next_place (chains c) 0 sent)) r → Fits (messages_of_call (chained c 1)) r
 received_by c reply.Done r fits = fits
 received_by c (reply.Read bytes) r fits = fits

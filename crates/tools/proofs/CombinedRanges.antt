@@ -192,7 +192,7 @@ pub combined_line_fits : (limit : ℕ) → AllEnds (IsInRange limit) combined_wo
 unfolding combined_words
 combined_line_fits limit = options_end (IsInRange limit) combined_bus (bus_fits limit)
 
--- ---- its length: behind the first word it has at most 4,141 words
+-- ---- its length: after the first word it has at most 4,141 words
 
 datum_within : {A : Type 0} (n : ℕ) (one : ℕ → Grammar A) (series : ℕ → ℕ → Grammar A) (x : Datum)
     → ((b : ℕ) → EndsWithin n (one b)) → ((b s : ℕ) → EndsWithin n (series b s)) → EndsWithin n (by_datum one series x)

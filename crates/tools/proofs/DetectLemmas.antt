@@ -88,7 +88,7 @@ pub detect_fits : (limit : ℕ) → AllEnds (IsInRange limit) detect_words
 unfolding detect_words
 detect_fits limit = (tt, probe_end (IsInRange limit) detect_bus (bus_fits limit))
 
--- behind the first word it has at most five
+-- after the first word it has at most five
 range_within : (p : Probe) (bus : ℕ) → EndsWithin 2 (detect_range p bus)
 unfolding detect_range
 range_within p bus = λ w first is x last is_last. tt

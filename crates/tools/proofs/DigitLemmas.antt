@@ -1,4 +1,4 @@
--- Digits behind a value so far, one digit at a time. The inductions go over the digits that are left.
+-- Digits after a value so far, one digit at a time. The inductions go over the digits that are left.
 use Rattle.std.proofs.Common.{◌≡◌, ℕ, ◌+◌, ◌*◌, ◌<◌, Bool, true, false, List, [], ◌∷◌, length, drop, get_or, Option, Some, None, refl, sym, ap, ◌∙◌, arith}
 use Rattle.std.proofs.lemmas.List.{at_drop_more}
 use Rattle.std.proofs.lemmas.Bool.Decides.{nat_tests}

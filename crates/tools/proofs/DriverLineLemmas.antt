@@ -116,7 +116,7 @@ drivers_fit limit others rest = (
   ),
 )
 
--- ---- how long they are: behind the first word they have at most 68 words
+-- ---- how long they are: after the first word they have at most 68 words
 
 module _ (bus addr : ℕ) where
   span_within : EndsWithin 2 (read_span bus addr)

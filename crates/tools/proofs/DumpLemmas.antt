@@ -172,7 +172,7 @@ pub dump_fits : (limit : ℕ) → AllEnds (IsInRange limit) dump_words
 unfolding dump_words
 dump_fits limit = options_fit limit 3 (record { force = false; yes = false; range = None }) tt
 
--- ---- its length: behind the first word it has at most seven words
+-- ---- its length: after the first word it has at most seven words
 
 bus_within : (o : DumpOptions) → EndsWithin 3 (dump_bus o)
 unfolding dump_bus dump_tail
@@ -239,13 +239,13 @@ module _ (d : Dump) where
   abbrev call_by : DumpMode → ℕ → SmbCall
   call_by m k = call_of (dump_op m d.first k)
 
-  -- behind the first place each call of `c` receives
+  -- after the first place each call of `c` receives
   receives : (k : ℕ) → 1 ≤ k → call_by mode.Receive k ≡ call_of op.ReceiveByte
   receives k le =
       let later : (k == 0) ≡ false = grind (arith, nat_tests) in
       ap (λ b. call_of (cond b (op.SendByte d.first) op.ReceiveByte)) later
 
-  -- behind the first place all calls may get the same replies
+  -- after the first place all calls may get the same replies
   same_fits : (m : DumpMode) (j k : ℕ) (r : Reply) → 1 ≤ j → Fits (messages_of_call (call_by m j)) r
       → Fits (messages_of_call (call_by m (suc k))) r
   same_fits mode.Byte j k reply.Done le fits = fits

@@ -46,7 +46,7 @@ pub get_fits : (limit : ℕ) → AllEnds (IsInRange limit) get_words
 unfolding get_words
 get_fits limit = options_end (IsInRange limit) get_bus (bus_fits limit)
 
--- behind the first word it has at most seven
+-- after the first word it has at most seven
 module _ (force : Bool) (bus addr : ℕ) where
   len_within : (reg : ℕ) (m : GetMode × Bool) → EndsWithin 1 (get_len force bus addr reg m)
   unfolding get_len

@@ -264,7 +264,7 @@ within_node (suc n) e nothing h = λ w. tt
 within_node zero e (node d f) h = h
 within_node (suc n) e (node d f) h = h
 
--- then no line goes on behind them
+-- then no line goes on after them
 pub within : {A : Type 0} (n : ℕ) (g : Grammar A) → EndsWithin n g → IsWithin n (line_set g)
 within zero (ends a) h = λ w. refl
 within (suc n) (ends a) h = λ w. tt

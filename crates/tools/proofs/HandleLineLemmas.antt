@@ -76,7 +76,7 @@ module _ (limit : ℕ) where
     ),
   )
 
--- ---- how long they are: behind the first word they have at most 4,139 words
+-- ---- how long they are: after the first word they have at most 4,139 words
 
 open_within : EndsWithin 1 open_words
 unfolding open_words

@@ -6,7 +6,7 @@ use Rattle.std.proofs.lemmas.Bool.Decides.{eqb_tells, nat_tests}
 use Rattle.tools.specs.Words.{begins_with_word, onto_first, behind_gaps, gap_at}
 use Rattle.tools.specs.Splits.{is_blank, words_of, joined_words, is_spaced}
 
--- words with one space between each two already, read behind a space or at the start, or behind a byte of a word
+-- words with one space between each two already, read behind a space or at the start, or after a byte of a word
 abbrev pub is_joined : Bool → List ℕ → Bool
 is_joined at_start [] = not at_start
 is_joined at_start (b ∷ bs) =
@@ -23,7 +23,7 @@ record IsSome (ws : List (List ℕ)) : Type 0 where
   rest : List (List ℕ)
   is : ws ≡ first ∷ rest
 
--- behind a byte of a word, the line is its words, of which there are some
+-- after a byte of a word, the line is its words, of which there are some
 record IsSame (b : ℕ) (bs : List ℕ) : Type 0 where
   some : IsSome (words_of (b ∷ bs))
   same : joined_words (words_of (b ∷ bs)) ≡ b ∷ bs
@@ -166,7 +166,7 @@ whole_front line rest is same some =
     let whole : rest ≡ line = is ∙ none_skipped line (ap length (sym is) ∙ same) in
     ap (is_joined true) (sym whole) ∙ sym (from_some rest some)
 
--- behind a word
+-- after a word
 spaced_next : (behind next : List ℕ) → next ≡ behind_gaps is_blank behind → is_spaced behind next ≡ true
     → is_joined false behind ≡ is_joined_from next
 spaced_next [] next is h = sym (ap is_joined_from is)

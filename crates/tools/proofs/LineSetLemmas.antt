@@ -95,7 +95,7 @@ refused_longest (node e f) i (w ∷ ws) k live some h =
       | inr isnt ↦ record { count = 0; place = omega (arith, err_is i k (rw isnt at h)); longest = stops e f w ws live.0 isnt }
     ]
 
--- where no line goes on behind n words, these and one more decide
+-- where no line goes on after n words, these and one more decide
 pub follow_front : {A : Type 0} (n : ℕ) (g : LineSet A) (i : ℕ) (ws : List Word) → IsWithin n g
     → follow_words g i (take (suc n) ws) ≡ follow_words g i ws
 follow_front n nothing i ws h = refl

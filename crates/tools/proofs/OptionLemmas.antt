@@ -16,7 +16,7 @@ pub both : (a b : Bool) → (a && b) ≡ true → a ≡ true
 both true b h = refl
 both false b h = absurd cc
 
--- a mode that a test names, and the modes behind it
+-- a mode that a test names, and the modes after it
 pub if_named : {M : Type 0} (Q : M → Type 0) (b : Bool) (m : M) (o : Option M) → (b ≡ true → Q m) → IfSome o Q
     → IfSome (cond b (Some m) o) Q
 if_named Q true m o q r = q refl

@@ -36,7 +36,7 @@ are_lines (b ∷ bs) =
       | false ↦ λ is. onto_lines b (whole_lines bs) is (are_lines bs)
     ]) refl
 
--- a line more behind a text of whole lines
+-- a line more after a text of whole lines
 text_more : (text line : List ℕ) → flat_map line_ended (whole_lines text) ≡ text
     → flat_map line_ended (whole_lines text ++ line ∷ []) ≡ (text ++ line) ++ 10 ∷ []
 text_more text line whole =

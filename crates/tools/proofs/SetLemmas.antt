@@ -69,7 +69,7 @@ module _ (limit : ℕ) (h : SetHead) (on : h.bus < 2 ^ 16) (to : IsTargetAddress
       (if_either _ (word_mode w) (block_mode true w) (word_fits w v (omega (arith, is_byte)))
       (block_fits w (v ∷ []) true (λ e. omega arith) (All-cons IsByte v [] is_byte (All-nil IsByte), omega arith, omega arith))))
 
-  -- a mode behind such values
+  -- a mode after such values
   named_fits : (vs : List ℕ) (m : SetMode × Bool) → HasValues limit (Some m.0) vs → AllEnds (IsInRange limit) (set_by h vs m)
   named_fits vs m v = set_fits vs (Some m.0) m.1 v
 
@@ -140,7 +140,7 @@ pub set_line_fits : (limit : ℕ) → AllEnds (IsInRange limit) (set_words limit
 unfolding set_words
 set_line_fits limit = options_end (IsInRange limit) (set_bus limit) (bus_fits limit)
 
--- ---- its length: behind the first word it has at most 261 words
+-- ---- its length: after the first word it has at most 261 words
 
 piece_within : (n : ℕ) (named : SetMode × Bool → Grammar Cmd) (value : ℕ → Grammar Cmd) (b : SetPiece)
     → ((m : SetMode × Bool) → EndsWithin n (named m)) → ((v : ℕ) → EndsWithin n (value v)) → EndsWithin n (by_piece named value b)

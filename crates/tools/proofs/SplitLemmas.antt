@@ -32,7 +32,7 @@ cut_more false true b c n bs ls is e = ap (onto_first b) e ∙ ap (λ t. cond t 
 cut_more true false b c n bs ls is e = let at = rw add-one at e in rw add-one (ap (onto_first b) at ∙ onto_cut b c (take n bs) (drop n bs))
 cut_more false false b c n bs ls is e = let at = rw add-one at e in rw add-one (ap (onto_first b) at ∙ onto_cut b c (take n bs) (drop n bs))
 
--- a text that isn't empty is its first line and the lines behind it
+-- a text that isn't empty is its first line and the lines after it
 lines_cut : (b : ℕ) (bs : List ℕ) → lines_of (b ∷ bs) ≡ cut (take (feed_at (b ∷ bs)) (b ∷ bs)) (drop (feed_at (b ∷ bs)) (b ∷ bs))
 lines_cut b [] =
     (elim (eqb b 10) as (λ f. (r : Bool)
@@ -65,7 +65,7 @@ without_last [] x = refl
 without_last (b ∷ []) x = onto_choice (eqb x 13) b [] (x ∷ [])
 without_last (b ∷ c ∷ cs) x = ap (λ ys. b ∷ ys) (without_last (c ∷ cs) x) ∙ onto_choice (eqb x 13) b (c ∷ cs) (c ∷ cs ++ x ∷ [])
 
--- the first line of a text whose first line feed stands behind a carriage return, behind another byte, or nowhere
+-- the first line of a text whose first line feed stands behind a carriage return, after another byte, or nowhere
 at_feed : (xs : List ℕ) (n : ℕ) → feed_at xs ≡ n → n < length xs → lines_of xs ≡ without_return (take n xs) ∷ lines_of (drop (n + 1) xs)
 at_feed xs n is within =
     let some : 0 < length xs = omega arith in

@@ -42,7 +42,7 @@ trims_alone o front back sign other =
     ∙ ap (λ l. l ++ reverse (skip_spaces (reverse back ++ sign ∷ reverse front))) (reverse-reverse o)
     ∙ ap (λ l. o ++ reverse (skip_spaces l)) (sym (turned front back sign))
 
--- a row behind other text is trimmed by itself
+-- a row after other text is trimmed by itself
 pub row_trimmed : (o : List ℕ) (row : ℕ) (back : List ℕ) → trimmed (o ++ (row_front row ++ back)) ≡ o ++ trimmed (row_front row ++ back)
 row_trimmed o row back = trims_alone o (two_digits row) back 58 refl
 
@@ -56,7 +56,7 @@ parts_more f n = rw add-one
 
 pub ruleset part_steps = (parts_none, parts_more, append_assoc, append-nil)
 
--- lines behind the first one, which are one more at each turn
+-- lines after the first one, which are one more at each turn
 pub lines_none : (h : List ℕ) (f : ℕ → List (List ℕ)) → flat_map line_ended (h ∷ parts f 0) ≡ h ++ 10 ∷ []
 unfolding parts
 lines_none h f = append-nil (line_ended h)
@@ -71,7 +71,7 @@ row_ended o cells a b c d row ea eb ec ed =
     let cut : c ≡ o ++ trimmed (row_front row ++ cells) = ec ∙ ap trimmed whole ∙ row_trimmed o row cells in
     ed ∙ ap (λ t. t ++ 10 ∷ []) cut ∙ append_assoc o (trimmed (row_front row ++ cells)) (10 ∷ [])
 
--- one row more behind a text that has the first lines
+-- one row more after a text that has the first lines
 pub line_next : (o h x now new : List ℕ) (f : ℕ → List (List ℕ)) (n : ℕ) → f n ≡ x ∷ [] → now ≡ o ++ flat_map line_ended (h ∷ parts f n) → new ≡ now ++ line_ended x → new ≡ o ++ flat_map line_ended (h ∷ parts f (n + 1))
 line_next o h x now new f n is same next =
     next ∙ ap (λ t. t ++ line_ended x) same ∙ append_assoc o (flat_map line_ended (h ∷ parts f n)) (line_ended x)
@@ -99,7 +99,7 @@ skip_keeps (x ∷ xs) sign ys other =
       | false ↦ refl
     ]
 
--- a text is trimmed behind any sign in it that is no space
+-- a text is trimmed after any sign in it that is no space
 trimmed_behind : (front back : List ℕ) (sign : ℕ) → (sign == 32) ≡ false
     → trimmed (front ++ sign ∷ back) ≡ front ++ sign ∷ trimmed back
 trimmed_behind front back sign other =

@@ -3,7 +3,7 @@ use Rattle.std.proofs.Common.{◌≡◌, ℕ, ◌+◌, ◌<◌, Bool, true, fals
 use Rattle.tools.specs.Words.{begins_with_word, onto_first, words_between, gap_at}
 
 module _ (is_gap : ℕ → Bool) where
-  -- a text that begins with a word is that word and the words behind it
+  -- a text that begins with a word is that word and the words after it
   glued : (s : Bool) (b m : ℕ) (bs : List ℕ) (ws : List (List ℕ)) → (s ≡ true → ws ≡ take m bs ∷ words_between is_gap (drop m bs))
       → (s ≡ false → m ≡ 0) → ws ≡ words_between is_gap bs
       → cond s (onto_first b ws) ((b ∷ []) ∷ ws) ≡ take (m + 1) (b ∷ bs) ∷ words_between is_gap (drop (m + 1) (b ∷ bs))

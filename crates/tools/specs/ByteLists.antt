@@ -5,7 +5,7 @@ use Rattle.tools.specs.LineSets.{Word}
 use Rattle.tools.specs.Options.{byte}
 use Rattle.tools.specs.Readers.{◌>>=◌, one_at, over_at, is_past}
 
--- one byte or more behind others, at most so many, and what all of them make
+-- one byte or more after others, at most so many, and what all of them make
 unfoldable pub some_bytes : {A : Type 0} → ℕ → List ℕ → (List ℕ → A) → Grammar A
 some_bytes zero got made = ends (made got)
 some_bytes (suc n) got made = class byte (λ b. maybe (made (got ++ b ∷ [])) (some_bytes n (got ++ b ∷ []) made))

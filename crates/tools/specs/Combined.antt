@@ -30,7 +30,7 @@ use Rattle.tools.specs.declared.lists.DescOp.TheVariants as op
 abbrev pub is_at_sign : ℕ → Bool
 is_at_sign b = b == 64
 
--- what stands before the first `@`, and behind it, if there is one
+-- what stands before the first `@`, and after it, if there is one
 abbrev pub before_at : Word → Word
 before_at w = before_gap is_at_sign w
 
@@ -56,7 +56,7 @@ head_with reads (Some addr) (Some len) = Some (record { addr = addr; reads = rea
 head_with reads (Some addr) None = None
 head_with reads None len = None
 
--- a DESC behind a message to `held`, where there is room for so many bytes
+-- a DESC after a message to `held`, where there is room for so many bytes
 abbrev pub head_of : Option ℕ → ℕ → Word → Option DescHead
 head_of held room [] = None
 head_of held room (c ∷ cs) =
@@ -150,21 +150,21 @@ combined_bus force = class bus_number (λ bus. some_descs (combined force bus))
 unfoldable pub combined_words : Grammar Cmd
 combined_words = force_and_yes combined_bus
 
--- ---- DATA and messages as they are read, with the place behind them
+-- ---- DATA and messages as they are read, with the place after them
 
--- what is read behind a byte, and behind one with a suffix
+-- what is read behind a byte, and after one with a suffix
 abbrev pub read_datum : {R : Type 0} → (ℕ → R) → (ℕ → ℕ → R) → Datum → R
 read_datum one series (datum.One b) = one b
 read_datum one series (datum.Series p) = series p.0 p.1
 
--- so many more bytes behind others, and the place behind them
+-- so many more bytes after others, and the place after them
 unfoldable pub data_at : ℕ → List ℕ → List Word → ℕ → Result (List ℕ × ℕ) ℕ
 data_at zero got ws i = Ok (got, i)
 data_at (suc n) got ws i =
     one_at (datum_word (n == 0)).of ws i >>= read_datum (λ b. data_at n (got ++ b ∷ []) ws (i + 1))
     (λ b s. Ok (got ++ counted (n + 1) b s, i + 1))
 
--- a message at a place, behind others, and the place behind it
+-- a message at a place, after others, and the place after it
 abbrev pub message_at : DescPlace → List Desc → List Word → Result (List Desc × DescPlace) ℕ
 message_at p got ws =
     one_at (head_of p.held p.room) ws p.at >>= λ d.
@@ -175,7 +175,7 @@ message_at p got ws =
 abbrev pub first_place : ℕ → DescPlace
 first_place at = record { at = at; room = MOST_BYTES; held = None }
 
--- at most so many more messages behind others
+-- at most so many more messages after others
 unfoldable pub descs_at : ℕ → DescPlace → List Desc → List Word → Result (List Desc) ℕ
 descs_at zero p got ws = over_at got ws p.at
 descs_at (suc n) p got ws = message_at p got ws >>= λ o. if is_past ws o.1.at then Ok o.0 else descs_at n o.1 o.0 ws

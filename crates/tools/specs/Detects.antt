@@ -42,14 +42,14 @@ probe_and_yes k =
 abbrev pub probe_yes_at : Probe → List Word → ℕ → Result (Probe × ℕ) ℕ
 probe_yes_at p ws i = if is_at (codes "-y") ws i then Ok (p, i + 1) else Err i
 
--- the probe that `-q` or `-r` at i names, behind `-y`
+-- the probe that `-q` or `-r` at i names, after `-y`
 abbrev pub yes_probe_at : List Word → ℕ → Probe × ℕ
 yes_probe_at ws i =
     if is_at (codes "-q") ws i then (probe.Quick, i + 1)
     else if is_at (codes "-r") ws i then (probe.Receive, i + 1)
     else (probe.ByAddress, i)
 
--- the probe that the options at i and behind it name, and the place behind them
+-- the probe that the options at i and after it name, and the place after them
 unfoldable pub probe_and_yes_at : List Word → ℕ → Result (Probe × ℕ) ℕ
 probe_and_yes_at ws i =
     if is_at (codes "-q") ws i then probe_yes_at probe.Quick ws (i + 1)

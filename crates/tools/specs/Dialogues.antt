@@ -1,4 +1,4 @@
--- What a command says to the bus, whatever its form: places with a transfer each, where it goes on behind a reply, and the
+-- What a command says to the bus, whatever its form: places with a transfer each, where it goes on after a reply, and the
 -- lines that it prints.
 use Rattle.std.specs.Prelude.{◌≡◌, ⊤, ℕ, ◌+◌, ◌-◌, nat_le, Bool, List, [], ◌∷◌, map}
 use Rattle.std.specs.List.{fold, sum_by, range_with_len}
@@ -10,7 +10,7 @@ use Rattle.i2c_base.specs.declared.reply.Reply.{Reply}
 abbrev pub MOST_PLACES : ℕ
 MOST_PLACES = 2048
 
--- so many places, the transfer at each, how many places are passed over behind the reply at each, what is printed of all
+-- so many places, the transfer at each, how many places are passed over after the reply at each, what is printed of all
 -- replies, and how many bytes that has at most
 pub record Dialogue : Type 0 where
   pub places : ℕ
@@ -19,7 +19,7 @@ pub record Dialogue : Type 0 where
   pub lines : List Reply → List (List ℕ)
   pub most : ℕ
 
--- the place behind a reply, and behind all of these; it is over where that is none of its places
+-- the place after a reply, and after all of these; it is over where that is none of its places
 abbrev pub next_place : Dialogue → ℕ → Reply → ℕ
 next_place d k r = k + 1 + d.skips k r
 

@@ -79,7 +79,7 @@ register_read d rs reg =
 abbrev pub is_dumped : Dump → ℕ → Bool
 is_dumped d reg = nat_le d.first reg && nat_le reg d.last
 
--- ---- its table of bytes: 16 registers a row, and the sign of each behind them
+-- ---- its table of bytes: 16 registers a row, and the sign of each after them
 
 abbrev pub byte_cell : Option ℕ → List ℕ
 byte_cell None = codes " XX"

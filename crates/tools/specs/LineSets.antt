@@ -41,7 +41,7 @@ follow_words nothing i ws = Err i
 follow_words (node ends next) i [] = or_refused ends i
 follow_words (node ends next) i (w ∷ ws) = if goes_on (next w) then follow_words (next w) (i + 1) ws else Err i
 
--- no line goes on behind so many words
+-- no line goes on after so many words
 abbrev pub IsWithin : {A : Type 0} → ℕ → LineSet A → Type 0
 IsWithin n nothing = ⊤
 IsWithin zero (node ends next) = (w : Word) → goes_on (next w) ≡ false

@@ -41,7 +41,7 @@ RefusesBehindLongest = (limit : ℕ) (ws : List Word) (k : ℕ) → follow_words
 abbrev pub MeansInRange : Type 0
 MeansInRange = (limit : ℕ) (ws : List Word) (c : Cmd) → IsLine (script_lines limit) ws c → IsInRange limit c
 
--- no line goes on behind the most words
+-- no line goes on after the most words
 abbrev pub NoneIsLonger : Type 0
 NoneIsLonger = (limit : ℕ) → IsWithin MOST_WORDS (script_lines limit)
 

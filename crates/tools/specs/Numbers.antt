@@ -18,7 +18,7 @@ digit_of hexadecimal b = if hexadecimal then hexadecimal_digit b else decimal_di
 abbrev pub base_of : Bool → ℕ
 base_of hexadecimal = if hexadecimal then 16 else 10
 
--- digits behind a value so far
+-- digits after a value so far
 abbrev pub digits_on : Bool → ℕ → List ℕ → Option ℕ
 digits_on hexadecimal n [] = Some n
 digits_on hexadecimal n (b ∷ bs) = option_and_then (λ d. digits_on hexadecimal (n * base_of hexadecimal + d) bs) (digit_of hexadecimal b)

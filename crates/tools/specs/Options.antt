@@ -22,11 +22,11 @@ force_and_yes k =
     word_or (codes "-f") (word (codes "-y") (k true))
     (word (codes "-y") (word_or (codes "-f") (k true) (k false)))
 
--- the place behind a `-y` that stands at i, `-f` being before it
+-- the place after a `-y` that stands at i, `-f` being before it
 abbrev pub yes_at : List Word → ℕ → Result (Bool × ℕ) ℕ
 yes_at ws i = if is_at (codes "-y") ws i then Ok (true, i + 1) else Err i
 
--- whether `-f` stands at i or behind it, and the place behind the options
+-- whether `-f` stands at i or after it, and the place after the options
 unfoldable pub options_at : List Word → ℕ → Result (Bool × ℕ) ℕ
 options_at ws i =
     if is_at (codes "-f") ws i then yes_at ws (i + 1)

@@ -12,7 +12,7 @@ abbrev pub ◌>>=◌ : {A B : Type 0} → Result A ℕ → (A → Result B ℕ) 
 (Ok x) >>= f = f x
 (Err k) >>= f = Err k
 
--- a fault is the refused word's place, or want of memory
+-- a fault is the refused word's place, or being out of memory
 abbrev pub FaultIs : {A : Type 0} → Result A ℕ → LineFault → Type 0
 FaultIs r (line_fault.Word k) = r ≡ Err k
 FaultIs r line_fault.Memory = ⊤

@@ -3,7 +3,7 @@ use Rattle.std.specs.Prelude.{ℕ, ◌==◌, false, List, [], ◌∷◌, length,
 use Rattle.std.specs.List.{flat_map}
 use Rattle.bus_journal.specs.Reports.{line_ended}
 use Rattle.i2c_base.specs.Transfer.{TransferView}
-use Rattle.i2c_base.specs.declared.transfer.Kind.TheVariants.{Plain}
+use Rattle.i2c_base.specs.declared.transfer.TransferKind.TheVariants.{Plain}
 use Rattle.tools.specs.Dialogues.{Dialogue}
 use Rattle.tools.specs.Words.{onto_first}
 

@@ -66,7 +66,7 @@ abbrev pub by_piece : {A : Type 1} → (SetMode × Bool → A) → (ℕ → A) �
 by_piece named value (piece.Named m) = named m
 by_piece named value (piece.Value v) = value v
 
--- behind REG, behind one byte, and behind several
+-- after REG, after one byte, and behind several
 abbrev pub first_piece : Class SetPiece
 first_piece = record {
   of = λ w. mode_or (send_mode w) (number_in 0 65535 w);
@@ -91,7 +91,7 @@ block_piece is_short = record {
   fits = refl;
 }
 
--- a mode alone, behind a number above 255, and behind the last byte that a block may have
+-- a mode alone, after a number above 255, and after the last byte that a block may have
 abbrev pub only_word : Class (SetMode × Bool)
 only_word = record { of = word_mode; sample = codes "w"; means = (mode.Word, false); fits = refl }
 
@@ -134,7 +134,7 @@ module _ (h : SetHead) where
   set_number true more v = set_byte more v
   set_number false more v = class only_word (set_by (v ∷ []))
 
-  -- [VALUE...] [MODE], a block having at most `more` bytes behind its first
+  -- [VALUE...] [MODE], a block having at most `more` bytes after its first
   unfoldable pub set_values : ℕ → Grammar Cmd
   set_values more = maybe (set_to [] None false) (class first_piece (by_piece (set_by []) (λ v. set_number (nat_le v 255) more v)))
 
@@ -170,7 +170,7 @@ IsNone (v ∷ vs) = ⊥
 abbrev pub IsBlock : (most : ℕ) → List ℕ → Type 0
 IsBlock most vs = AreBytes vs × (1 ≤ length vs) × (length vs ≤ most)
 
--- the values are those of the mode, where a block behind its count has at most so many
+-- the values are those of the mode, where a block after its count has at most so many
 abbrev pub AreOfMode : (most : ℕ) → SetMode → List ℕ → Type 0
 AreOfMode most mode.Send vs = IsNone vs
 AreOfMode most mode.Byte vs = IsOneBelow 256 vs
@@ -191,7 +191,7 @@ pub record IsSetInRange (limit : ℕ) (s : Set) : Type 0 where
 
 -- ---- how it runs
 
--- no MODE is `c` where no value stands, and `b` behind one byte
+-- no MODE is `c` where no value stands, and `b` after one byte
 abbrev pub mode_behind : List ℕ → SetMode
 mode_behind [] = mode.Send
 mode_behind (v ∷ vs) = mode.Byte

@@ -19,7 +19,7 @@ abbrev pub joined_words : List (List ℕ) → List ℕ
 joined_words [] = []
 joined_words (w ∷ ws) = w ++ flat_map behind_space ws
 
--- behind a word nothing stands, or one space, and then the text that begins with the next word
+-- after a word nothing stands, or one space, and then the text that begins with the next word
 abbrev pub is_spaced : (behind next : List ℕ) → Bool
 is_spaced [] next = true
 is_spaced (b ∷ bs) next = (b == 32) && (nat_lt 0 (length next) && (length bs == length next))

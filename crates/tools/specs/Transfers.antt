@@ -5,7 +5,7 @@ use Rattle.bus_spec.specs.Lines.{errno_text}
 use Rattle.i2c_base.specs.Transfer.{TransferView, written, plain_read}
 use Rattle.i2c_base.specs.declared.reply.Reply.{Reply}
 use Rattle.i2c_base.specs.declared.reply.Reply.TheVariants as reply
-use Rattle.i2c_base.specs.declared.transfer.Kind.TheVariants.{Plain}
+use Rattle.i2c_base.specs.declared.transfer.TransferKind.TheVariants.{Plain}
 use Rattle.i2c_base.specs.declared.transfer.Msg.{Msg}
 use Rattle.tools.specs.Dialogues.{Dialogue}
 use Rattle.tools.specs.Values.{byte_words}

@@ -29,7 +29,7 @@ abbrev pub gap_at : (ℕ → Bool) → List ℕ → ℕ
 gap_at is_gap [] = 0
 gap_at is_gap (b ∷ bs) = if is_gap b then 0 else gap_at is_gap bs + 1
 
--- what stands before the first gap, and behind it, if there is one
+-- what stands before the first gap, and after it, if there is one
 abbrev pub before_gap : (ℕ → Bool) → List ℕ → List ℕ
 before_gap is_gap text = take (gap_at is_gap text) text
 

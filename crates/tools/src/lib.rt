@@ -13,7 +13,7 @@
 //!   has a row for each command, whose own definitions are a file beside it: `specs/Gets.antt` of `i2cget`, `specs/Sets.antt` of
 //!   `i2cset`, `specs/Combined.antt` of `i2ctransfer`, `specs/Dumps.antt` of `i2cdump`, `specs/Detects.antt` of `i2cdetect`). It has
 //!   one of a few forms, and each form is a dialogue (`dialogue_of` of `specs/Runs.antt`): places with a transfer each, where it goes
-//!   on behind a reply, the lines that it prints, and the room for them (`specs/Dialogues.antt`). Its caller keeps its place and its
+//!   on after a reply, the lines that it prints, and the room for them (`specs/Dialogues.antt`). Its caller keeps its place and its
 //!   replies. `specs/Values.antt` tells how values are printed, and `specs/Tables.antt` how the rows of a table are;
 //!   `specs/DumpTables.antt` is the dialogue of `i2cdump` with its tables, and `specs/Scans.antt` that of `i2cdetect`.
 //! - Texts. `cut_line` tells the first line of a text, and `push_echo` prints a line's words (`specs/Splits.antt`).
@@ -67,7 +67,7 @@ pub use number::number_in;
 pub use replies::Window;
 pub use run::ToolRun;
 pub use run::call::{Callee, HeldBlock, HeldCall, HeldOp};
-pub use run::lines::Lines;
+pub use run::lines::KnownLines;
 pub use run::messages::Messages;
 pub use split::{LineWords, cut_line, push_echo};
 pub use text::Text;

@@ -9,7 +9,7 @@ use crate::lists::Octets;
 use crate::options::byte_at;
 use crate::reader::is_past;
 
-/// Reads the bytes from a place on into a list without any: one at least, and at most so many. The line ends behind them.
+/// Reads the bytes from a place on into a list without any: one at least, and at most so many. The line ends after them.
 pub fn read_bytes(
     words: &[&[u8]],
     from: u16,

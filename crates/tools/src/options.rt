@@ -8,7 +8,7 @@ use crate::fault::WordRefused;
 use crate::reader::{is_at, number_at};
 use i2c_base::Addr;
 
-/// Reads `-f`, which may be missing, and `-y`, in any order. Tells whether `-f` is there, and the place behind both.
+/// Reads `-f`, which may be missing, and `-y`, in any order. Tells whether `-f` is there, and the place after both.
 #[tactic(auto, unfolding(crate::specs::Options::options_at))]
 pub fn options(words: &[&[u8]], at: u16) -> Result<(bool, u16), WordRefused>
     requires { at < 2 }

@@ -23,7 +23,7 @@ use call::HeldCall;
 use chain::{Chain, skips};
 use i2c_base::{NoMemory, ReplyHead, Transfer};
 use i2c_board::Accepted;
-use lines::Lines;
+use lines::KnownLines;
 use messages::Messages;
 use scan::MOST_SCANNED;
 use std::alloc::Global;
@@ -32,7 +32,7 @@ use std::alloc::Global;
 #[derive(Drop)]
 pub enum ToolRun {
     /// Asks for nothing, and prints these lines.
-    Says(Lines),
+    Says(KnownLines),
     /// Makes a call, and prints its value.
     Calls(HeldCall),
     /// Sends a byte, then receives one, and prints that.
@@ -90,7 +90,7 @@ impl ToolRun {
     /// may bring needn't be asked again. It may do so where none is said to.
     #[inline(always)]
     pub fn repeats(&self, place: u16) -> bool
-        ensures next_place { result ≡ true → 0 < place }
+        ensures later { result ≡ true → 0 < place }
         ensures alike { result ≡ true → AreAlike ((dialogue_of self.now).at (place - 1)) ((dialogue_of self.now).at place) }
     {
         match self {
@@ -103,7 +103,7 @@ impl ToolRun {
         }
     }
 
-    /// The place behind a reply, whatever bytes it brings.
+    /// The place after a reply, whatever bytes it brings.
     #[inline(always)]
     pub fn behind(&self, place: u16, head: ReplyHead) -> u16
         requires { place < (dialogue_of self.now).places }

@@ -39,7 +39,7 @@ impl<'a> LineWords<'a> {
     }
 
     /// Puts the first words of a line, which stand between spaces and tabs, in place of those that are there: at most so many.
-    /// No word behind them is looked at.
+    /// No word after them is looked at.
     pub(crate) fn split_front(&mut self, line: &'a [u8], most: usize) -> Result<(), NoMemory>
         ensures split { OnOk result (texts self.new.words.items ≡ take most (words_of line.now)) }
         ensures kept { length self.new.words.items ≤ most }

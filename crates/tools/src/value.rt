@@ -34,8 +34,8 @@ fn push_value(out: &mut Text, value: SmbValue<'_>)
 {
     match value {
         SmbValue::Done => out.push(b"ok"),
-        SmbValue::Byte(byte) => push_word(out, byte),
-        SmbValue::Word(word) => push_double_word(out, word),
+        SmbValue::Byte(byte) => push_hex_byte(out, byte),
+        SmbValue::Word(word) => push_hex_word(out, word),
         SmbValue::Block(bytes) => push_byte_words(out, bytes),
     }
 }
@@ -50,9 +50,9 @@ fn push_fail(out: &mut Text, fail: SmbFail)
         SmbFail::Errno(errno) => push_errno(out, errno),
         SmbFail::Pec { got, want } => {
             out.push(b"EBADMSG got ");
-            push_word(out, got);
+            push_hex_byte(out, got);
             out.push(b" want ");
-            push_word(out, want);
+            push_hex_byte(out, want);
         }
     }
 }
@@ -77,7 +77,7 @@ fn push_spaced_word(out: &mut Text, byte: u8)
 }
 
 // Puts a byte as a word at the end.
-fn push_word(out: &mut Text, byte: u8)
+fn push_hex_byte(out: &mut Text, byte: u8)
     requires { 4 ≤ out.old.room }
     ensures bytes { out.new.bytes ≡ out.old.bytes ++ byte_word byte }
     ensures room { out.old.room ≤ out.new.room + 4 }
@@ -107,13 +107,13 @@ pub fn push_byte_words(out: &mut Text, bytes: &[u8])
     ensures spare { 1 ≤ length bytes.now → out.old.room + 1 ≤ out.new.room + 5 * length bytes.now }
 {
     if let Some((first, rest)) = bytes.split_first() {
-        push_word(out, *first);
+        push_hex_byte(out, *first);
         push_spaced_words(out, rest);
     }
 }
 
 // Puts a word of two bytes at the end.
-fn push_double_word(out: &mut Text, word: u16)
+fn push_hex_word(out: &mut Text, word: u16)
     requires { 6 ≤ out.old.room }
     ensures bytes { out.new.bytes ≡ out.old.bytes ++ double_word word }
     ensures room { out.old.room ≤ out.new.room + 6 }

@@ -11,7 +11,7 @@ use crate::fault::WordRefused;
 use crate::number::number_in;
 use crate::options::bus_at;
 use crate::reader::{is_at, is_past, number_at, word_at};
-use crate::run::lines::Lines;
+use crate::run::lines::KnownLines;
 use bus_journal::{push_bytes, push_number};
 use i2c_base::{Addr, MuxId, NoMemory, SegId};
 use i2c_board::Board;
@@ -52,7 +52,7 @@ fn yes_with(words: &[&[u8]], at: u16, probe: Probe) -> Result<(Probe, u16), Word
     }
 }
 
-// Reads `-q` or `-r` behind `-y`. Both may be missing.
+// Reads `-q` or `-r` after `-y`. Both may be missing.
 fn probe_behind(words: &[&[u8]], at: u16) -> (Probe, u16)
     requires { at < 3 }
     ensures gives { result ≡ yes_probe_at (texts words.now) at }
@@ -67,7 +67,7 @@ fn probe_behind(words: &[&[u8]], at: u16) -> (Probe, u16)
     }
 }
 
-// Reads `-q` or `-r`, which both may be missing, and `-y`, in any order. Tells how it probes, and the place behind them.
+// Reads `-q` or `-r`, which both may be missing, and `-y`, in any order. Tells how it probes, and the place after them.
 #[tactic(auto, unfolding(crate::specs::Detects::probe_and_yes_at))]
 fn probe_and_yes(words: &[&[u8]], at: u16) -> Result<(Probe, u16), WordRefused>
     requires { at < 2 }
@@ -183,10 +183,10 @@ fn push_bus(out: &mut Vec<u8>, board: &Board, bus: u16) -> Result<(), NoMemory>
 }
 
 /// The lines of all buses.
-pub fn bus_lines(alloc: Global, board: &Board) -> Result<Lines, NoMemory>
+pub fn bus_lines(alloc: Global, board: &Board) -> Result<KnownLines, NoMemory>
     ensures { IfOk result (λ lines. lines ≡ bus_lines board.now) }
 {
-    let mut lines = Lines::new(alloc);
+    let mut lines = KnownLines::new(alloc);
     let mut line = Vec::new(alloc);
     for bus in 0..board.buses() {
         line.clear();

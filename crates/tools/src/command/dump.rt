@@ -38,7 +38,7 @@ pub struct Dump {
     /// The last register, 255 without `-r`. It is no lower than the first.
     pub last: u8,
     pub mode: DumpMode,
-    /// With an error code: the `p` behind MODE.
+    /// With an error code: the `p` after MODE.
     pub pec: bool,
 }
 

@@ -23,7 +23,7 @@ pub enum GetMode {
     Word,
     /// The register's number is sent alone, and then a byte is received: `c`.
     SendReceive,
-    /// A block that comes behind its count: `s`.
+    /// A block that comes after its count: `s`.
     Block,
     /// A block of so many bytes as are asked for: `i`.
     I2cBlock,
@@ -38,7 +38,7 @@ pub struct Get {
     pub addr: Addr,
     pub reg: Option<u8>,
     pub mode: Option<GetMode>,
-    /// With an error code: the `p` behind MODE.
+    /// With an error code: the `p` after MODE.
     pub pec: bool,
     /// How many bytes the block of `i` has, 1 to 32.
     pub len: Option<u8>,
@@ -79,7 +79,7 @@ fn mode_at(words: &[&[u8]], at: u16) -> Result<(GetMode, bool), WordRefused>
     mode_named(word).ok_or(WordRefused(at))
 }
 
-// Reads what stands behind MODE: LEN, which may be missing, behind `i`, and nothing behind another.
+// Reads what stands behind MODE: LEN, which may be missing, after `i`, and nothing after another.
 #[tactic(auto, unfolding(crate::specs::Gets::get_len))]
 fn read_len(words: &[&[u8]], at: u16, get: Get, mode: (GetMode, bool)) -> Result<Cmd, WordRefused>
     requires { at < 9 }

@@ -28,7 +28,7 @@ pub enum SetMode {
     Byte,
     /// A word, low byte first: `w`.
     Word,
-    /// A block behind its count: `s`.
+    /// A block after its count: `s`.
     Block,
     /// A block without its count: `i`.
     I2cBlock,
@@ -45,7 +45,7 @@ pub struct Set {
     /// None, a number, or the bytes of a block: as many and as large as MODE has them.
     pub values: Words,
     pub mode: Option<SetMode>,
-    /// With an error code: the `p` behind MODE.
+    /// With an error code: the `p` after MODE.
     pub pec: bool,
 }
 
@@ -65,7 +65,7 @@ enum SetPiece {
     Value(u16),
 }
 
-// The mode that a word names, and whether with an error code, behind no value.
+// The mode that a word names, and whether with an error code, after no value.
 fn send_mode(word: &[u8]) -> Option<(SetMode, bool)>
     ensures { result ≡ send_mode word.now }
 {
@@ -78,7 +78,7 @@ fn send_mode(word: &[u8]) -> Option<(SetMode, bool)>
     }
 }
 
-// Behind a number above 255.
+// After a number above 255.
 fn word_mode(word: &[u8]) -> Option<(SetMode, bool)>
     ensures { result ≡ word_mode word.now }
 {
@@ -106,7 +106,7 @@ fn block_mode(short: bool, word: &[u8]) -> Option<(SetMode, bool)>
     }
 }
 
-// Behind one byte.
+// After one byte.
 fn byte_mode(word: &[u8]) -> Option<(SetMode, bool)>
     ensures { result ≡ byte_mode word.now }
 {
@@ -132,7 +132,7 @@ fn mode_or(mode: Option<(SetMode, bool)>, word: &[u8], high: u16) -> Option<SetP
     }
 }
 
-// What stands at a place: behind REG.
+// What stands at a place: after REG.
 fn first_piece_at(words: &[&[u8]], at: u16) -> Result<SetPiece, WordRefused>
     ensures { result ≡ one_at first_piece.of (texts words.now) at }
 {
@@ -140,7 +140,7 @@ fn first_piece_at(words: &[&[u8]], at: u16) -> Result<SetPiece, WordRefused>
     mode_or(send_mode(word), word, u16::MAX).ok_or(WordRefused(at))
 }
 
-// Behind one byte.
+// After one byte.
 fn second_piece_at(words: &[&[u8]], at: u16) -> Result<SetPiece, WordRefused>
     ensures { result ≡ one_at second_piece.of (texts words.now) at }
 {
@@ -156,7 +156,7 @@ fn block_piece_at(words: &[&[u8]], at: u16, short: bool) -> Result<SetPiece, Wor
     mode_or(block_mode(short, word), word, 255).ok_or(WordRefused(at))
 }
 
-// The mode that the word at a place names: behind a number above 255.
+// The mode that the word at a place names: after a number above 255.
 fn word_mode_at(words: &[&[u8]], at: u16) -> Result<(SetMode, bool), WordRefused>
     ensures { result ≡ one_at word_mode (texts words.now) at }
 {
@@ -164,7 +164,7 @@ fn word_mode_at(words: &[&[u8]], at: u16) -> Result<(SetMode, bool), WordRefused
     word_mode(word).ok_or(WordRefused(at))
 }
 
-// Behind one byte, where a block has no more.
+// After one byte, where a block has no more.
 fn byte_mode_at(words: &[&[u8]], at: u16) -> Result<(SetMode, bool), WordRefused>
     ensures { result ≡ one_at byte_mode (texts words.now) at }
 {

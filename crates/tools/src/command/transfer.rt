@@ -92,7 +92,7 @@ fn length_in(word: &[u8], low: u16, room: u16) -> Option<u16>
     }
 }
 
-// The rest of a DESC, behind `r` or `w`.
+// The rest of a DESC, after `r` or `w`.
 fn head_with(reads: bool, word: &[u8], held: Option<u8>, low: u16, room: u16) -> Option<DescHead>
     requires { IfSome held IsTargetAddress }
     ensures value { result ≡ head_with reads (address_in held (after_at word.now)) (length_in low room (before_at word.now)) }
@@ -182,7 +182,7 @@ fn push_counted(bytes: &mut Octets, count: u16, first: u8, step: u8) -> Result<(
     Ok(())
 }
 
-// Reads the data of a message into a list without any, and tells the place behind them.
+// Reads the data of a message into a list without any, and tells the place after them.
 fn read_data(words: &[&[u8]], from: u16, len: u16, bytes: &mut Octets) -> Result<u16, LineFault>
     requires near { from < 9000 }
     requires few { len ≤ MOST_BYTES }
@@ -218,7 +218,7 @@ fn desc_of(addr: Addr, reads: bool, len: u16, bytes: Octets) -> Desc
     Desc { addr, op }
 }
 
-// Reads a message at a place, puts it behind those before, and tells the place behind.
+// Reads a message at a place, puts it after those before, and tells the place behind.
 fn read_message(
     alloc: Global,
     words: &[&[u8]],

@@ -17,7 +17,7 @@ use crate::text::Text;
 use i2c_base::{ReplyHead, Transfer};
 use smb_emul::{SmbOp, put_messages};
 
-/// Sends a byte, and then receives one, but not behind an error.
+/// Sends a byte, and then receives one, but not after an error.
 #[derive(Clone, Copy)]
 pub struct Chain {
     pub to: Callee,
@@ -76,7 +76,7 @@ impl Chain {
     }
 }
 
-/// So many places are passed over behind a reply: none, and behind an error all.
+/// So many places are passed over after a reply: none, and after an error all.
 pub fn skips(head: ReplyHead) -> u16
     ensures value { (bytes : List ℕ) → result ≡ (if is_error (reply_by head bytes) then 2 else 0) }
     ensures few { result ≤ 2 }

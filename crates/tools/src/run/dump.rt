@@ -81,7 +81,7 @@ pub fn put(dump: &Dump, place: u16, transfer: &mut Transfer)
 
 /// Its call at a place asks for the same messages as the one before, but for the number of the register.
 pub fn repeats(dump: &Dump, place: u16) -> bool
-    ensures next_place { result ≡ true → 0 < place }
+    ensures later { result ≡ true → 0 < place }
     ensures alike { result ≡ true → AreAlike (messages_of_call (dump_call dump.now (place - 1))) (messages_of_call (dump_call dump.now place)) }
 {
     match dump.mode {
@@ -109,7 +109,7 @@ fn is_end(mode: DumpMode, head: ReplyHead) -> bool
     }
 }
 
-/// The place behind a reply: all places are passed over behind a first one that ends it, and else none.
+/// The place after a reply: all places are passed over after a first one that ends it, and else none.
 pub fn behind(dump: &Dump, place: u16, head: ReplyHead) -> u16
     requires { place < dump_places dump.now.mode dump.now.first dump.now.last }
     ensures { (bytes : List ℕ) → result ≡ next_place (dumps dump.now) place (reply_by head bytes) }
@@ -301,7 +301,7 @@ fn push_byte_table(dump: &Dump, replies: &Window<'_>, out: &mut Text)
 }
 
 // Prints the cell of a word.
-fn push_word(out: &mut Text, word: Option<u16>)
+fn push_dumped_word(out: &mut Text, word: Option<u16>)
     requires { 5 ≤ out.old.room }
     ensures bytes { out.new.bytes ≡ out.old.bytes ++ word_cell word }
     ensures room { out.old.room ≤ out.new.room + 5 }
@@ -331,7 +331,7 @@ fn push_word_cell(dump: &Dump, replies: &Window<'_>, out: &mut Text, reg: u8)
     ensures room { out.old.room ≤ out.new.room + 5 }
 {
     if dump.first <= reg && reg <= dump.last {
-        push_word(out, word_at(dump, replies, reg));
+        push_dumped_word(out, word_at(dump, replies, reg));
     } else {
         out.push(b"     ");
     }

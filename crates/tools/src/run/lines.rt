@@ -11,11 +11,11 @@ use std::marker::Model;
 
 /// Lines, one after the other. A contract sees the list of them.
 #[derive(Drop)]
-pub struct Lines {
+pub struct KnownLines {
     text: Text,
 }
 
-impl Model for Lines {
+impl Model for KnownLines {
     ghost use Rattle.std.specs.Prelude.{◌≡◌, ℕ, List};
     ghost use Rattle.std.specs.List.{flat_map};
     ghost use Rattle.bus_journal.specs.Reports.{line_ended};
@@ -28,12 +28,12 @@ impl Model for Lines {
     ghost invariant = { λ l. flat_map line_ended (whole_lines l.text.bytes) ≡ l.text.bytes };
 }
 
-impl Lines {
+impl KnownLines {
     /// None yet.
     pub fn new(alloc: Global) -> Self
         ensures { result ≡ [] }
     {
-        Lines {
+        KnownLines {
             text: Text::new(alloc),
         }
     }

@@ -16,7 +16,7 @@ use crate::lists::{Desc, DescOp};
 use crate::replies::Window;
 use crate::text::Text;
 use crate::value::{MOST_BESIDE, push_byte_words, push_errno};
-use i2c_base::{Kind, ReplyHead, Transfer};
+use i2c_base::{ReplyHead, Transfer, TransferKind};
 use std::marker::Model;
 
 /// The messages of a plain transfer, which are within its limits. A contract sees the command that they are of.
@@ -59,7 +59,7 @@ impl Messages {
         ensures { transfer.new ≡ transfer_of self.now }
     {
         let messages = self.messages();
-        transfer.restart(self.of.bus, Kind::Plain, self.of.force);
+        transfer.restart(self.of.bus, TransferKind::Plain, self.of.force);
         put_messages(messages, transfer);
     }
 
@@ -113,7 +113,7 @@ fn read_by(message: &Desc) -> usize
     }
 }
 
-// Puts messages behind those of a transfer.
+// Puts messages after those of a transfer.
 fn put_messages(messages: &[Desc], transfer: &mut Transfer)
     requires each { All IsDescInRange messages.now }
     requires few { length transfer.old.msgs + length messages.now ≤ limits.MOST_MESSAGES }
@@ -125,7 +125,7 @@ fn put_messages(messages: &[Desc], transfer: &mut Transfer)
     }
 }
 
-// Puts a message behind those of a transfer.
+// Puts a message after those of a transfer.
 fn put_message(message: &Desc, transfer: &mut Transfer)
     requires range { IsOpInRange message.now.op }
     requires room { HasRoom transfer.old.msgs (length_of message.now.op) (length_of message.now.op) }

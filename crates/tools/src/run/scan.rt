@@ -121,7 +121,7 @@ impl Detect {
         }
     }
 
-    /// So many places are passed over behind a reply: none, and all where the bus isn't there.
+    /// So many places are passed over after a reply: none, and all where the bus isn't there.
     pub fn skips(&self, head: ReplyHead) -> u16
         ensures value { (bytes : List ℕ) → result ≡ (if is_no_bus (reply_by head bytes) then probes self.now else 0) }
         ensures few { result ≤ 112 }

@@ -45,7 +45,7 @@ loop-place-preserved c =
           (rw w.bill-is w.turn_to.ensures.bill, rw w.one-is one)
       | else-not-repeats w ↦
           let again : c.repeats.result ≡ true = grind (arith, common_steps, w.if-not-repeats.false) in
-          let before = c.loop-place.invariant.one (c.repeats.ensures.next_place again) in
+          let before = c.loop-place.invariant.one (c.repeats.ensures.later again) in
           (rw w.bill-is c.loop-place.invariant.bill, rw w.one-is (one_alike b (d.at (i - 1)) t _ (c.repeats.ensures.alike again) before))
     ] in
     let last : i ≡ i + 1 - 1 = omega arith in
@@ -65,7 +65,7 @@ loop-place-init c = record {
 pub root_bit-requires : goal.root_bit-requires
 root_bit-requires c = c.turn_to.ensures.bill.near
 
--- behind the last place all transfers are summed
+-- after the last place all transfers are summed
 summed : (d : Dialogue) (i : ℕ) → d.places ≤ i → take i (transfers_of d) ≡ transfers_of d
 summed d i past = take_all i (transfers_of d) (omega (arith, past, length-map-range_with_len d.at 0 (d.places - 0)))
 

@@ -1,6 +1,6 @@
 use Rattle.std.proofs.Common.{◌≡◌, ℕ, List, Option, Some, length, take, unwrap_or, ◌∙◌, ap, subst}
 use Rattle.memchr.specs.Find.{IsFirstByte, is_byte}
-use Rattle.bus_tally.proofs.FrontLemmas.{feed_found, take_line}
+use Rattle.bus_journal.proofs.FrontLemmas.{feed_found, take_line}
 use Rattle.journal_check.proofs.front.first_line.Goals as goal
 
 pub returns : goal.returns

@@ -5,8 +5,8 @@ use Rattle.tools.proofs.value.push_fail.Goals as goal
 
 pub returns-in-Pec-clause-bytes : goal.returns-in-Pec-clause-bytes
 returns-in-Pec-clause-bytes c =
-    c.push_word-in-Pec.ensures.bytes
+    c.push_hex_byte-in-Pec.ensures.bytes
     ∙ ap (λ t. t ++ byte_word c.in-Pec.want) (c.push-in-Pec.ensures.bytes
-    ∙ ap (λ t. t ++ codes " want ") (c.push_word.ensures.bytes ∙ ap (λ t. t ++ byte_word c.in-Pec.got) c.push.ensures.bytes))
+    ∙ ap (λ t. t ++ codes " want ") (c.push_hex_byte.ensures.bytes ∙ ap (λ t. t ++ byte_word c.in-Pec.got) c.push.ensures.bytes))
     ∙ four_pieces c.args.out.now.bytes (codes "EBADMSG got ") (byte_word c.in-Pec.got) (codes " want ") (byte_word c.in-Pec.want)
     ∙ ap (λ f. c.args.out.now.bytes ++ fail_text f) (sym c.in-Pec.is)

@@ -54,7 +54,7 @@ module _ (c : After-get) where
       command there c.args.head c.args.bytes.now c.push.new.self refl (given_by c.args.head c.args.bytes.now c.requires.few)
       c.push.ensures.items c.push.ensures.room c.push.ensures.room_bytes
 
-  -- where it stands with the reply: at a further place of the same command, or behind that command
+  -- where it stands with the reply: at a further place of the same command, or after that command
   further : (next : ℕ) → next ≡ next_place (command_talk command) c.self.inside.place reply → next < (command_talk command).places
       → IsCaller script c.self.inside.commands c.push.new.self.items c.self.inside.printed.bytes c.self.inside.turn c.self.inside.from next
       c.self.inside.totals
