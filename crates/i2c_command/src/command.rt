@@ -69,7 +69,7 @@ pub struct Called {
 }
 
 /// Reads the words of the command line and does what they say, over the real files, the standard output and a rig. The status is that of
-/// `top` for just these words, over files and an output that counted no fault, or Memory where memory was wanting for the words.
+/// `top` for just these words, over files and an output that counted no fault, or Memory where there was no memory for the words.
 pub fn call<E: Env + Files + Print + AllocGlobal + Threads + Wait + Sync, R: Rig>(
     rt: &E,
     rig: &mut R,

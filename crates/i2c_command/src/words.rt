@@ -39,7 +39,7 @@ fn text_of(alloc: Global, bytes: &[u8]) -> Result<String, AllocError> {
     }
 }
 
-// The word at a place, none behind the last one. It is read into this room, which is doubled until the word fits.
+// The word at a place, none after the last one. It is read into this room, which is doubled until the word fits.
 fn word_at<R: Env>(
     rt: &R,
     alloc: Global,
@@ -57,7 +57,7 @@ fn word_at<R: Env>(
 }
 
 /// The words of the command line, without the name of the program, which is no word and may be anything. One that isn't UTF-8
-/// is an empty word, which is the name of no file. `Err` is want of memory.
+/// is an empty word, which is the name of no file. `Err` is being out of memory.
 pub fn words_of<R: Env>(rt: &R, alloc: Global) -> Result<Words, AllocError> {
     let mut words = Vec::new(alloc);
     let mut room = vec![in alloc; 0; ROOM]?;

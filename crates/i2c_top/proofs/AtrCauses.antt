@@ -97,7 +97,7 @@ one_fault file b name f g h n =
     one_sorted b h.text f g (sorted b h.text f h.of_text h.fails)
     (sorted b h.text g n.of_text (subst (λ t. Fails b t g) (one_text (file name) n.text h.text n.there h.there) n.fails))
 
--- ---- the statuses that files decide: behind the schedule, of the schedule, of the map, of the board and of a script
+-- ---- the statuses that files decide: after the schedule, of the schedule, of the map, of the board and of a script
 record DecideDear (file : Files) (names : AtrNames) (s : Status) : Type 0 where
   cost : ℕ
   same : s ≡ status.Cost cost

@@ -1,18 +1,19 @@
 -- How a call of `check` ends: its file decides one status, and a success is the line of its board. No induction.
 use Rattle.std.proofs.Common.{◌≡◌, ℕ, ◌<◌, ◌⊎◌, inl, inr, false, IsTrue, List, [], refl, sym, ◌∙◌, ap, subst, arith}
 use Rattle.i2c_base.specs.Board.{BoardView}
-use Rattle.i2c_top.specs.Boards.{HasAccepted, HasRejected}
+use Rattle.i2c_top.specs.Boards.{IsSpelled, HasAccepted, HasRejected}
 use Rattle.i2c_top.specs.Endings.{CameToSuccess, CameToRefusal, HasEndedAs}
-use Rattle.i2c_top.specs.Files.{Files}
+use Rattle.i2c_top.specs.Files.{Files, IsAnyName}
 use Rattle.i2c_top.specs.Form.{DecidesOnce, TellsItsFiles}
 use Rattle.i2c_top.specs.Readings.{IsAcceptedIn, IsRejectedIn, IsRefusedAt, IsBadBoard}
 use Rattle.i2c_top.specs.Traces.{ShelfView, RigView, Outside, KeepsBut, IsUntouched}
-use Rattle.i2c_top.specs.forms.Checks.{IsCheckCause, accepted_text, HasChecked, check_form}
+use Rattle.i2c_top.specs.forms.Checks.{IsCheckCause, accepted_text, HasCheck, HasChecked, check_form}
 use Rattle.i2c_top.specs.declared.status.BoardRefusal.{BoardRefusal}
 use Rattle.i2c_top.specs.declared.status.Status.{Status}
 use Rattle.i2c_top.specs.declared.status.Status.TheVariants as status
 use Rattle.i2c_top.proofs.BoardLemmas.{no_board, one_why}
 use Rattle.i2c_top.proofs.EndingLemmas.{came_to_success, memory_wanting, file_unread, text_refused}
+use Rattle.i2c_top.proofs.SomeFiles.{so-some, some-board}
 
 -- the two statuses that the file decides
 record DecideChecked (file : Files) (name : List ℕ) (s : Status) : Type 0 where
@@ -47,14 +48,17 @@ module _ (name : List ℕ) (shelf shelf_now : ShelfView) (rig : RigView) (kept :
 
   -- a board that was read is a success, by its line
   pub check_done : (board : BoardView) (text : List ℕ) → (IsTrue shelf.tells → IsAcceptedIn shelf.file name board)
-      → text ≡ accepted_text board
+      → IsSpelled board → text ≡ accepted_text board
       → CameToSuccess (check_form name) shelf shelf_now rig rig text
-  check_done board text read line =
+  check_done board text read spelled line =
       came_to_success (check_form name) shelf shelf_now rig rig text (when (λ t. (read t).has)) untouched
       (record {
-        by_files = λ t. record { accepted = (read t).has; line = line ∙ ap accepted_text (read t).same };
-        by_rig = tt;
+        by_files = λ t. of-file shelf.file name (read t);
+        by_rig = so-some IsAnyName name _ _ of-file (some-board name board spelled);
       }) kept
+    where
+      of-file : (file : Files) (called : List ℕ) → IsAcceptedIn file called board → HasCheck file called text
+      of-file file called a = record { accepted = a.has; line = line ∙ ap accepted_text a.same }
 
   pub check_starved : CameToRefusal (check_form name) shelf shelf_now rig rig status.Memory
   check_starved = memory_wanting (check_form name) shelf shelf_now rig rig (inl untouched) kept

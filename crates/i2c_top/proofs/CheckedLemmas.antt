@@ -32,7 +32,7 @@ use Rattle.bus_laws.specs.Reach.{AsksForMessages, AsksWithinLimits}
 use Rattle.bus_core.specs.Opening.{HasRoot, Opening}
 use Rattle.bus_core.specs.Places.{script_at, scripts_of, asks_of}
 use Rattle.bus_core.specs.State.{AllThrough, CoreState, has_caller, logs_of, roots_in, taken_of, worlds_of}
-use Rattle.bus_core.specs.declared.bus.Parts.{Parts}
+use Rattle.bus_core.specs.declared.bus.ClosedCore.{ClosedCore}
 use Rattle.bus_core.specs.declared.seat.Seat.{Seat}
 use Rattle.bus_journal.specs.Reports.{HasNoJournalLine, IsSectionLine}
 use Rattle.bus_journal.specs.Told.{entries_of}
@@ -141,7 +141,7 @@ module _ (b : BoardView) (scripts : List CallerView) (opened : AreOpened b scrip
 
     -- WHAT IS LEFT of a core that has passed
     pub been-checked : (count : ℕ) → count ≡ length scripts → (es : List Entry) (v : CoreState ScriptView)
-        → HasPassed asked_by true core.opening count es v → (x : Parts P CallerView) → scripts_of script_row x.seats.items ≡ v.opening.scripts
+        → HasPassed asked_by true core.opening count es v → (x : ClosedCore P CallerView) → scripts_of script_row x.seats.items ≡ v.opening.scripts
         → taken_of script_row x.seats.items ≡ v.taken → (world : P → World) → worlds_of world x.ports.items ≡ v.worlds
         → (log : P → List PortCall) → logs_of log x.ports.items ≡ v.logs → x.journal ≡ v.journal
         → HasBeenChecked b (texts_of scripts) es x.seats.items x.journal.entries

@@ -6,19 +6,20 @@ use Rattle.bus_clear.specs.Receives.{RootClears}
 use Rattle.i2c_base.specs.Board.{BoardView}
 use Rattle.i2c_base.specs.declared.errno.Errno.{Errno}
 use Rattle.i2c_spec.specs.World.{World, opening_world}
-use Rattle.i2c_top.specs.Boards.{HasRejected}
+use Rattle.i2c_top.specs.Boards.{IsSpelled, HasRejected}
 use Rattle.i2c_top.specs.Endings.{CameToSuccess, CameToRefusal, HasEndedAs}
-use Rattle.i2c_top.specs.Files.{Files}
+use Rattle.i2c_top.specs.Files.{Files, IsAnyName}
 use Rattle.i2c_top.specs.Form.{DecidesOnce, TellsItsFiles}
 use Rattle.i2c_top.specs.Readings.{IsAcceptedIn, IsRejectedIn, IsRefusedAt, IsBadBoard}
 use Rattle.i2c_top.specs.Traces.{ShelfView, RigView, Outside, KeepsBut, IsUntouched}
-use Rattle.i2c_top.specs.forms.Clears.{HasRoot, LacksRoot, IsClearCause, cleared_lines, cleared_text, HasCleared, clear_form}
+use Rattle.i2c_top.specs.forms.Clears.{HasRoot, LacksRoot, IsClearCause, cleared_lines, cleared_text, HasClear, HasCleared, clear_form}
 use Rattle.i2c_top.specs.declared.forms.clear.ClearAt.{ClearAt}
 use Rattle.i2c_top.specs.declared.status.BoardRefusal.{BoardRefusal}
 use Rattle.i2c_top.specs.declared.status.Status.{Status}
 use Rattle.i2c_top.specs.declared.status.Status.TheVariants as status
 use Rattle.i2c_top.proofs.BoardLemmas.{no_board, one_why, one_board_in}
 use Rattle.i2c_top.proofs.EndingLemmas.{came_to_success, memory_wanting, file_unread, text_refused}
+use Rattle.i2c_top.proofs.SomeFiles.{so-some, some-board}
 
 -- the three statuses that are decided
 record IsRejectedAs (file : Files) (name : List ℕ) (s : Status) : Type 0 where
@@ -77,6 +78,10 @@ lines_told b at root high pulses read same clears =
     ∙ (ap (λ p. cleared_lines at.cut (level_at w at.addr at.cut) p read) c.pulses_are
     ∙ ap (cleared_lines at.cut (level_at w at.addr at.cut) (pulses_of w at.addr at.cut)) c.reply)
 
+abbrev root_in : (file : Files) (name : List ℕ) (bus : ℕ) (board : BoardView) → IsAcceptedIn file name board → bus < length board.roots
+    → HasRoot file name bus
+root_in file name bus board a root = record { accepted = a.has; root = subst (λ (b : BoardView). bus < length b.roots) a.same root }
+
 module _ (name : List ℕ) (at : ClearAt) (shelf shelf_now : ShelfView) (rig : RigView) (kept : KeepsBut (λ place. place ≡ 1) shelf shelf_now) where
   -- the file is read, so the shelf tells it where it tells the files that are read
   when : {X : Type 0} → (IsTrue shelf.tells → X) → TellsItsFiles (clear_form name at) shelf → X
@@ -85,21 +90,20 @@ module _ (name : List ℕ) (at : ClearAt) (shelf shelf_now : ShelfView) (rig : R
   untouched : IsUntouched rig rig
   untouched = record { plugs = refl; unplugs = refl }
 
-  abbrev root_in : (board : BoardView) → IsAcceptedIn shelf.file name board → at.bus < length board.roots → HasRoot shelf.file name at.bus
-  root_in board a root = record { accepted = a.has; root = subst (λ (b : BoardView). at.bus < length b.roots) a.same root }
-
   -- a root of a board that was read is a success, by its lines
-  pub clear_done : (board : BoardView) (text : List ℕ) → (IsTrue shelf.tells → IsAcceptedIn shelf.file name board) → at.bus < length board.roots
-      → text ≡ cleared_text board at → CameToSuccess (clear_form name at) shelf shelf_now rig rig text
-  clear_done board text read root lines =
-      came_to_success (clear_form name at) shelf shelf_now rig rig text (when (λ t. root_in board (read t) root)) untouched
+  pub clear_done : (board : BoardView) (text : List ℕ) → (IsTrue shelf.tells → IsAcceptedIn shelf.file name board) → IsSpelled board
+      → at.bus < length board.roots → text ≡ cleared_text board at → CameToSuccess (clear_form name at) shelf shelf_now rig rig text
+  clear_done board text read spelled root lines =
+      came_to_success (clear_form name at) shelf shelf_now rig rig text (when (λ t. root_in shelf.file name at.bus board (read t) root))
+      untouched
       (record {
-        by_files = λ t. record {
-          has = root_in board (read t) root;
-          lines = lines ∙ ap (λ (b : BoardView). cleared_text b at) (read t).same;
-        };
-        by_rig = tt;
+        by_files = λ t. of-file shelf.file name (read t);
+        by_rig = so-some IsAnyName name _ _ of-file (some-board name board spelled);
       }) kept
+    where
+      of-file : (file : Files) (called : List ℕ) → IsAcceptedIn file called board → HasClear file called at text
+      of-file file called a =
+          record { has = root_in file called at.bus board a root; lines = lines ∙ ap (λ (b : BoardView). cleared_text b at) a.same }
 
   pub clear_starved : CameToRefusal (clear_form name at) shelf shelf_now rig rig status.Memory
   clear_starved = memory_wanting (clear_form name at) shelf shelf_now rig rig (inl untouched) kept

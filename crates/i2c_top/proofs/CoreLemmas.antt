@@ -35,7 +35,7 @@ use Rattle.bus_core.specs.Opening.{Opening}
 use Rattle.bus_core.specs.Opens.{MayOpen, callers_scripts, opening_of}
 use Rattle.bus_core.specs.Places.{script_of, scripts_of, script_at, asks_of}
 use Rattle.bus_core.specs.State.{AllThrough, CoreState, CoreTold, IsThrough, has_caller, logs_of, roots_in, taken_of, worlds_of}
-use Rattle.bus_core.specs.declared.bus.Parts.{Parts}
+use Rattle.bus_core.specs.declared.bus.ClosedCore.{ClosedCore}
 use Rattle.bus_core.specs.declared.seat.Seat.{Seat}
 use Rattle.bus_core.proofs.Kept.{script-own}
 use Rattle.bus_core.proofs.Loops.{script-none}
@@ -177,13 +177,13 @@ module _ {P C S : Type 0} (g : PortGhosts P) (row : CallerGhosts C S) (b : Board
           y.1 ∙ ap (λ (j : ℕ). Some (j, y.0.1)) first ∙ ap (λ (t : C). Some (i, t)) second
 
 -- a port for each root
-pub ports-count : {P C : Type 0} (x : Parts P C) (ports : List P) → roots_of x.ports.items ≡ roots_of (enumerate_from 0 ports)
+pub ports-count : {P C : Type 0} (x : ClosedCore P C) (ports : List P) → roots_of x.ports.items ≡ roots_of (enumerate_from 0 ports)
     → length x.ports.items ≡ length ports
 ports-count {P} x ports roots =
     sym (length-map x.ports.items (λ (q : ℕ × P). q.0)) ∙ ap length roots ∙ length-map (enumerate_from 0 ports) (λ (q : ℕ × P). q.0)
     ∙ length-enumerate_from 0 ports
 
-module _ {P C S : Type 0} (g : PortGhosts P) (row : CallerGhosts C S) (b : BoardView) (x : Parts P C) (callers : List C)
+module _ {P C S : Type 0} (g : PortGhosts P) (row : CallerGhosts C S) (b : BoardView) (x : ClosedCore P C) (callers : List C)
     (same : scripts_of row x.seats.items ≡ map (λ (y : ℕ × C). (y.0, row.script y.1)) (enumerate_from 0 callers)) where
   abbrev seats : List (Seat C)
   seats = x.seats.items
@@ -379,7 +379,7 @@ told-of asked v told = record { stepwise = told.stepwise; rests = told.rests; wo
 
 -- a core that was opened with callers and ports, ran until all were through, and was taken apart
 pub taken-apart : {P C S : Type 0} (g : PortGhosts P) (row : CallerGhosts C S) (b : BoardView) (callers : List C) (ports : List P)
-    (core ran : CoreState S) (x : Parts P C)
+    (core ran : CoreState S) (x : ClosedCore P C)
     → IsCoreOf row b callers ports core → ran.opening ≡ core.opening → roots_in ran ≡ roots_in core
     → scripts_of row x.seats.items ≡ ran.opening.scripts → taken_of row x.seats.items ≡ ran.taken
     → worlds_of g.world x.ports.items ≡ ran.worlds → logs_of g.log x.ports.items ≡ ran.logs → x.journal ≡ ran.journal
@@ -412,7 +412,7 @@ goes-on-whole words old new empty goes =
 
 -- what is left of one core, with its journal in a list
 pub as-one : {P C S : Type 0} (g : PortGhosts P) (row : CallerGhosts C S) (b : BoardView) (callers : List C) (ports : List P)
-    (x : Parts P C) (y : Ran P C) → IsLeftOf g row b callers ports x → IsAsOne x y → IsLeftOf g row b callers ports (one_of y)
+    (x : ClosedCore P C) (y : Ran P C) → IsLeftOf g row b callers ports x → IsAsOne x y → IsLeftOf g row b callers ports (one_of y)
 as-one {P} {C} {S} g row b callers ports x y left as_one =
     subst (IsLeftOf g row b callers ports) same
     (record { over = left.over; scripts = left.scripts; count = left.count })

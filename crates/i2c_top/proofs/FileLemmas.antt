@@ -230,7 +230,7 @@ pub same_bad : (file file_now : Files) (b : BoardView) (name : List ℕ) (line w
     → HasBadScript file_now b name line word → HasBadScript file b name line word
 same_bad file file_now b name line word same bad = record { text = bad.text; there = sym (same name) ∙ bad.there; read = bad.read }
 
--- a script was refused behind those before it
+-- a script was refused after those before it
 pub script_refused : (first : ℕ) (tells : Bool) (file file_now : Files) (board : BoardView) (names : List (List ℕ))
     (reads reads_mid reads_now : ℕ → ℕ) (n : ℕ) (s : Status) (name : List ℕ) → name ≡ script_name names n
     → n < length names
@@ -370,7 +370,7 @@ KeepsRest schedule reads reads_now s = (other : ℕ) → IsSkipped schedule s ot
 abbrev KeepsAfter : Option (List ℕ) → (ℕ → ℕ) → (ℕ → ℕ) → ℕ → Type 0
 KeepsAfter schedule reads reads_now place = (other : ℕ) → IsReadAfter schedule place other → reads_now other ≡ reads other
 
--- behind the board nothing was,
+-- after the board nothing was,
 pub board_unreached : (schedule : Option (List ℕ)) (of : BoardRefusal → Type 0) (reads reads_now : ℕ → ℕ) (s : Status)
     → ((place : ℕ) → (place ≡ 1 → ⊥) → reads_now place ≡ reads place)
     → IsRefusedAt 1 (IsBadBoard of) (reads 1) (reads_now 1) s → KeepsRest schedule reads reads_now s
@@ -388,7 +388,7 @@ board_unreached schedule of reads reads_now s kept refused =
         by (inl at) = kept other (λ e. let two = (schedule_before schedule other at).0 in absurd (omega (arith, e, two)))
         by (inr later) = kept other (λ e. absurd (omega (arith, e, later)))
 
--- .. behind a script not the later ones nor the schedule,
+-- .. after a script not the later ones nor the schedule,
 pub scripts_unreached : (schedule : Option (List ℕ)) (tells : Bool) (file : Files) (b : BoardView) (names : List (List ℕ))
     (reads reads_mid reads_now : ℕ → ℕ) (s : Status)
     → ((place : ℕ) → (place ≡ 1 → ⊥) → reads_mid place ≡ reads place)
@@ -414,7 +414,7 @@ scripts_unreached schedule tells file b names reads reads_mid reads_now s kept k
             kept_now other (λ h. absurd (omega (arith, h.0, two.1))) ∙ kept other (λ e. absurd (omega (arith, e, two.0)))
         by (inr later) = r.kept other later ∙ kept other (λ e. absurd (omega (arith, e, later, low)))
 
--- .. and behind the schedule there is nothing
+-- .. and after the schedule there is nothing
 pub order_unreached : (schedule : Option (List ℕ)) (tells : Bool) (file : Files) (callers : ℕ) (reads reads_mid reads_now : ℕ → ℕ)
     (s : Status) → IsRefusedOrder tells file schedule callers reads_mid reads_now s
     → KeepsRest schedule reads reads_now s

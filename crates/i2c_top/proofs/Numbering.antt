@@ -71,7 +71,7 @@ module _ {X Y : Type 0} (told : List X → List Y) (all : List X) where
       (subst (λ (n : ℕ). GoesOver told all (came ++ x ∷ []) rest less (out ++ y ∷ []) n) (sym same)
       (over-one came rest x y count less room out (subst (λ (xs : List X). GoesOver told all came xs count out room) steps over) one tells))
 
--- numbers go on behind the last
+-- numbers go on after the last
 pub numbered-push : {X : Type 0} (n : ℕ) (xs : List X) (x : X)
     → enumerate_from n (xs ++ x ∷ []) ≡ enumerate_from n xs ++ (n + length xs, x) ∷ []
 numbered-push n [] x = ap (λ (k : ℕ). (k, x) ∷ []) (omega (arith))

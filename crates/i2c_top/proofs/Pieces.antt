@@ -29,7 +29,7 @@ front_behind before mid after text piece rest is whole front =
           ∙ ap (λ (xs : List ℕ). before ++ xs) (sym (take-append-add piece rest n) ∙ ap (take (length piece + n)) (sym is)))),
     )
 
--- the lines of the last journal behind those of the others
+-- the lines of the last journal after those of the others
 whole : (journals rest : List JournalView) (last : Option JournalView) → journals ≡ rest ++ option_to_list last
     → lines_of rest ++ option_map_or (λ (j : JournalView). flat_map ended_line j.entries) last [] ≡ lines_of journals
 whole journals rest None parted = append-nil (lines_of rest) ∙ sym (ap lines_of (parted ∙ append-nil rest))

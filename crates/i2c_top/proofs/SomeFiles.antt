@@ -9,14 +9,15 @@ use Rattle.addr_atr.specs.Maps.{MapView}
 use Rattle.caller_core.specs.View.{CallerView}
 use Rattle.i2c_base.specs.Board.{BoardView}
 use Rattle.i2c_top.specs.Boards.{IsSpelled}
-use Rattle.i2c_top.specs.Files.{Files}
+use Rattle.i2c_top.specs.Files.{Files, OfSomeFiles, IsAnyName}
 use Rattle.i2c_top.specs.MapFiles.{IsMapSpelled}
-use Rattle.i2c_top.specs.Readings.{IsAcceptedIn, IsOrderIn, HasReadSome, HasReadSomeMap}
+use Rattle.i2c_top.specs.Readings.{IsAcceptedIn, IsOrderIn, HasReadSome, HasReadSomeJournal, HasReadSomeMap}
 use Rattle.i2c_top.specs.Runs.{texts_of}
 use Rattle.i2c_top.specs.Schedules.{schedule_read}
 use Rattle.i2c_top.specs.Scripts.{script_name, texts_in, IsInGrammar, AreScheduled, AreOrdered, HasScript, HasScripts}
 use Rattle.i2c_top.specs.forms.Atrs.{AtrNames}
 use Rattle.i2c_top.specs.forms.Replays.{Names, names_of}
+use Rattle.i2c_top.specs.forms.Verifies.{VerifyNames}
 
 -- the file of each place is one of these texts
 abbrev contents : List (List ℕ) → Files
@@ -95,6 +96,43 @@ order-numbered board texts (Some name) callers words are =
 accepted-numbered : (b : BoardView) (spelled : IsSpelled b) (texts : List (List ℕ)) → IsAcceptedIn (contents (spelled.text ∷ texts)) (0 ∷ []) b
 accepted-numbered b spelled texts =
     record { has = record { board = b; text = spelled.text; there = refl; is_accepted = spelled.is_accepted }; same = refl }
+
+-- what follows of the files that a shelf tells follows of some files too
+pub so-some : {N : Type 0} (IsLike : N → N → Type 0) (names : N) (P Q : Files → N → Type 0)
+    → ((file : Files) (called : N) → P file called → Q file called) → OfSomeFiles IsLike names P → OfSomeFiles IsLike names Q
+so-some IsLike names P Q follows some =
+    record { file = some.file; called = some.called; like = some.like; so = follows some.file some.called some.so }
+
+-- THE FILE of a call that reads a board alone
+pub some-board : (name : List ℕ) (b : BoardView) → IsSpelled b → OfSomeFiles IsAnyName name (λ file called. IsAcceptedIn file called b)
+some-board name b spelled =
+    record { file = contents (spelled.text ∷ []); called = 0 ∷ []; like = tt; so = accepted-numbered b spelled [] }
+
+-- THE FILES of a call of `verify`
+pub some-journal : (names : VerifyNames) (b : BoardView) (scripts : List CallerView) (text : List ℕ) → IsSpelled b
+    → All (λ s. IsInGrammar b s.script.text) scripts → length scripts ≡ length names.scripts
+    → HasReadSomeJournal names b (texts_of scripts) text
+some-journal names b scripts text spelled grammar count =
+    record {
+      file = contents all;
+      called = record { board = 0 ∷ []; journal = 1 ∷ []; scripts = numbered 2 texts };
+      like = many-numbered 2 scripts (length names.scripts) count;
+      so = record {
+        board_in = accepted-numbered b spelled (text ∷ texts);
+        scripts = scripts-numbered all 2 b scripts grammar from;
+        texts_are = sym (texts-numbered all 2 texts from);
+        there = refl;
+      };
+    }
+  where
+    texts : List (List ℕ)
+    texts = texts_of scripts
+
+    all : List (List ℕ)
+    all = spelled.text ∷ text ∷ texts
+
+    from : AreFrom all 2 texts
+    from c at is = ap (slice_get all) (let e : at ≡ suc (suc c) = omega (arith, is) in e)
 
 -- THE FILES of a replay
 pub some-read : (names : Names) (b : BoardView) (scripts : List CallerView) (callers : ℕ) (words : Option (List ℕ)) → IsSpelled b

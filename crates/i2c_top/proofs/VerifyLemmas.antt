@@ -15,12 +15,12 @@ use Rattle.i2c_top.specs.Checked.{checked_on}
 use Rattle.i2c_top.specs.Endings.{CameToSuccess, CameToRefusal, HasEndedAs}
 use Rattle.i2c_top.specs.Files.{Files}
 use Rattle.i2c_top.specs.Form.{DecidesOnce, TellsItsFiles, KeepsShelf}
-use Rattle.i2c_top.specs.Readings.{AreScriptsIn, HasReadJournal, IsAcceptedIn, IsRejectedIn, IsRefusedAt, IsRefusedScript, IsBadBoard, IsBadScript, IsTooDear}
+use Rattle.i2c_top.specs.Readings.{AreScriptsIn, HasReadJournal, HasReadSomeJournal, IsAcceptedIn, IsRejectedIn, IsRefusedAt, IsRefusedScript, IsBadBoard, IsBadScript, IsTooDear}
 use Rattle.i2c_top.specs.Runs.{MOST_COST, cost_of_texts, texts_of}
 use Rattle.i2c_top.specs.Scripts.{script_name, HasBadScript, HasScripts, texts_in}
 use Rattle.i2c_top.specs.Traces.{ShelfView, RigView, Outside, KeepsBut, IsUntouched}
 use Rattle.i2c_top.specs.forms.Replays.{HasScriptsBefore, IsPlaceIn, IsSkipped}
-use Rattle.i2c_top.specs.forms.Verifies.{VerifyNames, as_replayed, verify_cost, verify_form, verified_text, HasCheapJournal, HasDearJournal, HasFault, HasJournal, HasVerdict, HasVerified, IsVerdict, IsVerifyCause, fault_status}
+use Rattle.i2c_top.specs.forms.Verifies.{VerifyNames, AreVerifyLike, as_replayed, verify_cost, verify_form, verified_text, HasCheapJournal, HasDearJournal, HasFault, HasJournal, HasVerdict, HasVerdictLine, HasVerified, IsVerdict, IsVerifyCause, fault_status}
 use Rattle.i2c_top.specs.declared.status.BoardRefusal.{BoardRefusal}
 use Rattle.i2c_top.specs.declared.status.Status.{Status}
 use Rattle.i2c_top.specs.declared.status.Status.TheVariants as status
@@ -29,6 +29,7 @@ use Rattle.i2c_top.proofs.CheckedLemmas.{can-be}
 use Rattle.i2c_top.proofs.EndingLemmas.{came_to_success, memory_wanting, file_unread, text_refused}
 use Rattle.i2c_top.proofs.FileLemmas.{board_unreached, same_bad, same_scripts, same_texts, scripts_unreached}
 use Rattle.i2c_top.proofs.ReplayCauses.{DecideScript, agree_script, all_earlier, not_dear}
+use Rattle.i2c_top.proofs.SomeFiles.{so-some}
 
 -- the statuses that files decide: by a journal that is read, of the board, of a script
 data IsOfJournal (file : Files) (names : VerifyNames) : Status → Type 0 where
@@ -168,19 +169,27 @@ module _ (names : VerifyNames) (shelf shelf_now : ShelfView) (rig : RigView) (ke
 
   module _ (b : BoardView) (texts : List (List ℕ)) (text : List ℕ) (read : IsTrue shelf.tells → HasReadJournal shelf.file names b texts text)
       (cheap : cost_of_texts b texts ≤ MOST_COST) (plain : IsPlainBoard b) where
-    verdict : (n : ℕ) → IsVerified (checked_on b texts) text n → IsTrue shelf.tells → HasVerdict shelf.file names n
+    pub verify_done : HasReadSomeJournal names b texts text → (n : ℕ) (line : List ℕ) → IsVerified (checked_on b texts) text n
+        → line ≡ verified_text n → CameToSuccess (verify_form names) shelf shelf_now rig rig line
     unfolding has_cheap
-    verdict n v t =
-        record {
-          has = has_cheap shelf.file names b texts text (read t) cheap plain;
-          verified = on_files shelf.file names b texts text (read t) (λ x. IsVerified x text n) v;
-        }
-
-    pub verify_done : (n : ℕ) (line : List ℕ) → IsVerified (checked_on b texts) text n → line ≡ verified_text n
-        → CameToSuccess (verify_form names) shelf shelf_now rig rig line
-    verify_done n line v is =
-        came_to_success (verify_form names) shelf shelf_now rig rig line (when names shelf (λ t. (n, verdict n v t))) (untouched rig)
-        (record { by_files = λ t. record { entries = n; verdict = verdict n v t; line = is }; by_rig = tt }) kept
+    verify_done some n line v is =
+        came_to_success (verify_form names) shelf shelf_now rig rig line (when names shelf (λ t. (n, (of-files shelf.file names (read t)).verdict)))
+        (untouched rig)
+        (record {
+          by_files = λ t. of-files shelf.file names (read t);
+          by_rig = so-some AreVerifyLike names _ _ of-files some;
+        }) kept
+      where
+        of-files : (file : Files) (called : VerifyNames) → HasReadJournal file called b texts text → HasVerdictLine file called line
+        of-files file called was =
+            record {
+              entries = n;
+              verdict = record {
+                has = has_cheap file called b texts text was cheap plain;
+                verified = on_files file called b texts text was (λ x. IsVerified x text n) v;
+              };
+              line = is;
+            }
 
     pub verify_faulty : (f : CheckFault) → IsVerdict f → IsFaultIn (checked_on b texts) text f
         → CameToRefusal (verify_form names) shelf shelf_now rig rig (status.Verify f)

@@ -20,7 +20,7 @@ pub record IsSpelled (board : BoardView) : Type 0 where
   pub text : List ℕ
   pub is_accepted : IsAccepted text board
 
--- a text has this fault, and no want of memory is one
+-- a text has this fault, and being out of memory is none
 pub record IsFaulty (text : List ℕ) (f : BoardFault) : Type 0 where
   pub read : board_of text ≡ Err f
   pub of_text : f ≢ fault.Memory

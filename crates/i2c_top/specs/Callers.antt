@@ -22,7 +22,7 @@ use Rattle.bus_spec.specs.Stepwise.{IsStepwise}
 use Rattle.bus_spec.specs.Schedule.{Follows}
 use Rattle.bus_spec.specs.Report.{report_of}
 use Rattle.bus_journal.specs.Ranges.{IsEntry}
-use Rattle.bus_core.specs.declared.bus.Parts.{Parts}
+use Rattle.bus_core.specs.declared.bus.ClosedCore.{ClosedCore}
 use Rattle.bus_core.specs.declared.seat.Seat.{Seat}
 use Rattle.i2c_top.specs.Faults.{AreCounted}
 
@@ -47,7 +47,7 @@ abbrev pub left_in : {C S : Type 0} → CallerGhosts C S → List C → ℕ
 left_in k callers = sum_by (λ s. k.left (k.script s) []) callers
 
 -- the callers of a core that was taken apart, in the order of their seats
-abbrev pub callers_in : {P C : Type 0} → Parts P C → List C
+abbrev pub callers_in : {P C : Type 0} → ClosedCore P C → List C
 callers_in parts = map (λ (s : Seat _). s.caller) parts.seats.items
 
 -- the callers of a run that is over, on an accepted board, the worlds and the logs of its ports, and its journal, which was

@@ -15,7 +15,7 @@ use Rattle.i2c_spec.specs.Targets.{TargetState}
 use Rattle.i2c_spec.specs.World.{World, AreWorldsOf, devices_of, openings}
 use Rattle.bus_core.specs.Kept.{roots_of}
 use Rattle.bus_core.specs.State.{CoreState, roots_in}
-use Rattle.bus_core.specs.declared.bus.Parts.{Parts}
+use Rattle.bus_core.specs.declared.bus.ClosedCore.{ClosedCore}
 use Rattle.bus_groups.specs.Rounds.{one_of}
 use Rattle.bus_groups.specs.declared.together.Ran.{Ran}
 use Rattle.i2c_top.specs.Callers.{AreReady, left_in, scripts_in, callers_in, IsOver}
@@ -51,14 +51,14 @@ pub record IsCoreOf {P C S : Type 0} (k : CallerGhosts C S) (b : BoardView) (cal
   pub roots : roots_in core ≡ roots_of (enumerate_from 0 ports)
 
 -- what is left of one core, with its journal in a list
-pub record IsAsOne {P C : Type 0} (parts : Parts P C) (ran : Ran P C) : Type 0 where
+pub record IsAsOne {P C : Type 0} (parts : ClosedCore P C) (ran : Ran P C) : Type 0 where
   pub ports : ran.ports ≡ parts.ports
   pub seats : ran.seats ≡ parts.seats
   pub entries : (one_of ran).journal.entries ≡ parts.journal.entries
 
 -- these are left of such a core: its callers are over, they are those that it was opened with, and there is a port for each root
 pub record IsLeftOf {P C S : Type 0} (g : PortGhosts P) (k : CallerGhosts C S) (b : BoardView) (callers : List C) (ports : List P)
-    (parts : Parts P C) : Type 0 where
+    (parts : ClosedCore P C) : Type 0 where
   pub over : IsTrue g.tells → IsOver k b (callers_in parts) MOST_CALLERS parts.journal.entries
       (map (λ (p : ℕ × P). g.world p.1) parts.ports.items) (map (λ (p : ℕ × P). g.log p.1) parts.ports.items)
   pub scripts : scripts_in k (callers_in parts) ≡ scripts_in k callers

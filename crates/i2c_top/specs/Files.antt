@@ -1,5 +1,5 @@
 -- The files of a shelf.
-use Rattle.std.specs.Prelude.{ℕ, List, [], Option, unwrap_or}
+use Rattle.std.specs.Prelude.{⊤, ℕ, List, [], Option, unwrap_or}
 
 -- the bytes of a file by its name, where there is such a file
 abbrev pub Files : Type 0
@@ -16,3 +16,7 @@ pub record OfSomeFiles {N : Type 0} (IsLike : N → N → Type 0) (names : N) (I
   pub called : N
   pub like : IsLike called names
   pub so : IsSo file called
+
+-- of one file the name may be any
+abbrev pub IsAnyName : (called name : List ℕ) → Type 0
+IsAnyName called name = ⊤

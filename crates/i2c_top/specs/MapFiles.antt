@@ -19,7 +19,7 @@ pub record HasMap (file : Files) (board : BoardView) (name : List ℕ) : Type 0 
   pub map : MapView
   pub is_map : IsMapOf board text map
 
--- it is there, and this is the first thing that is wrong with it; want of memory is told by a status of its own
+-- it is there, and this is the first thing that is wrong with it; being out of memory is told by a status of its own
 pub record HasBadMap (file : Files) (board : BoardView) (name : List ℕ) (why : MapFault) : Type 0 where
   pub text : List ℕ
   pub there : file name ≡ Some text

@@ -7,7 +7,7 @@ abbrev pub is_name : List ℕ → Bool
 is_name [] = false
 is_name (b ∷ bs) = not (b == 45)
 
--- all words behind the first may be
+-- all words after the first may be
 abbrev pub are_names : List (List ℕ) → Bool
 are_names words = list_all is_name (drop 1 words)
 

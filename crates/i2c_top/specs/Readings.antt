@@ -12,7 +12,7 @@ use Rattle.i2c_top.specs.Scripts.{script_name, IsInGrammar, HasScript, HasBadScr
 use Rattle.i2c_top.specs.Traces.{IsUnread}
 use Rattle.i2c_top.specs.forms.Replays.{Names, AreLike, IsPlaceIn, IsScheduleAt, IsReadInTurn, IsReplayCause}
 use Rattle.i2c_top.specs.forms.Atrs.{AtrNames, AreAtrLike}
-use Rattle.i2c_top.specs.forms.Verifies.{VerifyNames}
+use Rattle.i2c_top.specs.forms.Verifies.{VerifyNames, AreVerifyLike}
 use Rattle.i2c_top.specs.Runs.{AreOpened, texts_of, MOST_COST}
 use Rattle.i2c_top.specs.declared.status.BoardRefusal.{BoardRefusal}
 use Rattle.i2c_top.specs.declared.status.Status.{Status}
@@ -72,12 +72,16 @@ pub record HasReadJournal (file : Files) (names : VerifyNames) (board : BoardVie
   pub texts_are : texts ≡ texts_in file names.scripts
   pub there : file names.journal ≡ Some text
 
+-- .. of some files, whatever a shelf tells
+abbrev pub HasReadSomeJournal : VerifyNames → BoardView → List (List ℕ) → List ℕ → Type 0
+HasReadSomeJournal names board texts text = OfSomeFiles AreVerifyLike names (λ file called. HasReadJournal file called board texts text)
+
 -- the map over a board is that of a file
 pub record IsMapIn (file : Files) (board : BoardView) (name : List ℕ) (map : MapView) : Type 0 where
   pub has : HasMap file board name
   pub same : map ≡ has.map
 
--- .. behind a map of the board: its translators, the scripts' texts and the schedule's callers
+-- .. after a map of the board: its translators, the scripts' texts and the schedule's callers
 pub record HasReadMap (file : Files) (names : AtrNames) (board : BoardView) (map : MapView) (texts : List (List ℕ)) (words : List ℕ) : Type 0 where
   pub board_in : IsAcceptedIn file names.board board
   pub scripts : HasScripts file board names.scripts (length names.scripts)

@@ -50,7 +50,7 @@ callers_from callers index (word ∷ words) = behind_entry index (caller_at call
 abbrev pub schedule_read : ℕ → List ℕ → Result (List ℕ) ℕ
 schedule_read callers text = callers_from callers 0 (entries_of text)
 
--- a fault is the number of the first word that names none, or want of memory
+-- a fault is the number of the first word that names none, or being out of memory
 abbrev pub IsScheduleFault : Result (List ℕ) ℕ → ScheduleFault → Type 0
 IsScheduleFault r (schedule_fault.Word index) = r ≡ Err index
 IsScheduleFault r schedule_fault.Memory = ⊤

@@ -73,7 +73,7 @@ placed_text what name index = what ++ (table_text name ++ (codes " " ++ (decimal
 abbrev pub limit_text : TableName → ℕ → List ℕ
 limit_text which count = decimal count ++ (codes " " ++ (table_text which ++ codes "\n"))
 
--- what is wrong with a board's text; want of memory is told by a status of its own
+-- what is wrong with a board's text; being out of memory is told by a status of its own
 abbrev pub fault_text : BoardFault → List ℕ
 fault_text fault.NotToml = codes "not TOML\n"
 fault_text (fault.Key name index) = placed_text (codes "key in ") name index
@@ -94,7 +94,7 @@ abbrev pub board_text : BoardRefusal → List ℕ
 board_text (refusal.Fault f) = fault_text f
 board_text (refusal.Rule r) = broken_text r
 
--- what is wrong with a journal's file, and where; want of memory is told by a status of its own
+-- what is wrong with a journal's file, and where; being out of memory is told by a status of its own
 abbrev pub verdict_text : CheckFault → List ℕ
 verdict_text (verdict.Form line) = codes "line " ++ (decimal line ++ codes "\n")
 verdict_text (verdict.Entry entry) = codes "entry " ++ (decimal entry ++ codes "\n")
@@ -106,7 +106,7 @@ verdict_text verdict.Memory = []
 abbrev pub row_text : List ℕ → ℕ → List ℕ
 row_text what index = what ++ (codes " in atr " ++ (decimal index ++ codes "\n"))
 
--- what is wrong with a map's text; want of memory is told by a status of its own
+-- what is wrong with a map's text; being out of memory is told by a status of its own
 abbrev pub map_text : MapFault → List ℕ
 map_text atr_fault.NotToml = codes "not TOML\n"
 map_text (atr_fault.Key index) = row_text (codes "key") index

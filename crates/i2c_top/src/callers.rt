@@ -11,7 +11,7 @@ ghost use Rattle.i2c_top.specs.Runs.{AreOpened, texts_of, cost_of_texts, MOST_CO
 
 use crate::counted_port::CountedPort;
 use arrayvec::ArrayVec;
-use bus_core::{BusCore, Parts};
+use bus_core::{BusCore, ClosedCore};
 use bus_groups::{Ran, run_groups};
 use bus_journal::Journal;
 use caller_core::{Script, scripts_are_fair};
@@ -91,12 +91,12 @@ fn opened_counting<'b, P: Port, C: Caller>(
 }
 
 // What is left of one core, with its journal in a list that has room for it.
-fn of_one<P: Drop, C: Drop>(parts: Parts<P, C>, room: Vec<Journal>) -> Ran<P, C>
+fn of_one<P: Drop, C: Drop>(parts: ClosedCore<P, C>, room: Vec<Journal>) -> Ran<P, C>
     requires empty { room.items ≡ [] }
     requires room { 1 ≤ vec_capacity room }
     ensures { IsAsOne parts result }
 {
-    let Parts {
+    let ClosedCore {
         ports,
         seats,
         journal,
@@ -119,7 +119,7 @@ pub fn followed<P: Port, C: Caller>(
     limit: u32,
     words: &[u8],
     ports: Vec<P>,
-) -> Result<Parts<CountedPort<P>, C>, NoMemory>
+) -> Result<ClosedCore<CountedPort<P>, C>, NoMemory>
     requires may { MayRun P.Port C.Caller board.now callers.items ports.items limit }
     requires named { All (λ c. c < length callers.items) words.now }
     ensures left { IfOk result (IsLeftOf P.Port C.Caller board.now callers.items ports.items) }
@@ -177,7 +177,7 @@ fn costs_of(board: &Accepted, scripts: &[Script]) -> ArrayVec<u32, 8>
 
 /// What is left when each caller has run on a thread of its own, with a core for each group of callers that share a root, and
 /// each script is used up.
-pub fn ran<P: Port, G: Gate + Sync, H: Threads + Wait + Sync>(
+pub fn run_threads<P: Port, G: Gate + Sync, H: Threads + Wait + Sync>(
     rt: &H,
     alloc: Global,
     board: &Accepted,

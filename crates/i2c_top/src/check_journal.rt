@@ -15,7 +15,7 @@ ghost use Rattle.i2c_top.specs.Runs.{AreOpened, asks_by, texts_of, section_of, c
 
 use crate::callers::opened;
 use crate::cost::limit_of;
-use bus_core::{Parts, Seat};
+use bus_core::{ClosedCore, Seat};
 use bus_journal::Journal;
 use caller_core::{Script, no_section_has_a_journal_line, scripts_are_fair};
 use i2c_board::Accepted;
@@ -63,7 +63,7 @@ fn followed<N: Telling + Send>(
     };
     match check_entries(core, lines, count) {
         Ok(core) => {
-            let Parts { seats, journal, .. } = core.take_apart();
+            let ClosedCore { seats, journal, .. } = core.take_apart();
             Ok(PastJournal { seats, journal })
         }
         Err(fault) => Err(fault),

@@ -6,7 +6,7 @@ ghost use Rattle.i2c_top.specs.declared.status.Status.TheVariants as status;
 
 use crate::Status;
 use crate::refusal::refusal_line;
-use crate::text::Text;
+use crate::text::ReportText;
 use crate::words::name_in;
 use crate::write::{write_all, write_pieces};
 use i2c_base::NoMemory;
@@ -25,7 +25,7 @@ pub fn write_due<K: Sink>(due: Status, text: &[u8], sink: &mut K) -> Status
 }
 
 // Writes the text of a success, and answers `Ok`; `Write` where the output failed.
-fn write_success<K: Sink>(text: &Text, sink: &mut K) -> Status
+fn write_success<K: Sink>(text: &ReportText, sink: &mut K) -> Status
     ensures { IsWritten (output_view K.Sink sink.old) (output_view K.Sink sink.new) status.Ok text.now result }
 {
     if write_pieces(sink, text) {
@@ -53,7 +53,7 @@ fn write_refusal<K: Sink>(alloc: Global, refusal: Status, name: &[u8], sink: &mu
 pub fn write_outcome<K: Sink>(
     alloc: Global,
     words: &[String],
-    outcome: Result<Text, Status>,
+    outcome: Result<ReportText, Status>,
     sink: &mut K,
 ) -> Status
     ensures done { IfOk outcome (λ text. IsWritten (output_view K.Sink sink.old) (output_view K.Sink sink.new) status.Ok text result) }

@@ -5,7 +5,7 @@ ghost use Rattle.std.specs.Option.{option_map_or};
 ghost use Rattle.bus_spec.specs.Report.{ended_line, sections, report_lines};
 
 use crate::printer::Printer;
-use crate::text::Text;
+use crate::text::ReportText;
 use bus_core::Seat;
 use bus_journal::{Journal, push_bytes, push_number};
 use i2c_base::NoMemory;
@@ -59,7 +59,7 @@ pub fn report_of_callers<C: Printer>(
     alloc: Global,
     callers: &[Seat<C>],
     journals: Vec<Journal>,
-) -> Result<Text, NoMemory>
+) -> Result<ReportText, NoMemory>
     ensures { IfOk result (λ text. text ≡ report_lines (map (λ s. C.printed (C.script s.caller) (C.taken s.caller)) callers.now) (flat_map (λ j. j.entries) journals.items)) }
 {
     let mut journals = journals;
@@ -67,11 +67,11 @@ pub fn report_of_callers<C: Printer>(
     push_callers(&mut front, callers)?;
     push_bytes(&mut front, b"journal\n")?;
     let back = last_piece(alloc, journals.pop())?;
-    Ok(Text::new(front, journals, back))
+    Ok(ReportText::new(front, journals, back))
 }
 
 /// The report of a run: a section for each caller, given without its heading, the journal's lines, and `end`. It
-/// fails only for want of memory.
+/// fails only when out of memory.
 pub fn report_text(
     alloc: Global,
     callers: &[Vec<u8>],

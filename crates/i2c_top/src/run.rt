@@ -16,14 +16,14 @@ ghost use Rattle.i2c_top.specs.forms.Generations.{summary_of};
 ghost use Rattle.i2c_top.specs.declared.status.Status.TheVariants as status;
 
 use crate::Status;
-use crate::callers::{finished, followed, ran};
+use crate::callers::{finished, followed, run_threads};
 use crate::cost::limit_of;
 use crate::counted_port::CountedPort;
 use crate::printer::Printer;
 use crate::report::report_of_callers;
 use crate::summary::summary_of;
-use crate::text::Text;
-use bus_core::Parts;
+use crate::text::ReportText;
+use bus_core::ClosedCore;
 use bus_groups::Ran;
 use bus_journal::Journal;
 use caller_core::{Script, scripts_are_fair};
@@ -104,12 +104,12 @@ fn given_back<R: Rig>(ports: Vec<(SegId, CountedPort<R::P>)>, room: Vec<R::P>, r
 }
 
 // Gives the ports that are left of a run back to their rig, and makes the report.
-fn reported<C: Printer, R: Rig>(
+fn report_of_run<C: Printer, R: Rig>(
     alloc: Global,
     ran: Result<Ran<CountedPort<R::P>, C>, NoMemory>,
     room: Vec<R::P>,
     rig: &mut R,
-) -> Result<Text, Status>
+) -> Result<ReportText, Status>
     requires plugged { R.plugged rig.old ≡ true }
     requires empty { room.items ≡ [] }
     requires room { IfOk ran (λ x. length x.ports.items ≤ vec_capacity room) }
@@ -139,11 +139,11 @@ fn reported<C: Printer, R: Rig>(
 // The same, and makes the summary of a plan.
 fn summed<R: Rig>(
     alloc: Global,
-    ran: Result<Parts<CountedPort<R::P>, Script>, NoMemory>,
+    ran: Result<ClosedCore<CountedPort<R::P>, Script>, NoMemory>,
     plan: &Plan,
     room: Vec<R::P>,
     rig: &mut R,
-) -> Result<Text, Status>
+) -> Result<ReportText, Status>
     requires plugged { R.plugged rig.old ≡ true }
     requires empty { room.items ≡ [] }
     requires room { IfOk ran (λ x. length x.ports.items ≤ vec_capacity room) }
@@ -160,19 +160,19 @@ fn summed<R: Rig>(
         rig.unplug(room);
         return Err(Status::Memory);
     };
-    let Parts {
+    let ClosedCore {
         ports,
         seats: _,
         journal,
     } = parts;
     journal.entries_are_in_range();
     given_back(ports, room, rig);
-    Ok(Text::whole(alloc, summary_of(alloc, plan, &journal)?))
+    Ok(ReportText::whole(alloc, summary_of(alloc, plan, &journal)?))
 }
 
 /// Runs callers over the ports of a rig, by a schedule that names those that are to step, and gives the report. They have at most so
 /// many steps left. A rig that was plugged is unplugged, whatever came of it. It answers `Rig` where the rig counted a fault in its
-/// one plug, and else fails only for want of memory.
+/// one plug, and else fails only when out of memory.
 pub fn run_callers<C: Printer, R: Rig>(
     alloc: Global,
     board: &Accepted,
@@ -180,7 +180,7 @@ pub fn run_callers<C: Printer, R: Rig>(
     limit: u32,
     words: &[u8],
     rig: &mut R,
-) -> Result<Text, Status>
+) -> Result<ReportText, Status>
     requires ready { AreReady C.Caller board.now callers.items }
     requires fair { IsFairCaller C.asked C.left C.board }
     requires few { length callers.items ≤ MOST_CALLERS }
@@ -199,7 +199,7 @@ pub fn run_callers<C: Printer, R: Rig>(
 {
     let (ports, room) = plugged(alloc, board, rig)?;
     let ran = finished(alloc, board, callers, limit, words, ports);
-    reported(alloc, ran, room, rig)
+    report_of_run(alloc, ran, room, rig)
 }
 
 /// The same of scripts, with what they cost as the limit. The report is that of their texts.
@@ -209,7 +209,7 @@ pub fn run_scripts<R: Rig>(
     scripts: Vec<Script>,
     words: &[u8],
     rig: &mut R,
-) -> Result<Text, Status>
+) -> Result<ReportText, Status>
     requires opened { AreOpened board.now scripts.items }
     requires few { length scripts.items ≤ MOST_CALLERS }
     requires named { All (λ c. c < length scripts.items) words.now }
@@ -237,7 +237,7 @@ pub fn run_at_once<H: Threads + Wait + Sync, R: Rig, G: Gate + Sync>(
     scripts: Vec<Script>,
     gate: &G,
     rig: &mut R,
-) -> Result<Text, Status>
+) -> Result<ReportText, Status>
     requires opened { AreOpened board.now scripts.items }
     requires few { length scripts.items ≤ MOST_CALLERS }
     requires cheap { cost_of_texts board.now (texts_of scripts.items) ≤ MOST_COST }
@@ -253,8 +253,8 @@ pub fn run_at_once<H: Threads + Wait + Sync, R: Rig, G: Gate + Sync>(
 {
     scripts_are_fair();
     let (ports, room) = plugged(alloc, board, rig)?;
-    let ran = ran(rt, alloc, board, scripts, gate, ports);
-    reported(alloc, ran, room, rig)
+    let ran = run_threads(rt, alloc, board, scripts, gate, ports);
+    report_of_run(alloc, ran, room, rig)
 }
 
 /// Runs generated scripts by their schedule, and gives the summary of their plan.
@@ -265,7 +265,7 @@ pub fn run_generated<R: Rig>(
     words: &[u8],
     plan: &Plan,
     rig: &mut R,
-) -> Result<Text, Status>
+) -> Result<ReportText, Status>
     requires opened { AreOpened board.now scripts.items }
     requires few { length scripts.items ≤ MOST_CALLERS }
     requires named { All (λ c. c < length scripts.items) words.now }

@@ -52,7 +52,7 @@ fn caller_named(callers: u8, word: &[u8]) -> Option<u8>
     }
 }
 
-// The caller that a word behind so many names; one word too many names none.
+// The caller that a word after so many names; one word too many names none.
 fn caller_at(callers: u8, index: usize, word: &[u8]) -> Option<u8>
     ensures value { result ≡ caller_at callers index word.now }
     ensures below { IfSome result (λ c. c < callers) }
@@ -65,7 +65,7 @@ fn caller_at(callers: u8, index: usize, word: &[u8]) -> Option<u8>
     }
 }
 
-// The next caller of a schedule, behind those that are there, or the fault of its word.
+// The next caller of a schedule, after those that are there, or the fault of its word.
 fn next_caller(callers: u8, index: usize, word: &[u8]) -> Result<u8, ScheduleFault>
     requires { index ≤ MOST_ENTRIES }
     ensures ok { IfOk result (λ c. caller_at callers index word.now ≡ Some c) }

@@ -12,7 +12,7 @@ use std::alloc::{AllocError, AllocFailed};
 /// Why a board was refused.
 #[derive(Clone, Copy)]
 pub enum BoardRefusal {
-    /// Its text spells no board, by this first fault. It is never want of memory.
+    /// Its text spells no board, by this first fault. Being out of memory has a status of its own.
     Fault(BoardFault),
     /// It breaks this topology rule, and none before it.
     Rule(RuleBroken),
@@ -41,9 +41,9 @@ pub enum Status {
     Rig,
     /// The first word of the schedule, from 0, that is no caller's number.
     Schedule(u32),
-    /// The first thing that is wrong with a journal's file. It is never want of memory.
+    /// The first thing that is wrong with a journal's file. Being out of memory has a status of its own.
     Verify(CheckFault),
-    /// The first thing that is wrong with a map's file. It is never want of memory.
+    /// The first thing that is wrong with a map's file. Being out of memory has a status of its own.
     Map(MapFault),
     /// The bus of this number is no root of the board.
     NoRoot(u16),

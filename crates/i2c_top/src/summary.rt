@@ -2,8 +2,7 @@
 ghost use Rattle.std.specs.Prelude.{◌≡◌, ◌++◌, OnOk, IfOk};
 ghost use Rattle.i2c_top.specs.forms.Generations.{plan_line, counted_line, tally_text, summary_of};
 
-use bus_journal::{Journal, push_bytes, push_number};
-use bus_tally::{Tally, tally_of};
+use bus_journal::{Journal, Tally, push_bytes, push_number, tally_of};
 use i2c_base::NoMemory;
 use i2c_gen::Plan;
 use std::alloc::Global;

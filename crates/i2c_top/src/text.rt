@@ -6,16 +6,16 @@ use bus_journal::Journal;
 use std::alloc::Global;
 use std::marker::Model;
 
-/// The text of a success, in pieces, so that none is copied behind another: bytes, the lines of journals, and bytes again. A
+/// The text of a success, in pieces, so that none is copied after another: bytes, the lines of journals, and bytes again. A
 /// contract sees the bytes of all.
 #[derive(Drop)]
-pub struct Text {
+pub struct ReportText {
     front: Vec<u8>,
     journals: Vec<Journal>,
     back: Vec<u8>,
 }
 
-impl Model for Text {
+impl Model for ReportText {
     ghost use Rattle.std.specs.Prelude.{ℕ, List, ◌++◌};
     ghost use Rattle.i2c_top.specs.Written.{lines_of};
 
@@ -24,11 +24,11 @@ impl Model for Text {
     ghost view = { λ t. t.front.items ++ (lines_of t.journals.items ++ t.back.items) };
 }
 
-impl Text {
+impl ReportText {
     pub fn new(front: Vec<u8>, journals: Vec<Journal>, back: Vec<u8>) -> Self
         ensures { result ≡ front.items ++ (lines_of journals.items ++ back.items) }
     {
-        Text {
+        ReportText {
             front,
             journals,
             back,
@@ -39,7 +39,7 @@ impl Text {
     pub fn whole(alloc: Global, bytes: Vec<u8>) -> Self
         ensures { result ≡ bytes.items }
     {
-        Text::new(bytes, Vec::new(alloc), Vec::new(alloc))
+        ReportText::new(bytes, Vec::new(alloc), Vec::new(alloc))
     }
 
     /// Its pieces, in their order.

@@ -43,7 +43,7 @@ fn each_is_name(words: &[String]) -> bool
     words.iter().all(|word| is_name(word.as_str()))
 }
 
-/// Whether all words behind the first may be.
+/// Whether all words after the first may be.
 pub fn are_names(words: &[String]) -> bool
     requires { 1 ≤ length words.now }
     ensures { result ≡ are_names (map string_bytes words.now) }

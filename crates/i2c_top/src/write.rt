@@ -3,7 +3,7 @@ ghost use Rattle.std.specs.Prelude.{◌≡◌, ◌≤◌, ◌++◌, ℕ, length,
 ghost use Rattle.ports.specs.Causes.{Rose};
 ghost use Rattle.i2c_top.specs.Written.{HasFront, lines_of};
 
-use crate::text::Text;
+use crate::text::ReportText;
 use bus_journal::Journal;
 use i2c_outside::Sink;
 
@@ -47,7 +47,7 @@ fn write_journals<K: Sink>(sink: &mut K, journals: &[Journal]) -> bool
     true
 }
 
-// The same for the lines of journals, and behind them a text.
+// The same for the lines of journals, and after them a text.
 fn write_behind<K: Sink>(sink: &mut K, journals: &[Journal], back: &[u8]) -> bool
     ensures cause { result ≡ false → Rose (K.faults sink.old) (K.faults sink.new) }
     ensures later { K.faults sink.old ≤ K.faults sink.new }
@@ -57,8 +57,8 @@ fn write_behind<K: Sink>(sink: &mut K, journals: &[Journal], back: &[u8]) -> boo
     write_journals(sink, journals) && write_all(sink, back)
 }
 
-/// The same for a text in pieces, each of which is written behind the whole of those before it.
-pub fn write_pieces<K: Sink>(sink: &mut K, text: &Text) -> bool
+/// The same for a text in pieces, each of which is written after the whole of those before it.
+pub fn write_pieces<K: Sink>(sink: &mut K, text: &ReportText) -> bool
     ensures cause { result ≡ false → Rose (K.faults sink.old) (K.faults sink.new) }
     ensures later { K.faults sink.old ≤ K.faults sink.new }
     ensures whole { IsTrue K.tells → result ≡ true → K.bytes sink.new ≡ K.bytes sink.old ++ text.now }

@@ -150,7 +150,7 @@ IsAtrRefusal (status.Schedule word) = ⊤
 IsAtrRefusal (status.Cost cost) = MOST_COST < cost
 IsAtrRefusal _ = ⊥
 
--- a script behind a map's translators, as a caller
+-- a script after a map's translators, as a caller
 abbrev pub behind_of : MapView → CallerView → AtrCallerView
 behind_of m s = record { script = s; translators = m.translators }
 
@@ -167,7 +167,7 @@ pub record HasAtrReport (file : Files) (names : AtrNames) (bytes : List ℕ) (lo
   pub files : HasAtrFiles file names
   pub run : HasAtrRun files.texts.files.mapped.map (texts_in file names.scripts) files.texts.schedule.words bytes logs states counts
 
--- the report was written behind what stood there
+-- the report was written after what stood there
 pub record HasTranslated (file : Files) (names : AtrNames) (before now : List ℕ) (logs : List (List PortCall)) (states : List TargetState)
     (counts : List ℕ) : Type 0 where
   pub bytes : List ℕ

@@ -73,7 +73,7 @@ pub record HasCachedReport (file : Files) (names : Names) (bytes : List ℕ) (lo
   pub by : words_in file names.schedule (length names.scripts) files.texts.schedule ≡ Some words
   pub run : HasCachedRun files.texts.board.board (texts_in file names.scripts) words bytes logs states counts
 
--- the report was written behind what stood there
+-- the report was written after what stood there
 pub record HasCached (file : Files) (names : Names) (before now : List ℕ) (logs : List (List PortCall)) (states : List TargetState)
     (counts : List ℕ) : Type 0 where
   pub bytes : List ℕ

@@ -1,12 +1,12 @@
 -- `check BOARD`: its words, what the board's file says where it ends with a status, and the line that it writes.
-use Rattle.std.specs.Prelude.{⊤, ◌≡◌, ℕ, ◌<◌, ◌==◌, Bool, false, ◌&&◌, List, ◌++◌, length, codes}
+use Rattle.std.specs.Prelude.{◌≡◌, ℕ, ◌<◌, ◌==◌, Bool, false, ◌&&◌, List, ◌++◌, length, codes}
 use Rattle.std.specs.Fmt.{decimal}
 use Rattle.std.specs.Str.{bytes_eq}
 use Rattle.i2c_base.specs.Board.{BoardView}
 use Rattle.i2c_spec.specs.Tree.{buses}
 use Rattle.tools.specs.Readers.{word_at}
 use Rattle.i2c_top.specs.Boards.{HasAccepted, HasRejected}
-use Rattle.i2c_top.specs.Files.{Files}
+use Rattle.i2c_top.specs.Files.{Files, OfSomeFiles, IsAnyName}
 use Rattle.i2c_top.specs.Form.{Form}
 use Rattle.i2c_top.specs.Names.{is_name}
 use Rattle.i2c_top.specs.declared.status.BoardRefusal.{BoardRefusal}
@@ -34,7 +34,7 @@ pub record HasCheck (file : Files) (name text : List ℕ) : Type 0 where
   pub accepted : HasAccepted file name
   pub line : text ≡ accepted_text accepted.board
 
--- that line was written behind what stood there
+-- that line was written after what stood there
 pub record HasChecked (file : Files) (name before now : List ℕ) : Type 0 where
   pub text : List ℕ
   pub check : HasCheck file name text
@@ -50,5 +50,5 @@ check_form board = record {
   cause = λ file s. IsCheckCause file board s;
   plugs = false;
   answer = λ file rig text. HasCheck file board text;
-  leaves = λ rig text. ⊤;
+  leaves = λ rig text. OfSomeFiles IsAnyName board (λ file called. HasCheck file called text);
 }

@@ -1,5 +1,5 @@
 -- `clear BOARD BUS ADDR CUT`: its words, what the board's file says where it ends with a status, and the three lines that it writes.
-use Rattle.std.specs.Prelude.{⊤, ◌≡◌, ℕ, ◌<◌, ◌≤◌, ◌⊎◌, ◌==◌, Bool, false, ◌&&◌, List, ◌++◌, length, codes, Option, Some, None, Result, Ok, Err, if◌then◌else◌}
+use Rattle.std.specs.Prelude.{◌≡◌, ℕ, ◌<◌, ◌≤◌, ◌⊎◌, ◌==◌, Bool, false, ◌&&◌, List, ◌++◌, length, codes, Option, Some, None, Result, Ok, Err, if◌then◌else◌}
 use Rattle.std.specs.Fmt.{decimal}
 use Rattle.std.specs.Str.{bytes_eq}
 use Rattle.bus_clear.specs.Cuts.{level_at, pulses_of, cleared_world}
@@ -14,7 +14,7 @@ use Rattle.tools.specs.Numbers.{number_in}
 use Rattle.tools.specs.Readers.{word_at}
 use Rattle.tools.specs.Values.{byte_word}
 use Rattle.i2c_top.specs.Boards.{HasAccepted, HasRejected}
-use Rattle.i2c_top.specs.Files.{Files}
+use Rattle.i2c_top.specs.Files.{Files, OfSomeFiles, IsAnyName}
 use Rattle.i2c_top.specs.Form.{Form}
 use Rattle.i2c_top.specs.Names.{is_name}
 use Rattle.i2c_top.specs.Numbers.{number_named}
@@ -94,5 +94,5 @@ clear_form board at = record {
   cause = λ file s. IsClearCause file board at.bus s;
   plugs = false;
   answer = λ file rig text. HasClear file board at text;
-  leaves = λ rig text. ⊤;
+  leaves = λ rig text. OfSomeFiles IsAnyName board (λ file called. HasClear file called at text);
 }

@@ -2,8 +2,8 @@
 use Rattle.std.specs.Prelude.{◌≡◌, ℕ, ◌-◌, ◌^◌, ◌==◌, true, ◌&&◌, IsTrue, List, ◌++◌, length, codes, Option, None, Some, if◌then◌else◌}
 use Rattle.std.specs.Fmt.{decimal}
 use Rattle.std.specs.Str.{bytes_eq}
-use Rattle.bus_tally.specs.Tallies.{tally_of}
-use Rattle.bus_tally.specs.declared.tally.Tally.{Tally}
+use Rattle.bus_journal.specs.Tallies.{tally_of}
+use Rattle.bus_journal.specs.declared.tally.Tally.{Tally}
 use Rattle.i2c_base.specs.declared.entry.Entry.{Entry}
 use Rattle.i2c_base.specs.declared.port.PortCall.{PortCall}
 use Rattle.i2c_base.specs.Limits.{MOST_ROOTS}
@@ -52,7 +52,7 @@ abbrev pub HasSummary : Plan → List ℕ → List (List PortCall) → List Targ
 HasSummary p bytes logs states counts =
     HasRunTold (summary_of p) (made_board p.roots) (scripts_of p) (Some (schedule_of p)) bytes logs states counts
 
--- the summary was written behind what stood there
+-- the summary was written after what stood there
 pub record HasGenerated (p : Plan) (before now : List ℕ) (logs : List (List PortCall)) (states : List TargetState)
     (counts : List ℕ) : Type 0 where
   pub bytes : List ℕ

@@ -56,7 +56,7 @@ pub record AreLike (names others : Names) : Type 0 where
 abbrev pub names_told : ReplayNames → Names
 names_told names = names_of names.board.now (option_map (λ s. s.now) names.schedule) (map string_bytes names.scripts.now)
 
--- the place of the first script among the words: behind the board and the schedule, where there is one
+-- the place of the first script among the words: after the board and the schedule, where there is one
 abbrev pub first_script : Option (List ℕ) → ℕ
 first_script None = 2
 first_script (Some name) = 3
@@ -71,7 +71,7 @@ pub record IsPlaceIn (names : Names) (place : ℕ) : Type 0 where
   pub first : 1 ≤ place
   pub last : place < first_script names.schedule + length names.scripts
 
--- the schedule's name is the word behind the board's, where there is one
+-- the schedule's name is the word after the board's, where there is one
 abbrev pub IsScheduleWord : List (List ℕ) → Option (List ℕ) → Type 0
 IsScheduleWord words None = ⊤
 IsScheduleWord words (Some name) = slice_get words 2 ≡ Some name
@@ -162,7 +162,7 @@ pub record HasReport (file : Files) (names : Names) (bytes : List ℕ) (logs : L
       (words_in file names.schedule (length names.scripts) files.texts.schedule)
       bytes logs states counts
 
--- the report was written behind what stood there
+-- the report was written after what stood there
 pub record HasReplayed (file : Files) (names : Names) (before now : List ℕ) (logs : List (List PortCall))
     (states : List TargetState) (counts : List ℕ) : Type 0 where
   pub bytes : List ℕ

@@ -12,7 +12,7 @@ use Rattle.journal_check.specs.declared.fault.CheckFault.TheVariants as verdict
 use Rattle.tools.specs.Readers.{word_at}
 use Rattle.i2c_top.specs.Boards.{HasAccepted, HasRejected}
 use Rattle.i2c_top.specs.Checked.{checked_on}
-use Rattle.i2c_top.specs.Files.{Files}
+use Rattle.i2c_top.specs.Files.{Files, OfSomeFiles}
 use Rattle.i2c_top.specs.Form.{Form}
 use Rattle.i2c_top.specs.Names.{are_names}
 use Rattle.i2c_top.specs.Runs.{cost_of_texts, MOST_COST}
@@ -34,13 +34,17 @@ pub record VerifyNames : Type 0 where
   pub journal : List ℕ
   pub scripts : List (List ℕ)
 
+-- as many scripts
+abbrev pub AreVerifyLike : VerifyNames → VerifyNames → Type 0
+AreVerifyLike names others = length names.scripts ≡ length others.scripts
+
 abbrev pub verify_names : List (List ℕ) → VerifyNames
 verify_names words = record { board = word_at words 1; journal = word_at words 2; scripts = drop 3 words }
 
 abbrev pub verify_told : VerifyWords → VerifyNames
 verify_told words = record { board = words.board.now; journal = words.journal.now; scripts = map string_bytes words.scripts.now }
 
--- the files stand and are read as those of a replay, the journal where that has its schedule: behind the board among the words, and
+-- the files stand and are read as those of a replay, the journal where that has its schedule: after the board among the words, and
 -- read last
 abbrev pub as_replayed : VerifyNames → Names
 as_replayed names = names_of names.board (Some names.journal) names.scripts
@@ -87,7 +91,7 @@ IsVerifyCause file names (status.Cost cost) = HasDearJournal file names cost
 IsVerifyCause file names (status.Verify fault) = HasFault file names fault
 IsVerifyCause file names _ = ⊥
 
--- want of memory is told by a status of its own
+-- being out of memory is told by a status of its own
 abbrev pub IsVerdict : CheckFault → Type 0
 IsVerdict verdict.Memory = ⊥
 IsVerdict _ = ⊤
@@ -114,7 +118,7 @@ pub record HasVerdictLine (file : Files) (names : VerifyNames) (text : List ℕ)
   pub verdict : HasVerdict file names entries
   pub line : text ≡ verified_text entries
 
--- that line was written behind what stood there
+-- that line was written after what stood there
 pub record HasVerified (file : Files) (names : VerifyNames) (before now : List ℕ) : Type 0 where
   pub text : List ℕ
   pub verdict : HasVerdictLine file names text
@@ -131,5 +135,5 @@ verify_form names = record {
   cause = λ file s. IsVerifyCause file names s;
   plugs = false;
   answer = λ file rig text. HasVerdictLine file names text;
-  leaves = λ rig text. ⊤;
+  leaves = λ rig text. OfSomeFiles AreVerifyLike names (λ file called. HasVerdictLine file called text);
 }

@@ -14,7 +14,7 @@ use crate::ending::write_outcome;
 use crate::files::{callers_of, read_accepted, schedule_in, scripts_in};
 use crate::map_file::{MAP, map_in};
 use crate::run::run_callers;
-use crate::text::Text;
+use crate::text::ReportText;
 use crate::words::{BOARD, are_names, word_at, words_from};
 use addr_atr::{AtrCaller, AtrMap, scripts_behind_translators_are_fair};
 use caller_core::Script;
@@ -124,7 +124,7 @@ fn atr<S: Shelf, R: Rig>(
     names: &AtrWords<'_>,
     shelf: &mut S,
     rig: &mut R,
-) -> Result<Text, Status>
+) -> Result<ReportText, Status>
     requires placed { AreAtrPlaced (S.words shelf.old) (atr_told names.now) }
     ensures done { IfOk result (λ text. CameToSuccess (atr_form (atr_told names.now))
         (shelf_view S.Shelf shelf.old) (shelf_view S.Shelf shelf.new)
@@ -151,7 +151,7 @@ fn atr<S: Shelf, R: Rig>(
 ///
 /// It returns on every input. A transfer on a translator's child bus is sent on the mux's own bus, each paired address as its alias. The
 /// scripts are read, and print, over the board as written. The rig is plugged at most once, with the lowered board, and is not left plugged.
-/// `Map` is told exactly where that is the first thing that is wrong with the map, and never want of memory.
+/// `Map` is told exactly where that is the first thing that is wrong with the map; being out of memory has a status of its own.
 pub fn atr_call<S: Shelf, K: Sink, R: Rig>(
     alloc: Global,
     words: &[String],

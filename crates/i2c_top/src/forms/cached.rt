@@ -17,7 +17,7 @@ use crate::ending::write_outcome;
 use crate::files::{ReplayFiles, listed, read_files};
 use crate::names::{ReplayNames, SCRIPT_OF_REPLAY};
 use crate::run::run_callers;
-use crate::text::Text;
+use crate::text::ReportText;
 use crate::words::{are_names, word_at};
 use arrayvec::ArrayVec;
 use caller_core::{Reach, Script};
@@ -76,7 +76,7 @@ fn cached<S: Shelf, R: Rig>(
     names: &ReplayNames<'_>,
     shelf: &mut S,
     rig: &mut R,
-) -> Result<Text, Status>
+) -> Result<ReportText, Status>
     requires placed { ArePlaced (S.words shelf.old) (names_told names.now) }
     requires scheduled { IsSome (names_told names.now).schedule }
     ensures done { IfOk result (λ text. CameToSuccess (cached_form (names_told names.now))

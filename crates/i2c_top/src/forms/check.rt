@@ -10,7 +10,7 @@ ghost use Rattle.i2c_top.specs.declared.status.Status.TheVariants as status;
 use crate::Status;
 use crate::ending::write_outcome;
 use crate::files::read_accepted;
-use crate::text::Text;
+use crate::text::ReportText;
 use crate::words::{BOARD, is_name, word_at};
 use bus_journal::{push_bytes, push_number};
 use i2c_base::NoMemory;
@@ -34,7 +34,7 @@ fn push_count(out: &mut Vec<u8>, count: usize, what: &[u8]) -> Result<(), NoMemo
 }
 
 // The line of an accepted board, with its end.
-fn accepted_line(alloc: Global, board: &Board) -> Result<Text, NoMemory>
+fn accepted_line(alloc: Global, board: &Board) -> Result<ReportText, NoMemory>
     ensures { IfOk result (λ text. text ≡ accepted_text board.now) }
 {
     let mut out = Vec::new(alloc);
@@ -43,11 +43,11 @@ fn accepted_line(alloc: Global, board: &Board) -> Result<Text, NoMemory>
     push_count(&mut out, board.muxes().len(), b" muxes ")?;
     push_count(&mut out, board.devices().len(), b" devices ")?;
     push_count(&mut out, usize::from(board.buses()), b" buses\n")?;
-    Ok(Text::whole(alloc, out))
+    Ok(ReportText::whole(alloc, out))
 }
 
 // Reads the board: its line, or the refusal.
-fn check_board<S: Shelf>(alloc: Global, board: &str, shelf: &mut S) -> Result<Text, Status>
+fn check_board<S: Shelf>(alloc: Global, board: &str, shelf: &mut S) -> Result<ReportText, Status>
     requires board { slice_get (S.words shelf.old) 1 ≡ Some board.now }
     ensures done { IfOk result (λ text. (rig : RigView)
         → CameToSuccess (check_form board.now) (shelf_view S.Shelf shelf.old) (shelf_view S.Shelf shelf.new) rig rig text) }

@@ -14,7 +14,7 @@ use crate::Status;
 use crate::ending::write_outcome;
 use crate::files::read_accepted;
 use crate::number::number_named;
-use crate::text::Text;
+use crate::text::ReportText;
 use crate::words::{BOARD, is_name, word_at};
 use bus_clear::{RootCleared, clear_root};
 use bus_journal::{errno_name, hex_digit, push_bytes, push_number};
@@ -108,7 +108,7 @@ fn push_read(out: &mut Vec<u8>, read: Result<u8, Errno>) -> Result<(), NoMemory>
 }
 
 // The three lines.
-fn lines_of(alloc: Global, cut: u8, cleared: &RootCleared) -> Result<Text, NoMemory>
+fn lines_of(alloc: Global, cut: u8, cleared: &RootCleared) -> Result<ReportText, NoMemory>
     ensures { IfOk result (λ text. text ≡ cleared_lines cut cleared.now.high cleared.now.pulses cleared.now.read) }
 {
     let mut out = Vec::new(alloc);
@@ -120,7 +120,7 @@ fn lines_of(alloc: Global, cut: u8, cleared: &RootCleared) -> Result<Text, NoMem
     push_number(&mut out, u64::from(cleared.pulses))?;
     push_bytes(&mut out, b"\n")?;
     push_read(&mut out, cleared.read)?;
-    Ok(Text::whole(alloc, out))
+    Ok(ReportText::whole(alloc, out))
 }
 
 // Reads the board, and does so on it: the lines, or the refusal.
@@ -129,7 +129,7 @@ fn clear_board<S: Shelf>(
     board: &str,
     at: &ClearAt,
     shelf: &mut S,
-) -> Result<Text, Status>
+) -> Result<ReportText, Status>
     requires board { slice_get (S.words shelf.old) 1 ≡ Some board.now }
     requires cut { (1 ≤ at.now.cut) × (at.now.cut ≤ RISES) }
     ensures done { IfOk result (λ text. (rig : RigView)

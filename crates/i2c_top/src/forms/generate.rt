@@ -10,7 +10,7 @@ use crate::Status;
 use crate::ending::write_outcome;
 use crate::number::number_named;
 use crate::run::run_generated;
-use crate::text::Text;
+use crate::text::ReportText;
 use crate::words::word_at;
 use i2c_base::MOST_ROOTS;
 use i2c_gen::{MOST_LINES, Made, Plan, make};
@@ -36,7 +36,7 @@ pub fn plan_in(words: &[String]) -> Option<Plan>
 }
 
 // Makes what the plan asks for, and replays it: the summary, or the refusal.
-fn generate<R: Rig>(alloc: Global, plan: &Plan, rig: &mut R) -> Result<Text, Status>
+fn generate<R: Rig>(alloc: Global, plan: &Plan, rig: &mut R) -> Result<ReportText, Status>
     requires plan { IsPlan plan.now }
     ensures done { IfOk result (λ text. (shelf : ShelfView) → CameToSuccess (gen_form plan.now) shelf shelf
         (rig_view R.Rig R.P.tells rig.old) (rig_view R.Rig R.P.tells rig.new) text) }

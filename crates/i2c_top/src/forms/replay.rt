@@ -10,7 +10,7 @@ use crate::ending::write_outcome;
 use crate::files::{ReplayFiles, listed, read_files};
 use crate::names::{ReplayNames, SCRIPT_OF_REPLAY, SCRIPT_OF_RUN};
 use crate::run::{run_at_once, run_scripts};
-use crate::text::Text;
+use crate::text::ReportText;
 use crate::words::{are_names, word_at};
 use i2c_base::MOST_CALLERS;
 use i2c_outside::{Gate, Rig, Shelf, Sink};
@@ -44,7 +44,7 @@ fn replay<S: Shelf, R: Rig>(
     names: &ReplayNames<'_>,
     shelf: &mut S,
     rig: &mut R,
-) -> Result<Text, Status>
+) -> Result<ReportText, Status>
     requires placed { ArePlaced (S.words shelf.old) (names_told names.now) }
     requires scheduled { IsSome (names_told names.now).schedule }
     ensures done { IfOk result (λ text. CameToSuccess (replay_form (names_told names.now))
@@ -71,7 +71,7 @@ fn run<H: Threads + Wait + Sync, S: Shelf, R: Rig, G: Gate + Sync>(
     shelf: &mut S,
     rig: &mut R,
     gate: &G,
-) -> Result<Text, Status>
+) -> Result<ReportText, Status>
     requires placed { ArePlaced (S.words shelf.old) (names_told names.now) }
     requires free { (names_told names.now).schedule ≡ None }
     ensures done { IfOk result (λ text. CameToSuccess (replay_form (names_told names.now))

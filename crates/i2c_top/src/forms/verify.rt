@@ -3,7 +3,7 @@ ghost use Rattle.std.specs.Prelude.{◌≡◌, ◌≤◌, ◌^◌, true, ℕ, le
 ghost use Rattle.i2c_base.specs.Limits.{MOST_CALLERS};
 ghost use Rattle.i2c_spec.specs.Plain.{IsPlainBoard};
 ghost use Rattle.i2c_top.specs.Endings.{CameToSuccess, CameToRefusal, HasEndedAs};
-ghost use Rattle.i2c_top.specs.Readings.{HasReadJournal};
+ghost use Rattle.i2c_top.specs.Readings.{HasReadJournal, HasReadSomeJournal};
 ghost use Rattle.i2c_top.specs.Runs.{AreOpened, texts_of, cost_of_texts, MOST_COST};
 ghost use Rattle.i2c_top.specs.Traces.{RigView, KeepsBut, shelf_view, beside};
 ghost use Rattle.i2c_top.specs.forms.Replays.{ArePlaced, IsPlaceIn};
@@ -15,7 +15,7 @@ use crate::check_journal::check_journal;
 use crate::cost::check_cost;
 use crate::ending::write_outcome;
 use crate::files::{bytes_at, read_accepted, scripts_in};
-use crate::text::Text;
+use crate::text::ReportText;
 use crate::words::{BOARD, are_names, word_at, words_from};
 use bus_journal::{push_bytes, push_number};
 use caller_core::{Script, no_section_has_a_journal_line, scripts_are_fair};
@@ -83,6 +83,7 @@ fn read_files<S: Shelf>(
     ensures cheap { IfOk result (λ f. cost_of_texts f.board (texts_of f.scripts.items) ≤ MOST_COST) }
     ensures short { IfOk result (λ f. length f.journal.items ≤ 2 ^ 28) }
     ensures read { IsTrue S.tells → IfOk result (λ f. HasReadJournal (S.file shelf.old) (verify_told names.now) f.board (texts_of f.scripts.items) f.journal.items) }
+    ensures some { IfOk result (λ f. HasReadSomeJournal (verify_told names.now) f.board (texts_of f.scripts.items) f.journal.items) }
     ensures refused { IfErr result (λ e. (rig : RigView)
         → CameToRefusal (verify_form (verify_told names.now)) (shelf_view S.Shelf shelf.old) (shelf_view S.Shelf shelf.new) rig rig e) }
 {
@@ -99,14 +100,14 @@ fn read_files<S: Shelf>(
 }
 
 // The line of a journal that is verified, with its end.
-fn verified_line(alloc: Global, entries: u32) -> Result<Text, NoMemory>
+fn verified_line(alloc: Global, entries: u32) -> Result<ReportText, NoMemory>
     ensures { IfOk result (λ text. text ≡ verified_text entries) }
 {
     let mut out = Vec::new(alloc);
     push_bytes(&mut out, b"verified ")?;
     push_number(&mut out, u64::from(entries))?;
     push_bytes(&mut out, b" entries\n")?;
-    Ok(Text::whole(alloc, out))
+    Ok(ReportText::whole(alloc, out))
 }
 
 // The status that tells a fault.
@@ -121,7 +122,11 @@ fn refusal_of(fault: CheckFault) -> Status
 }
 
 // Reads the files and checks the journal: its line, or the refusal.
-fn verify<S: Shelf>(alloc: Global, names: &VerifyWords<'_>, shelf: &mut S) -> Result<Text, Status>
+fn verify<S: Shelf>(
+    alloc: Global,
+    names: &VerifyWords<'_>,
+    shelf: &mut S,
+) -> Result<ReportText, Status>
     requires placed { ArePlaced (S.words shelf.old) (as_replayed (verify_told names.now)) }
     ensures done { IfOk result (λ text. (rig : RigView)
         → CameToSuccess (verify_form (verify_told names.now)) (shelf_view S.Shelf shelf.old) (shelf_view S.Shelf shelf.new) rig rig text) }
@@ -143,7 +148,7 @@ fn verify<S: Shelf>(alloc: Global, names: &VerifyWords<'_>, shelf: &mut S) -> Re
 /// board: it writes `verified N entries`. A refusal writes its line. No rig is plugged. The words are those of the form, and the shelf's.
 ///
 /// It returns on every input. The refusals are those of `replay_call` up to the scripts; then the journal is read, then the cost is
-/// tested, then the journal. `Verify` is told exactly where that is the first thing that is wrong with it, and never want of memory.
+/// tested, then the journal. `Verify` is told exactly where that is the first thing that is wrong with it; being out of memory has a status of its own.
 pub fn verify_call<S: Shelf, K: Sink>(
     alloc: Global,
     words: &[String],

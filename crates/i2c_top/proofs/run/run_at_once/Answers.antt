@@ -16,8 +16,8 @@ returns-clause-run g c =
     let b = c.args.board.now in
     let scripts = c.args.scripts.items in
     let ports = c.in_ok-ports.ports.items in
-    let ran = c.ran-ran.result in
-    let rig = c.reported.new.rig in
+    let ran = c.run_threads-ran.result in
+    let rig = c.report_of_run.new.rig in
     let are = opened-scripts b scripts c.requires.opened in
     let same : g.R.Rig.board_of c.plugged.new.rig ≡ b = c.in_ok-ports.ensures.board.1 in
     if-ok (λ text. HasRunBy b (length (scripts_in script_row scripts)) (asks_in asked_by (scripts_in script_row scripts))
@@ -29,11 +29,11 @@ returns-clause-run g c =
       is_told = run.is_told ∙ report-of-texts b (texts_of scripts) (scripts_in script_row scripts) are run.journal;
       is_run = run-of-texts b (texts_of scripts) (scripts_in script_row scripts) are (g.R.Rig.logs rig) (g.R.Rig.states rig)
           (g.R.Rig.port_faults rig) run.journal run.is_run;
-      ordered = of-journal (IsOfGroups b (texts_of scripts)) ran (c.ran-ran.ensures.groups tell) run.journal run.ordered;
+      ordered = of-journal (IsOfGroups b (texts_of scripts)) ran (c.run_threads-ran.ensures.groups tell) run.journal run.ordered;
     })
-    c.reported.result
-    (subst (λ (k : BoardView). IfOk c.reported.result (λ text. HasRunBy k (length (scripts_in script_row scripts))
+    c.report_of_run.result
+    (subst (λ (k : BoardView). IfOk c.report_of_run.result (λ text. HasRunBy k (length (scripts_in script_row scripts))
     (asks_in asked_by (scripts_in script_row scripts)) (printed_in section_by (scripts_in script_row scripts)) (HaveJournal ran) text
     (g.R.Rig.logs rig) (g.R.Rig.states rig) (g.R.Rig.port_faults rig))) same
-    (c.reported.ensures.run tells tell scripts ports
-    (subst (λ (k : BoardView). IfOk ran (λ x. IsLeftOf g.R.P.Port script_row k scripts ports (one_of x))) (sym same) c.ran-ran.ensures.left)))
+    (c.report_of_run.ensures.run tells tell scripts ports
+    (subst (λ (k : BoardView). IfOk ran (λ x. IsLeftOf g.R.P.Port script_row k scripts ports (one_of x))) (sym same) c.run_threads-ran.ensures.left)))

@@ -26,9 +26,9 @@ returns-clause-run g c =
     let ports = c.in_ok-ports.ports.items in
     let scripts = scripts_in g.C.Caller callers in
     let ran = c.finished-ran.result in
-    let rig = c.reported.new.rig in
+    let rig = c.report_of_run.new.rig in
     let same : g.R.Rig.board_of c.plugged.new.rig ≡ c.args.board.now = c.in_ok-ports.ensures.board.1 in
-    subst (λ (b : BoardView). IfOk c.reported.result (λ text. HasRunOfAny g.C.Caller.asked g.C.Printer.printed b scripts c.args.words.now text
+    subst (λ (b : BoardView). IfOk c.report_of_run.result (λ text. HasRunOfAny g.C.Caller.asked g.C.Printer.printed b scripts c.args.words.now text
     (g.R.Rig.logs rig) (g.R.Rig.states rig) (g.R.Rig.port_faults rig))) same
     (if-ok (λ text. HasRunBy (g.R.Rig.board_of c.plugged.new.rig) (length scripts) (asks_in g.C.Caller.asked scripts)
     (printed_in g.C.Printer.printed scripts) (HaveJournal ran) text (g.R.Rig.logs rig) (g.R.Rig.states rig) (g.R.Rig.port_faults rig))
@@ -40,6 +40,6 @@ returns-clause-run g c =
       is_run = run.is_run;
       ordered = of-journal (Follows c.args.words.now) ran (c.finished-ran.ensures.follows tell) run.journal run.ordered;
     })
-    c.reported.result
-    (c.reported.ensures.run tells tell callers ports
+    c.report_of_run.result
+    (c.report_of_run.ensures.run tells tell callers ports
     (subst (λ (b : BoardView). IfOk ran (λ x. IsLeftOf g.R.P.Port g.C.Caller b callers ports (one_of x))) (sym same) c.finished-ran.ensures.left)))

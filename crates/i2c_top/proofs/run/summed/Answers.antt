@@ -3,7 +3,7 @@ use Rattle.std.proofs.Common.{List, Result, map, ◌∙◌, subst}
 use Rattle.i2c_base.specs.declared.port.PortCall.{PortCall}
 use Rattle.i2c_base.specs.Limits.{MOST_CALLERS}
 use Rattle.i2c_spec.specs.World.{World}
-use Rattle.bus_core.specs.declared.bus.Parts.{Parts}
+use Rattle.bus_core.specs.declared.bus.ClosedCore.{ClosedCore}
 use Rattle.bus_spec.specs.Schedule.{Follows}
 use Rattle.caller_core.specs.View.{CallerView}
 use Rattle.caller_core.proofs.FairLemmas.{scripts_fair}
@@ -21,9 +21,9 @@ returns-clause-run g c =
     let b = g.R.Rig.board_of c.args.rig.now in
     let port = g.R.P.Port in
     let left : IsLeftOf port script_row b scripts ports parts =
-    subst (λ (r : Result (Parts _ CallerView) _). IfOk r (IsLeftOf port script_row b scripts ports)) c.in-Ok.is kept in
+    subst (λ (r : Result (ClosedCore _ CallerView) _). IfOk r (IsLeftOf port script_row b scripts ports)) c.in-Ok.is kept in
     let follows : Follows words parts.journal.entries =
-    subst (λ (r : Result (Parts _ CallerView) _). IfOk r (λ x. Follows words x.journal.entries)) c.in-Ok.is followed in
+    subst (λ (r : Result (ClosedCore _ CallerView) _). IfOk r (λ x. Follows words x.journal.entries)) c.in-Ok.is followed in
     let journal = parts.journal.entries in
     let worlds : List World = map (λ p. port.world p.1) parts.ports.items in
     let logs : List (List PortCall) = map (λ p. port.log p.1) parts.ports.items in

@@ -7,6 +7,7 @@ use Rattle.i2c_top.proofs.forms.check.check_board.Goals as goal
 pub returns-clause-done : goal.returns-clause-done
 returns-clause-done g c =
     λ rig. check_done _ _ _ rig c.read_accepted.ensures.kept c.in_ok-accepted.accepted _ c.in_ok-accepted.ensures.board
+    c.in_ok-accepted.ensures.spelled
     (c.in_ok-accepted_line.ensures ∙ ap accepted_text c.board.ensures.value)
 
 pub returns-in_err-accepted-clause-refused : goal.returns-in_err-accepted-clause-refused

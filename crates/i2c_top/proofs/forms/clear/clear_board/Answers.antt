@@ -6,7 +6,7 @@ use Rattle.i2c_top.proofs.forms.clear.clear_board.Goals as goal
 pub returns-clause-done : goal.returns-clause-done
 returns-clause-done g c =
     λ rig. clear_done _ _ _ _ rig c.read_accepted.ensures.kept c.in_ok-accepted.accepted _ c.in_ok-accepted.ensures.board
-    c.in_ok-root.ensures.root.1
+    c.in_ok-accepted.ensures.spelled c.in_ok-root.ensures.root.1
     (c.in_ok-lines_of.ensures
     ∙ lines_told c.in_ok-accepted.accepted c.args.at.now c.in_ok-root.root c.in_ok-cleared.cleared.high c.in_ok-cleared.cleared.pulses
     c.in_ok-cleared.cleared.read c.in_ok-root.ensures.root.0 c.in_ok-cleared.ensures)

@@ -7,6 +7,7 @@ use Rattle.i2c_top.specs.Runs.{cost_of_texts, texts_of}
 use Rattle.i2c_top.specs.forms.Replays.{IsPlaceIn}
 use Rattle.i2c_top.specs.forms.Verifies.{as_replayed, verify_told}
 use Rattle.i2c_top.proofs.FileLemmas.{all_scripts, kept_then, passed_on}
+use Rattle.i2c_top.proofs.SomeFiles.{some-journal}
 use Rattle.i2c_top.proofs.VerifyLemmas.{board_told, cost_told, journal_read, journal_told, script_told, some_kept}
 use Rattle.i2c_top.proofs.forms.verify.read_files.Goals as goal
 
@@ -126,3 +127,9 @@ returns-clause-read g c =
     c.read_accepted.ensures.kept.files c.scripts_in.ensures.kept.files t (c.in_ok-board.ensures.board t) count c.in_ok-scripts.ensures.scripts
     (c.in_ok-journal.ensures.bytes t) in
     read
+
+pub returns-clause-some : goal.returns-clause-some
+returns-clause-some g c =
+    some-journal (verify_told c.args.names.now) c.in_ok-board.board c.in_ok-scripts.scripts.items c.in_ok-journal.journal.items
+    c.in_ok-board.ensures.spelled c.in_ok-scripts.ensures.scripts.grammar
+    (c.in_ok-scripts.ensures.count ∙ sym (length-map c.args.names.now.scripts.now string_bytes))

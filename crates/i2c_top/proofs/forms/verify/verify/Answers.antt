@@ -13,7 +13,7 @@ returns-in-Ok-clause-done g c =
     let f = c.in_ok-board.field-0 in
     let read = c.in_ok-board.ensures in
     λ rig. verify_done (verify_told c.args.names.now) _ _ rig c.read_files.ensures.kept f.board (texts_of f.scripts.items) f.journal.items
-    read.read read.cheap read.plain c.in-Ok.entries _
+    read.read read.cheap read.plain read.some c.in-Ok.entries _
     (subst (λ (t : List ℕ). IsVerified (checked_on f.board (texts_of f.scripts.items)) t c.in-Ok.entries) c.as_slice.ensures.value
     c.in-Ok.ensures.verified)
     c.in_ok-verified_line-in-Ok.ensures

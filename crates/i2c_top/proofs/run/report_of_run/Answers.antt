@@ -12,7 +12,7 @@ use Rattle.i2c_top.specs.Callers.{asks_in, callers_in, printed_in, HasRunBy}
 use Rattle.i2c_top.specs.Cores.{HaveJournal, IsLeftOf}
 use Rattle.i2c_top.proofs.CoreLemmas.{twice}
 use Rattle.i2c_top.proofs.RunLemmas.{report-over, run-over}
-use Rattle.i2c_top.proofs.run.reported.Goals as goal
+use Rattle.i2c_top.proofs.run.report_of_run.Goals as goal
 
 pub returns-clause-run : goal.returns-clause-run
 returns-clause-run g c =

@@ -9,7 +9,7 @@ use Rattle.bus_groups.specs.Rounds.{HaveRun, MayRun}
 use Rattle.caller_core.specs.View.{CallerView}
 use Rattle.i2c_top.specs.Runs.{script_row}
 use Rattle.i2c_top.proofs.GroupLemmas.{AreMasks, costs_in, may-run, ran-left, ran-groups}
-use Rattle.i2c_top.proofs.callers.ran.Goals as goal
+use Rattle.i2c_top.proofs.callers.run_threads.Goals as goal
 
 -- a script may go to another thread; each type that it is made of takes a lemma
 pub run_groups-requires-send-C : goal.run_groups-requires-send-C
