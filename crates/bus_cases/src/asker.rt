@@ -1,7 +1,7 @@
 //! A caller without a core: what its script asks for next.
 
 use case_parts::parted;
-use i2c_base::{Kind, Reply, Transfer};
+use i2c_base::{Reply, Transfer, TransferKind};
 use i2c_board::Accepted;
 use std::alloc::Global;
 use tools::{Cmd, LineWords, ToolRun, each_field_is_in_range, each_line_is_read, read_line};
@@ -30,7 +30,7 @@ fn transfer_at(alloc: Global, line: &str, board: &Accepted, place: u16) -> Optio
     if place >= run.places() {
         return None;
     }
-    let mut transfer = Transfer::new(0, Kind::Smbus, false);
+    let mut transfer = Transfer::new(0, TransferKind::Smbus, false);
     run.put(place, &mut transfer);
     Some(transfer)
 }

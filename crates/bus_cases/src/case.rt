@@ -60,14 +60,14 @@ impl Case {
         }
     }
 
-    /// Of the calls on ports this one fails alone, on the first port. None where memory is wanting.
+    /// Of the calls on ports this one fails alone, on the first port. None where there is no memory.
     pub fn fail_at(&mut self, number: u32) -> Option<()> {
         self.fails.clear();
         self.fails.push((SegId(0), number)).ok()
     }
 
     /// Adds reads, writes or calls on ports that fail, sets the room, or else that the rig is stuck. None where a number is
-    /// not one, or memory is wanting.
+    /// not one, or there is no memory.
     pub fn set(&mut self, what: &str, value: &str) -> Option<()> {
         match what {
             "reads" => add_numbers(&mut self.reads, value),
@@ -198,7 +198,7 @@ fn call_over<H: Threads + Wait + Sync, G: Gate + Sync>(
 }
 
 impl Call {
-    /// A call with no words, which wasn't made. None where memory is wanting, as in each of these.
+    /// A call with no words, which wasn't made. None where there is no memory, as in each of these.
     pub fn new(alloc: Global) -> Option<Self> {
         Some(Call {
             outside: Outside::new(alloc)?,
@@ -291,7 +291,7 @@ impl Call {
     }
 
     /// Makes the call again for each output smaller than what was due, up to the first one with which it isn't cut off
-    /// behind the front of that. The case is left with the room of the last one.
+    /// after the front of that. The case is left with the room of the last one.
     pub fn first_other<H: Threads + Wait + Sync>(
         &mut self,
         rt: &H,

@@ -12,7 +12,7 @@ use std::sync::Wait;
 use std::thread::Threads;
 
 /// Makes a call with these words over a rig whose ports of two roots wait for each other. Puts whether a wait was in vain, and
-/// what was written. None where memory is wanting.
+/// what was written. None where there is no memory.
 pub fn put_holds<H: Threads + Wait + Sync>(
     rt: &H,
     page: &mut Page,

@@ -16,7 +16,7 @@ use std::collections::BTreeSet;
 use std::sync::Wait;
 use std::thread::Threads;
 
-/// The numbers below this one, from 2 on, have each schedule of 1 to 12 words of two callers: as the binary digits behind
+/// The numbers below this one, from 2 on, have each schedule of 1 to 12 words of two callers: as the binary digits after
 /// their first one.
 const SCHEDULES: u16 = 8192;
 
@@ -30,7 +30,7 @@ const DIGITS: u8 = 13;
 const MANY_CALLS: u32 = 1000;
 
 /// Two callers over a board: their call, whose words are `replay` and the names of the files of the board, of the schedule
-/// and of the two scripts, `atr` and those names with a map's behind the board's, or `run` and those without a schedule's; and
+/// and of the two scripts, `atr` and those names with a map's after the board's, or `run` and those without a schedule's; and
 /// what fails in it.
 #[derive(Drop)]
 struct Race {
@@ -141,7 +141,7 @@ fn are_over(alloc: Global, askers: &[Asker<'_>]) -> bool {
 }
 
 impl Race {
-    /// A race over these files, on the board of a call. None where memory is wanting, as in each of these.
+    /// A race over these files, on the board of a call. None where there is no memory, as in each of these.
     fn open(alloc: Global, files: &Files, call: &Call) -> Option<Self> {
         Some(Race {
             board: board_of(alloc, text_of(files, call.word(1)).as_bytes())?,

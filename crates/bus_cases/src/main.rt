@@ -1,7 +1,7 @@
 //! The program of cases: what no row of the program shows, in whole calls of the top over files, an output and a rig in memory. It reads a
 //! table from the standard input, and prints what each line asks for:
 //!
-//! - `file NAME`: the lines up to a line `.` are a file of every call behind it
+//! - `file NAME`: the lines up to a line `.` are a file of every call after it
 //! - `case NAME`: a new case, whose output has room for 4,096 bytes, and in which nothing fails
 //! - `reads N..` and `writes N..`: the reads and the writes that fail, from 0
 //! - `room N`: the output has room for so many bytes

@@ -18,7 +18,7 @@ pub struct WiredCall {
 }
 
 impl WiredCall {
-    /// Makes a call with these words over two wires. None where memory is wanting.
+    /// Makes a call with these words over two wires. None where there is no memory.
     pub fn make<H: Threads + Wait + Sync>(
         rt: &H,
         alloc: Global,

@@ -150,7 +150,7 @@ fn put_copied(page: &mut Page, alloc: Global, device: &DeviceState, words: &str)
     }
 }
 
-/// What the device of a number answers to the events of the words behind it, one after the other.
+/// What the device of a number answers to the events of the words after it, one after the other.
 pub fn put_answers(page: &mut Page, alloc: Global, call: &Call, words: &str) {
     let (number, words) = parted(words, ' ');
     page.put("device ");

@@ -35,7 +35,7 @@ fn add_line(bytes: &mut Vec<u8>, line: &str) -> bool {
 }
 
 impl Table {
-    /// None where memory is wanting.
+    /// None where there is no memory.
     pub fn new(alloc: Global) -> Option<Self> {
         Some(Table {
             call: Call::new(alloc)?,

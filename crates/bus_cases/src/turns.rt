@@ -37,7 +37,7 @@ fn is_between(alloc: Global, journal: &str, held: u8, other: u8) -> Option<bool>
     Some(free < second && second < settle)
 }
 
-/// Puts the lines of a text, each behind two spaces.
+/// Puts the lines of a text, each after two spaces.
 pub fn put_lines(page: &mut Page, text: &str) {
     for line in text.lines() {
         page.put("  ");

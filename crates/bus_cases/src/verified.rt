@@ -43,7 +43,7 @@ fn entries_told(check: &Call) -> Option<usize> {
 }
 
 /// Whether the report that a call of `run` or `replay` wrote is verified, with an entry for each line of its journal. None where
-/// memory is wanting.
+/// there is no memory.
 pub fn is_verified<H: Threads + Wait + Sync>(
     rt: &H,
     alloc: Global,

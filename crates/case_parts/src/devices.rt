@@ -69,7 +69,7 @@ fn same_word(one: &mut DeviceState, other: &mut DeviceState, pointer: u8) -> boo
         && same_at(one, other, Event::Stop)
 }
 
-/// These devices hold the same words behind their first pointers, as many as a temperature sensor has.
+/// These devices hold the same words after their first pointers, as many as a temperature sensor has.
 pub fn same_registers(alloc: Global, devices: &[DeviceState], others: &[DeviceState]) -> bool {
     for (one, other) in devices.iter().zip(others.iter()) {
         let (Ok(mut one), Ok(mut other)) = (one.copied(alloc), other.copied(alloc)) else {

@@ -31,7 +31,7 @@ impl Page {
         self.require(is_put);
     }
 
-    /// A piece, and behind it a number in decimal digits.
+    /// A piece, and after it a number in decimal digits.
     pub fn put_number(&mut self, piece: &str, number: u64) {
         let is_put = write!(self.text, "{piece}{number}").is_ok();
         self.require(is_put);
@@ -49,7 +49,7 @@ impl Page {
         self.require(is_put);
     }
 
-    /// A piece, and behind it the end of its line.
+    /// A piece, and after it the end of its line.
     pub fn put_line(&mut self, piece: &str) {
         self.put(piece);
         self.put("\n");

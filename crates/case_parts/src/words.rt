@@ -7,7 +7,7 @@ pub fn byte(word: &str) -> Option<u8> {
     u8::from_str_radix(word, 16).ok()
 }
 
-/// What stands before and behind the first `at` of a text. Where there is none, nothing stands behind it.
+/// What stands before and after the first `at` of a text. Where there is none, nothing stands behind it.
 pub fn parted(text: &str, at: char) -> (&str, &str) {
     match text.split_once(at) {
         Some(parts) => parts,

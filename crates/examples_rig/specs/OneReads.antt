@@ -1,7 +1,7 @@
 -- What a caller of one read asks for, and what is left of it.
 use Rattle.std.specs.Prelude.{ℕ, false, List, [], ◌∷◌, Option, Some, None}
 use Rattle.i2c_base.specs.declared.reply.Reply.{Reply}
-use Rattle.i2c_base.specs.declared.transfer.Kind.TheVariants.{Plain}
+use Rattle.i2c_base.specs.declared.transfer.TransferKind.TheVariants.{Plain}
 use Rattle.i2c_base.specs.Board.{BoardView}
 use Rattle.i2c_base.specs.Need.{Need}
 use Rattle.i2c_base.specs.Transfer.{TransferView, plain_read}

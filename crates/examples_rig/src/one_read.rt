@@ -5,7 +5,7 @@ ghost use Rattle.i2c_base.specs.Need.{bytes_given};
 ghost use Rattle.i2c_spec.specs.Fair.{IsFairCaller};
 ghost use Rattle.examples_rig.specs.OneReads.{asked_by, board_of, left_of, owed_by, room_of, transfer_to};
 
-use i2c_base::{Addr, Caller, Kind, NoMemory, Reply, ReplyHead, Transfer};
+use i2c_base::{Addr, Caller, NoMemory, Reply, ReplyHead, Transfer, TransferKind};
 use i2c_board::Accepted;
 use std::marker::Model;
 use std::snapshot::Snapshot;
@@ -61,7 +61,7 @@ impl OneRead {
 fn transfer_to(bus: u16, addr: Addr) -> Transfer
     ensures { result ≡ transfer_to bus addr }
 {
-    let mut transfer = Transfer::new(bus, Kind::Plain, false);
+    let mut transfer = Transfer::new(bus, TransferKind::Plain, false);
     let _ = transfer.add_read(addr, 1);
     transfer
 }

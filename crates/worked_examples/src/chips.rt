@@ -1,7 +1,7 @@
 //! Worked examples of mux chips, event by event.
 use case_parts::{Page, byte, put_said};
 use i2c_base::{Addr, Event, Idle, LockMode, MuxKind, MuxSpec, SegId, Target};
-use tgt_mux::Chip;
+use targets::Chip;
 
 // The kind of a chip, and how many channels it has.
 fn kind_of(name: &str) -> Option<(MuxKind, u8)> {

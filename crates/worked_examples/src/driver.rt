@@ -41,7 +41,7 @@ impl<L: ByteLines> Driver<L> {
 
 impl<L: ByteLines + Send> Driver<L> {
     /// Makes a call, and gives its answer. None where what the wires have come to doesn't allow it, where it fails, where it sets
-    /// a line, and behind as many calls as a run may have.
+    /// a line, and after as many calls as a run may have.
     pub fn make(&mut self, call: PortCall) -> Option<Answer> {
         if self.calls >= MOST_CALLS {
             return None;

@@ -12,8 +12,8 @@ use i2c_base::{Answer, Event, MuxId, Target};
 use i2c_bits::{BitPort, ByteLines, Lines};
 use std::alloc::Global;
 use std::marker::Model;
+use targets::Regs;
 use tgt_bits::{BitTarget, Wired};
-use tgt_small::Regs;
 
 /// The address of each of the devices.
 const ADDRESS: u8 = 0x20;

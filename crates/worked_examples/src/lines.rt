@@ -26,7 +26,7 @@ fn answer_each(page: &mut Page, alloc: Global, limit: u8, lines: &str)
     }
 }
 
-// A line in which each `WORD*N` is written out. None where N is no number, or memory is wanting.
+// A line in which each `WORD*N` is written out. None where N is no number, or there is no memory.
 fn written_out(alloc: Global, line: &str) -> Option<String> {
     let mut text = String::new(alloc);
     for word in line.split_whitespace() {

@@ -47,7 +47,7 @@ fn read_register(port: &mut WirePort, addr: Addr, register: u8) -> Option<u8>
 }
 
 /// The edges of one read: a rig is plugged for a board, a register is read on its first root, and the rig is unplugged and asked how
-/// often SCL rose. None where the board has no root, something isn't acknowledged, or memory is wanting.
+/// often SCL rose. None where the board has no root, something isn't acknowledged, or there is no memory.
 pub fn read_once(alloc: Global, board: &Accepted, addr: Addr, register: u8) -> Option<Read>
     ensures { IfSome result (λ read. read.edges ≡ 38) }
 {

@@ -2,7 +2,7 @@
 
 use case_parts::{Page, addr, byte, parted};
 use flat_world::Flat;
-use i2c_base::{Addr, ByteList, Cut, Kind, MOST_LENGTH, Reply, Transfer};
+use i2c_base::{Addr, ByteList, Cut, MOST_LENGTH, Reply, Transfer, TransferKind};
 use i2c_board::Accepted;
 use std::alloc::Global;
 
@@ -24,7 +24,7 @@ fn answer_each(page: &mut Page, flat: &mut Flat<'_>, transfers: &str) {
 
 // Does a transfer, and puts its reply.
 fn answer(page: &mut Page, flat: &mut Flat<'_>, text: &str) {
-    let mut transfer = Transfer::new(0, Kind::Plain, false);
+    let mut transfer = Transfer::new(0, TransferKind::Plain, false);
     match read_transfer(&mut transfer, text) {
         Some(cut) => put_reply(page, &flat.apply(&transfer, cut)),
         None => page.put("no transfer"),
@@ -37,7 +37,7 @@ fn answer(page: &mut Page, flat: &mut Flat<'_>, text: &str) {
 fn read_transfer(transfer: &mut Transfer, text: &str) -> Option<Cut> {
     let mut words = text.split_whitespace();
     let (bus, cut) = front_of(words.next()?)?;
-    transfer.restart(bus, Kind::Plain, false);
+    transfer.restart(bus, TransferKind::Plain, false);
     for word in words {
         add(transfer, word)?;
     }

@@ -6,7 +6,7 @@ ghost use Rattle.i2c_bits.specs.Wiring.{AreLetGo};
 use bus_lines::BusLines;
 use case_parts::same_device;
 use i2c_base::{MuxId, NoMemory, SegId};
-use i2c_bits::{BitPort, ByteLines, Lines, PortParts};
+use i2c_bits::{BitPort, ByteLines, ClosedPort, Lines};
 use i2c_board::Accepted;
 use std::alloc::Global;
 use std::marker::Model;
@@ -82,8 +82,8 @@ pub fn same_ends(
     watched: BitPort<Watched>,
     devices: usize,
 ) -> bool {
-    let PortParts { lines: short, .. } = port.into_parts();
-    let PortParts { lines: long, .. } = watched.into_parts();
+    let ClosedPort { lines: short, .. } = port.into_parts();
+    let ClosedPort { lines: long, .. } = watched.into_parts();
     let edges = short.edges();
     let flips = short.flips();
     edges == long.lines.edges()
