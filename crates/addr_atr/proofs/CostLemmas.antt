@@ -74,14 +74,6 @@ translated-root b tree ts t = by (route_of b ts t.bus) refl
     by None e = refl
     by (Some r) e = route-root b tree ts t.bus r (route-is b ts t.bus r e)
 
--- .. and goes to a bus of the board only where it was on one
-pub translated-within : (b : BoardView) (ts : List TranslatorView) (t : TransferView) → (translated b ts t).bus < buses b → t.bus < buses b
-translated-within b ts t = by (route_of b ts t.bus) refl
-  where
-    by : (o : Option Route) → route_of b ts t.bus ≡ o → (sent_by o t).bus < buses b → t.bus < buses b
-    by None e low = low
-    by (Some r) e low = (route-is b ts t.bus r e).within
-
 -- one hop more costs no less
 behind_more : (by_line asks : Bool) (control job : ℕ) → job ≤ behind_by by_line asks control job
 behind_more true asks control job = omega arith

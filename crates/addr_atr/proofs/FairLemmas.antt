@@ -4,7 +4,6 @@ use Rattle.std.proofs.Common.{◌≡◌, ℕ, ◌+◌, ◌<◌, ◌≤◌, List,
 use Rattle.std.specs.Option.{option_map}
 use Rattle.std.proofs.lemmas.List.{length-map}
 use Rattle.i2c_base.specs.declared.reply.Reply.{Reply}
-use Rattle.i2c_base.specs.Board.{BoardView}
 use Rattle.i2c_base.specs.Fitting.{Fits}
 use Rattle.i2c_base.specs.Transfer.{TransferView, IsTransfer}
 use Rattle.i2c_base.specs.Alias.{alias_of, readdressed}
@@ -12,7 +11,6 @@ use Rattle.i2c_spec.specs.Cost.{cost_of}
 use Rattle.i2c_spec.proofs.CostLemmas.{cost_some}
 use Rattle.i2c_spec.specs.Plain.{IsPlainBoard}
 use Rattle.i2c_spec.specs.Rules.{MeetsRules}
-use Rattle.i2c_spec.specs.Tree.{buses, root_of}
 use Rattle.i2c_spec.proofs.AddressLemmas.{tree_of}
 use Rattle.std.specs.Prelude.{sum_by}
 use Rattle.std.proofs.lemmas.List.Sums.{sum_by-le-sum_by}
@@ -25,7 +23,7 @@ use Rattle.caller_core.proofs.SumLemmas.{sum_falls, sum_first}
 use Rattle.addr_atr.specs.Maps.{Route, route_of}
 use Rattle.addr_atr.specs.Lowering.{sent_by, translated}
 use Rattle.addr_atr.specs.Callers.{AtrView, AtrCallerView, data_of, asked_by, board_of, left_of, lowered_cost, AtrCallersAreFair}
-use Rattle.addr_atr.proofs.CostLemmas.{translated-limits, translated-fits, translated-root, translated-within, translated-costs}
+use Rattle.addr_atr.proofs.CostLemmas.{translated-limits, translated-fits, translated-costs}
 
 -- what is asked for comes from what the script asks for
 pub record IsAskedFor (s : AtrView) (rs : List Reply) (t : TransferView) : Type 0 where
@@ -63,17 +61,6 @@ callers-fair =
           subst (λ (x : TransferView). left_of s (rs ++ r ∷ []) + cost_of (board_of s) x ≤ left_of s rs) w.sent
           (sum_falls (lowered_cost s) (commands_of s.script) rs r w.written w.asked));
     }
-
--- what is so of the roots of a script's transfers is so of the roots that they go to
-pub asked-wired : (s : AtrView) (P : ℕ → Type 0) → IsPlainBoard s.script.board → MeetsRules s.script.board
-    → ((rs : List Reply) (t : TransferView) → script_asked s.script rs ≡ Some t → t.bus < buses s.script.board → P (root_of s.script.board t.bus))
-    → (rs : List Reply) (t : TransferView) → asked_by s rs ≡ Some t → t.bus < buses (board_of s) → P (root_of (board_of s) t.bus)
-asked-wired s P plain meets wired rs t e =
-    let b : BoardView = s.script.board in
-    let w = asked-for s rs t e in
-    subst (λ (x : TransferView). x.bus < buses b → P (root_of b x.bus)) w.sent
-    (λ low. subst P (sym (translated-root b (tree_of b plain meets) s.translators w.written))
-    (wired rs w.written w.asked (translated-within b s.translators w.written low)))
 
 -- a reply that fits what was sent fits what the script asked for
 pub fits-script : (seen now : AtrCallerView) (r : Reply) → seen ≡ now

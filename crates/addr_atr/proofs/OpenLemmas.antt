@@ -2,7 +2,7 @@
 use Rattle.std.proofs.Common.{◌≡◌, ℕ, zero, suc, Bool, true, false, not, ◌&&◌, ◌||◌, List, [], ◌∷◌, Option, Some, None, refl, sym, ◌∙◌, ap, map}
 use Rattle.std.specs.Prelude.{slice_get}
 use Rattle.std.specs.List.{list_all}
-use Rattle.std.proofs.lemmas.Bool.{eq-eqb, and_parts}
+use Rattle.std.proofs.lemmas.Bool.{eq-eqb, and_parts, not-true}
 use Rattle.i2c_base.specs.declared.board.DeviceKind.{DeviceKind}
 use Rattle.i2c_base.specs.declared.board.DeviceKind.TheVariants as kind
 use Rattle.i2c_base.specs.Board.{BoardView, DeviceView, RunView}
@@ -31,12 +31,8 @@ all_at test (y ∷ ys) zero x all at =
     ap test (sym same) ∙ (and_parts (test y) (list_all test ys) all).0
 all_at test (y ∷ ys) (suc i) x all at = all_at test ys i x (and_parts (test y) (list_all test ys) all).1 at
 
-not_true : (t : Bool) → not t ≡ true → t ≡ false
-not_true true f = absurd (let g : false ≡ true = f in cc)
-not_true false f = refl
-
 served : (child paired smbus : Bool) → child ≡ true → (not child || (paired && not smbus)) ≡ true → smbus ≡ false
-served true paired smbus e f = not_true smbus (and_parts paired (not smbus) f).1
+served true paired smbus e f = not-true smbus (and_parts paired (not smbus) f).1
 served false paired smbus e f = absurd (let g : false ≡ true = e in cc)
 
 module _ (b : BoardView) (plain : IsPlainBoard b) (tree : IsTree b) (ts : List TranslatorView) (is_map : IsMap b ts) where

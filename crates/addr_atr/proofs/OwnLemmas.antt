@@ -1,12 +1,10 @@
 -- On every accepted board a device's own address on its own bus leads to that device, or is busy because a driver is bound to it.
 -- Each test of the grant goes over targets that have the address, and the rules leave none but the device.
-use Rattle.std.proofs.Common.{◌≡◌, ℕ, Bool, true, false, cond, not, ◌&&◌, ◌||◌, List, Option, Some, None, eqb, refl, sym, ◌∙◌, ap, subst, inl, inr, arith, zero-add, length, reverse, get_or}
+use Rattle.std.proofs.Common.{◌≡◌, ℕ, Bool, true, false, cond, not, ◌&&◌, ◌||◌, List, Option, Some, None, eqb, refl, sym, ◌∙◌, ap, subst, inl, inr, arith, zero-add, length, reverse}
 use Rattle.std.specs.Prelude.{slice_get, unwrap_or}
 use Rattle.std.specs.List.{list_any, position_from}
 use Rattle.std.specs.Option.{option_map}
-use Rattle.std.proofs.lemmas.Bool.{eqb-true, eq-eqb, and_from, false≢true, false_from_ne_true}
-use Rattle.std.proofs.lemmas.List.Folds.{list_any_none}
-use Rattle.std.proofs.lemmas.Option.{slice_get-get_or}
+use Rattle.std.proofs.lemmas.Bool.{eqb-true, eq-eqb, and_from, false≢true}
 use Rattle.std.proofs.Math.Bool.{or-true}
 use Rattle.i2c_base.specs.declared.board.MuxSpec.{MuxSpec}
 use Rattle.i2c_base.specs.declared.ids.Node.{Node}
@@ -19,15 +17,11 @@ use Rattle.i2c_spec.specs.TreeFacts.{IsTree, home_of, addr_of}
 use Rattle.i2c_spec.specs.Grant.{has_address, some_chip, some_device, some_bound, named_by, grant_of}
 use Rattle.i2c_spec.specs.Plain.{IsPlanted}
 use Rattle.i2c_spec.proofs.TreeLemmas.{tree_above}
-use Rattle.bus_laws.proofs.world.Reach.{and_left, and_right, address_is}
-use Rattle.bus_laws.proofs.world.Calls.{any_at}
+use Rattle.bus_laws.proofs.world.Reach.{address_is}
 use Rattle.bus_laws.proofs.device.Grant.{path_over, position_at, position_some, none-aside}
-
-none_passes : {X : Type 0} (test : X → Bool) (xs : List X) → ((i : ℕ) (x : X) → slice_get xs i ≡ Some x → test x ≡ true → ⊥)
-    → list_any test xs ≡ false
-none_passes test xs none =
-    list_any_none test xs
-    (λ k d low. false_from_ne_true (test (get_or xs k d)) (none k (get_or xs k d) (slice_get-get_or xs k d low)))
+use Rattle.i2c_base.proofs.Booleans.{and_first, and_last}
+use Rattle.std.proofs.lemmas.Map.Keys.{any_passes_from_place}
+use Rattle.i2c_base.proofs.ListLemmas.{any_none}
 
 -- the one element that passes decides
 any_one : {X : Type 0} (test : X → Bool) (xs : List X) (d : ℕ) (x : X) → slice_get xs d ≡ Some x
@@ -35,8 +29,8 @@ any_one : {X : Type 0} (test : X → Bool) (xs : List X) (d : ℕ) (x : X) → s
 any_one {X} test xs d x at only = by (test x) refl
   where
     by : (t : Bool) → test x ≡ t → list_any test xs ≡ t
-    by true e = any_at test xs d x at e
-    by false e = none_passes test xs (λ i y there passes. let f : false ≡ true = sym e ∙ ap test (sym (only i y there passes)) ∙ passes in cc)
+    by true e = any_passes_from_place test xs d x at e
+    by false e = any_none test xs (λ i y there passes. let f : false ≡ true = sym e ∙ ap test (sym (only i y there passes)) ∙ passes in cc)
 
 -- what is said of a device that is there, and of a chip
 bus_at : (b : BoardView) (d : ℕ) (x : DeviceView) → slice_get b.devices d ≡ Some x → home_of b (node.Device d) ≡ x.bus
@@ -73,16 +67,16 @@ module _ (b : BoardView) (tree : IsTree b) (planted : IsPlanted (length b.roots)
   module _ (on : ℕ → Bool) (along : (u : ℕ) → on u ≡ true → IsAlong b u x.bus) where
     no_chip : some_chip b x.addr on ≡ false
     no_chip =
-        none_passes (λ (m : MuxSpec). has_address x.addr m.addr && on m.bus) b.muxes
+        any_none (λ (m : MuxSpec). has_address x.addr m.addr && on m.bus) b.muxes
         (λ i m there e. let same : node.Chip i ≡ node.Device d = is_own (node.Chip i) m.bus
-        (chip_addr b i m x.addr there (and_left (has_address x.addr m.addr) (on m.bus) e)) (chip_bus b i m there)
-        (along m.bus (and_right (has_address x.addr m.addr) (on m.bus) e)) in absurd (cc))
+        (chip_addr b i m x.addr there (and_first (has_address x.addr m.addr) (on m.bus) e)) (chip_bus b i m there)
+        (along m.bus (and_last (has_address x.addr m.addr) (on m.bus) e)) in absurd (cc))
 
     one_device : (i : ℕ) (y : DeviceView) → slice_get b.devices i ≡ Some y → (eqb y.addr x.addr && on y.bus) ≡ true → i ≡ d
     one_device i y there e =
-        let addr : y.addr ≡ x.addr = eqb-true y.addr x.addr (and_left (eqb y.addr x.addr) (on y.bus) e) in
+        let addr : y.addr ≡ x.addr = eqb-true y.addr x.addr (and_first (eqb y.addr x.addr) (on y.bus) e) in
         let same : node.Device i ≡ node.Device d = is_own (node.Device i) y.bus (addr_at b i y there ∙ ap Some addr) (bus_at b i y there)
-        (along y.bus (and_right (eqb y.addr x.addr) (on y.bus) e)) in cc
+        (along y.bus (and_last (eqb y.addr x.addr) (on y.bus) e)) in cc
 
   own_again : (i : ℕ) (y : DeviceView) → slice_get b.devices i ≡ Some y → i ≡ d → y ≡ x
   own_again i y there e =
@@ -98,10 +92,10 @@ module _ (b : BoardView) (tree : IsTree b) (planted : IsPlanted (length b.roots)
 
   none_below : some_device b x.addr (λ u. is_below b u x.bus) ≡ false
   none_below =
-      none_passes (λ (y : DeviceView). eqb y.addr x.addr && is_below b y.bus x.bus) b.devices
+      any_none (λ (y : DeviceView). eqb y.addr x.addr && is_below b y.bus x.bus) b.devices
       (λ i y there e. let same : y ≡ x = own_again i y there (one_device (λ u. is_below b u x.bus) below_along i y there e) in
       false≢true (sym (tree_above b planted x.bus x.bus (omega arith))
-      ∙ ap (λ (z : DeviceView). is_below b z.bus x.bus) (sym same) ∙ and_right (eqb y.addr x.addr) (is_below b y.bus x.bus) e))
+      ∙ ap (λ (z : DeviceView). is_below b z.bus x.bus) (sym same) ∙ and_last (eqb y.addr x.addr) (is_below b y.bus x.bus) e))
 
   own_path : is_on_path b x.bus x.bus ≡ true
   own_path = ap (λ (t : Bool). t || is_below b x.bus x.bus) (eq-eqb x.bus x.bus refl)
@@ -113,7 +107,7 @@ module _ (b : BoardView) (tree : IsTree b) (planted : IsPlanted (length b.roots)
   bound_is =
       any_one (λ (y : DeviceView). y.bound && (eqb y.addr x.addr && is_on_path b x.bus y.bus)) b.devices d x at
       (λ i y there e. own_again i y there (one_device (is_on_path b x.bus) path_along i y there
-      (and_right y.bound (eqb y.addr x.addr && is_on_path b x.bus y.bus) e)))
+      (and_last y.bound (eqb y.addr x.addr && is_on_path b x.bus y.bus) e)))
       ∙ ap (λ (t : Bool). x.bound && t) own_fits ∙ and_true x.bound
     where
       and_true : (t : Bool) → (t && true) ≡ t

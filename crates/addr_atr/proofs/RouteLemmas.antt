@@ -1,8 +1,8 @@
 -- A route leads from a translator's child bus to the bus that its mux stands on: one hop less, which is a line switch and lets each
 -- message through, and its pairs are of the devices on the child bus. And the lowered board is one that a board may be.
-use Rattle.std.proofs.Common.{◌≡◌, ℕ, suc, ◌<◌, ◌≤◌, Bool, true, false, cond, not, ◌&&◌, ◌||◌, List, [], ◌∷◌, ◌++◌, Option, Some, None, eqb, ltb, refl, sym, ◌∙◌, ap, subst, inl, arith, length, reverse, map}
+use Rattle.std.proofs.Common.{◌≡◌, ℕ, ◌<◌, ◌≤◌, Bool, true, false, cond, not, ◌&&◌, ◌||◌, List, [], ◌∷◌, ◌++◌, Option, Some, None, eqb, ltb, refl, sym, ◌∙◌, ap, subst, inl, arith, length, reverse, map}
 use Rattle.std.specs.Prelude.{slice_get, unwrap_or, All}
-use Rattle.std.specs.List.{list_any, list_all, find}
+use Rattle.std.specs.List.{list_all, find}
 use Rattle.std.specs.Option.{option_map, option_map_or}
 use Rattle.std.proofs.lemmas.Bool.{eqb-true, and_parts, ltb-true}
 use Rattle.std.proofs.lemmas.List.{reverse-append, length-map}
@@ -29,6 +29,7 @@ use Rattle.i2c_base.specs.declared.alias.AliasPair.{AliasPair}
 use Rattle.i2c_base.specs.Alias.{alias_of}
 use Rattle.addr_atr.specs.Maps.{TranslatorView, Route, pairs_of, route_over, route_of}
 use Rattle.addr_atr.specs.Lowering.{moved, lowered_device, lowered, is_over, is_child, is_gpio, is_single, is_named, is_parent_bus, may_translate, is_paired, are_distinct, has_child, is_served, are_pairs_of, fault_after, AreAddresses, IsMap}
+use Rattle.i2c_base.proofs.ListLemmas.{any_found}
 
 -- WHAT A ROUTE IS
 pub record IsRoute (b : BoardView) (ts : List TranslatorView) (s : ℕ) (r : Route) : Type 0 where
@@ -159,17 +160,6 @@ any_paired b m a (p ∷ ps) e all = by (any_paired b m a ps) (eqb p.addr a) refl
         → eqb p.addr a ≡ t → has_child b m a ≡ true
     by rest true is = ap (has_child b m) (sym (eqb-true p.addr a is)) ∙ both.0
     by rest false other = rest (sym (ap (λ (t : Bool). t || is_paired ps a) other) ∙ e) both.1
-
-any_found : {X : Type 0} (test : X → Bool) (xs : List X) → list_any test xs ≡ true
-    → (i : ℕ) × (x : X) × (slice_get xs i ≡ Some x) × (test x ≡ true)
-any_found test [] e = absurd (let f : false ≡ true = e in cc)
-any_found {X} test (x ∷ xs) e = by (any_found test xs) (test x) refl
-  where
-    by : (list_any test xs ≡ true → (i : ℕ) × (y : X) × (slice_get xs i ≡ Some y) × (test y ≡ true)) → (t : Bool) → test x ≡ t
-        → (i : ℕ) × (y : X) × (slice_get (x ∷ xs) i ≡ Some y) × (test y ≡ true)
-    by rest true here = (0, x, refl, here)
-    by rest false other =
-        (let r = rest (sym (ap (λ (t : Bool). t || list_any test xs) other) ∙ e) in (suc r.0, r.1, r.2, r.3))
 
 -- a child of a mux has its hop over it
 child_hop : (b : BoardView) (m u : ℕ) (hs : List Hop) → hops b u ≡ hs → is_over m (slice_get hs 0) ≡ true

@@ -1,6 +1,6 @@
 -- The rise of the acknowledge clock of a read that is cut off: in time, or so late that all have let SDA go.
 use Rattle.std.proofs.Common.{◌≡◌, ℕ, zero, suc, ◌+◌, ◌-◌, ◌/◌, ◌<◌, ◌≤◌, Bool, true, false, cond, List, [], ◌∷◌, map, refl, ap, sym, ◌∙◌, arith, subst}
-use Rattle.std.specs.Prelude.{not, ◌||◌, ◌==◌}
+use Rattle.std.specs.Prelude.{not, ◌==◌}
 use Rattle.std.specs.List.{AllByRecursion}
 use Rattle.std.proofs.lemmas.Bool.Decides.{nat_tests}
 use Rattle.i2c_base.specs.Bytes.{IsByte}
@@ -9,30 +9,21 @@ use Rattle.i2c_base.specs.declared.event.Event.TheVariants.{Start}
 use Rattle.i2c_spec.specs.Targets.{IsFairTable}
 use Rattle.i2c_spec.specs.World.{is_ack, has_heard}
 use Rattle.wire_spec.specs.declared.mode.Mode.TheVariants.{Out, In, Give}
-use Rattle.wire_spec.specs.Wires.{Site, Bit, site_of, shifted, rise, fall, tick, begin, is_named, is_reading, stands}
+use Rattle.wire_spec.specs.Wires.{Site, Bit, site_of, shifted, fall, tick, begin, is_named, is_reading, stands}
 use Rattle.wire_spec.specs.Roots.{some_one, pulls_line, sda, where_joined, at}
 use Rattle.wire_spec.specs.Bus.{Mask, Counts, one_edge, Bus, Came, holds_line, scl_level, sda_level, each, rises, pulled, looked, await, bus_of, came_up, gave_up}
 use Rattle.wire_spec.specs.Started.{calling, started, stays, late_bus, rose, answers_so}
 use Rattle.wire_spec.specs.Calls.{released}
 use Rattle.wire_spec.proofs.Roots.{map_step, map_map, some_map}
 use Rattle.wire_spec.proofs.Calm.{looks_up, goes_down, sets_data}
-use Rattle.wire_spec.proofs.AckClock.{waiting, waiting_if, acknowledges, acknowledges_if, wait_bus, wait_level, let_go, goes_on, settled_all, by_busy, or_left, or_right, fall_all}
+use Rattle.wire_spec.proofs.AckClock.{waiting, waiting_if, acknowledges, wait_bus, wait_level, let_go, goes_on, settled_all, by_busy, or_left, or_right, fall_all, pulls_one, gone}
 use Rattle.wire_spec.proofs.SlowClock.{slow_clock}
 use Rattle.wire_spec.proofs.StartClocks.{stays_free}
 use Rattle.wire_spec.proofs.StartLemmas.{ack_all, not_slow}
-use Rattle.wire_spec.proofs.LateStops.{resting, resting_if, held, held_if, left_hold, started_if, late_map, held_same}
+use Rattle.wire_spec.proofs.LateStops.{resting, resting_if, held, held_if, left_hold, started_if, late_map, held_same, tick_r, rise_r, holds_r}
 use Rattle.bus_clear.specs.Pulls.{cut_rise}
 use Rattle.bus_clear.proofs.AddressLemmas.{Frees, frees_at_once}
-
--- ---- in time
-gone : (n : ℕ) → not (n == 0) ≡ false → n ≡ 0
-gone n h = grind (arith, nat_tests)
-
-pulls_one : {X : Type 0} (t : Table X) (byte r j : ℕ) (a : ℕ) (jd e h : Bool) (x : X)
-    → pulls_line t (waiting_if t byte r j (site_of a jd e x) jd h) ≡ acknowledges_if t byte (site_of a jd e x) jd h
-pulls_one t byte r j a true e true x = refl
-pulls_one t byte r j a true e false x = refl
-pulls_one t byte r j a false e h x = refl
+use Rattle.std.proofs.lemmas.Bool.{or_from}
 
 begin_one : {X : Type 0} (t : Table X) (byte r j : ℕ) (a : ℕ) (jd e h : Bool) (x : X)
     → where_joined begin (waiting_if t byte r j (site_of a jd e x) jd h) ≡ calling 8 0 (started_if t byte (site_of a jd e x) jd h)
@@ -154,20 +145,6 @@ await_more {X} t v (suc n) m (suc all) w w1 is e =
     ∙ await_more t v n m all (looked t w) w1 (omega (arith, is))
     (ap (λ b. cond {A = Came X} b a (await t v n (looked t w))) (sym low) ∙ e)
 
-tick_r : {X : Type 0} (h j a : ℕ) (jd e : Bool) (x : X)
-    → where_joined tick (resting_if (site_of a jd e x) h j jd) ≡ resting_if (site_of a jd e x) h (suc j) jd
-tick_r h j a true e x = ap (λ n. stands (site_of a true e x) Out n) (omega arith)
-tick_r h j a false e x = refl
-
-rise_r : {X : Type 0} (t : Table X) (l : Bool) (h j a : ℕ) (jd e : Bool) (x : X)
-    → where_joined (λ b. rise t b l) (resting_if (site_of a jd e x) h j jd) ≡ resting_if (site_of a jd e x) h j jd
-rise_r t l h j a true e x = refl
-rise_r t l h j a false e x = refl
-
-holds_r : {X : Type 0} (h j a : ℕ) (jd e : Bool) (x : X) → holds_line (resting_if (site_of a jd e x) h j jd) ≡ held_if h j jd
-holds_r h j a true e x = refl
-holds_r h j a false e x = refl
-
 module _ {A X : Type 0} (t : Table X) (g : A → Site X) (rest : A → ℕ) (ss : List A) where
   abbrev bus_at : ℕ → Counts → Bus X
   bus_at j c = bus_of false false (map (resting g rest j) ss) c
@@ -193,7 +170,7 @@ module _ {A X : Type 0} (t : Table X) (g : A → Site X) (rest : A → ℕ) (ss 
       ∙ (ap (λ v. cond (scl_level v) (rises t v) v) e
       ∙ by_busy (bus_at (suc j)) c (some_one (held g rest (suc j)) ss) _ _ _ (level_at (suc j) c) (rises_at (suc j) c) refl)
 
-  -- nobody holds SCL after so many looks
+  -- or_from holds SCL after so many looks
   record Rests (w : Bus X) : Type 0 where
     looks : ℕ
     counts : Counts
@@ -257,14 +234,11 @@ rest_one : {X : Type 0} (t : Table X) (byte : ℕ) (s : Site X) (joined : Bool) 
 rest_one t byte s true lt = rest_short (is_named byte s) (has_heard (t.answer s.state (Start (is_reading byte)))) (t.hold s.state) lt
 rest_one t byte s false lt = refl
 
-nobody : (a b : Bool) → a ≡ false → b ≡ false → (a || b) ≡ false
-nobody a b p q = ap (λ x. x || b) p ∙ q
-
 all_rest : {X : Type 0} (t : Table X) (byte : ℕ) (ss : List (Site X)) → AllByRecursion (λ (s : Site X). IsByte (t.hold s.state)) ss
     → some_one (held (started t byte) (left_hold t byte) 190) ss ≡ false
 all_rest t byte [] all = refl
 all_rest t byte (s ∷ ss) all =
-    nobody (held (started t byte) (left_hold t byte) 190 s) _ (rest_one t byte s (started t byte s).joined all.0) (all_rest t byte ss all.1)
+    or_from (held (started t byte) (left_hold t byte) 190 s) _ (rest_one t byte s (started t byte s).joined all.0) (all_rest t byte ss all.1)
 
 pub ninth_too_late : {X : Type 0} (t : Table X) (mask : Mask X) (byte : ℕ) (ss : List (Site X)) (low : Bool) (c : Counts)
     → AllByRecursion (λ (s : Site X). IsByte (t.hold s.state)) ss → some_one (stays t byte 64) ss ≡ true

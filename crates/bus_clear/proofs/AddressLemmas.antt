@@ -16,7 +16,8 @@ use Rattle.wire_spec.proofs.Stops.{stop_run}
 use Rattle.bus_clear.specs.Cuts.{MOST_PULSES}
 use Rattle.bus_clear.specs.Pulls.{cut_level, cut_rise, cut_clock, cut_clocks, clearing, clear_pulls}
 use Rattle.bus_clear.specs.declared.cleared.Cleared.TheVariants.{Free}
-use Rattle.bus_clear.proofs.Clocks.{rise_calm, clock_calm, start_stops, clears_from, ends_free, map_same}
+use Rattle.bus_clear.proofs.Clocks.{rise_calm, clock_calm, start_stops, clears_from, ends_free}
+use mathlib.Core.List.{map-id}
 
 -- the lines are freed with so many pulses, and are such a stop's; SDA has this level after the cut
 pub record Frees {X : Type 0} (t : Table X) (mask : Mask X) (made : ℕ) (high : Bool) (gs : List (Site X)) (w : Bus X) : Type 0 where
@@ -162,7 +163,7 @@ module _ {X : Type 0} (t : Table X) (mask : Mask X) (ss : List (Site X)) where
       ap (λ u. pulled t mask u false false) (rises_to (suc left) v c false low ∙ ap (λ bs. bus_of false true bs (one_edge c)) e)
       ∙ (stop_run t mask f (λ (s : Site X). s) ss (one_edge c) (λ s. call_finish left v l s.addr s.joined s.heard s.state) quiet
       (λ s. call_hangs left v l s.addr s.joined s.heard s.state)
-      ∙ ap (λ xs. bus_of false false (map released (rejoin mask (map (stop_site t) xs))) (one_flip (one_edge c))) (map_same ss))
+      ∙ ap (λ xs. bus_of false false (map released (rejoin mask (map (stop_site t) xs))) (one_flip (one_edge c))) (map-id ss))
 
   bit_frees : (left v : ℕ) (c : Counts) (h low : Bool)
       → Frees t mask 0 true (behind_bit h) (pulled t mask (cut_rise t mask h (bus_of true low (map (calling (suc (suc left)) v) ss) c)) false false)

@@ -31,10 +31,7 @@ use Rattle.bus_clear.specs.declared.cleared.Cleared.TheVariants.{Free}
 use Rattle.bus_clear.proofs.AddressLemmas.{behind_bit}
 use Rattle.bus_clear.proofs.CutLemmas.{FreesAt, frees_heard, frees_unheard, sites_at, byte_sent, low_most}
 use Rattle.bus_clear.proofs.WorldLemmas.{Found, Left, free_found, start_found, get_found, found_again, left_by, stop_again, stop_quiet}
-
-and_false : (a b : Bool) → b ≡ false → (a && b) ≡ false
-and_false true b is = is
-and_false false b is = refl
+use Rattle.std.proofs.lemmas.Bool.{and_right}
 
 -- ---- the address byte of a read
 half_of : (addr : ℕ) → (2 * addr + 1) / 2 ≡ addr
@@ -77,7 +74,7 @@ early_is : (n : ℕ) → n < 8 → nat_lt 7 n ≡ false
 early_is n lt = grind (arith, nat_tests)
 
 not_last : (heard : Bool) (n : ℕ) → n < 8 → (heard && (n == 18)) ≡ false
-not_last heard n lt = let e : (n == 18) ≡ false = grind (arith, nat_tests) in and_false heard (n == 18) e
+not_last heard n lt = let e : (n == 18) ≡ false = grind (arith, nat_tests) in and_right heard (n == 18) e
 
 late_is : (n p : ℕ) → nat_lt 7 n ≡ true → nat_lt 7 (n + p) ≡ true
 late_is n p is = grind (arith, nat_tests)

@@ -1,8 +1,8 @@
 -- Clocks of a cut read, and pulses, on targets of which nobody holds SCL; and a start with a stop on lines that are let go.
-use Rattle.std.proofs.Common.{◌≡◌, ℕ, suc, ◌+◌, Bool, true, false, cond, List, [], ◌∷◌, map, refl, ap, sym, ◌∙◌}
+use Rattle.std.proofs.Common.{◌≡◌, ℕ, suc, ◌+◌, Bool, true, false, cond, List, map, refl, ap, sym, ◌∙◌}
 use Rattle.std.specs.Prelude.{not, ◌&&◌, ◌==◌}
 use Rattle.i2c_base.specs.Table.{Table}
-use Rattle.wire_spec.specs.Wires.{Site, Bit, site_of, shifted, fall, begin, finish}
+use Rattle.wire_spec.specs.Wires.{Site, Bit, shifted, fall, begin}
 use Rattle.wire_spec.specs.Roots.{some_one, pulls_line, sda, where_joined, clock_all, stop_site}
 use Rattle.wire_spec.specs.Bus.{Mask, Counts, one_edge, one_flip, Bus, Came, holds_line, scl_level, sda_level, begins, each, edge, pulled, await, closed, bit_step, bus_of, came_up}
 use Rattle.wire_spec.specs.Started.{calling}
@@ -10,11 +10,15 @@ use Rattle.wire_spec.specs.Calls.{STOP_LOOKS, released, rejoin, free}
 use Rattle.wire_spec.proofs.Roots.{some_map, no_one}
 use Rattle.wire_spec.proofs.Calm.{IsCalm, risen, goes_up, goes_down, sets_data, up_calm, looks_up, bit_calm}
 use Rattle.wire_spec.proofs.Stops.{stop_run}
-use Rattle.wire_spec.proofs.StartClocks.{call_low, call_free, stays_free}
+use Rattle.wire_spec.proofs.StartClocks.{call_low, stays_free}
 use Rattle.wire_spec.proofs.StartLaws.{released_out}
 use Rattle.bus_clear.specs.Cuts.{MOST_PULSES}
 use Rattle.bus_clear.specs.Pulls.{cut_rise, cut_clock, pulse, start_stop, clearing, clear_from, clear_pulls}
 use Rattle.bus_clear.specs.declared.cleared.Cleared.TheVariants.{Free, SclHeld}
+use Rattle.std.proofs.lemmas.Bool.{not-true}
+use mathlib.Core.List.{map-id}
+use Rattle.wire_spec.proofs.LateStops.{finish_call}
+use Rattle.wire_spec.proofs.Address.{call_quiet}
 
 -- ---- one clock
 pub rise_calm : {X : Type 0} (t : Table X) (mask : Mask X) (h low : Bool) (ts : List (Bit X)) (c : Counts) → IsCalm t ts h
@@ -67,10 +71,6 @@ quiet_up : (a : Bool) → (true && not a) ≡ true → a ≡ false
 quiet_up true is = cc
 quiet_up false is = refl
 
-low_down : (a : Bool) → not a ≡ true → a ≡ false
-low_down true is = cc
-low_down false is = refl
-
 begin_all : {X : Type 0} (t : Table X) (mask : Mask X) (bs : List (Bit X)) (c : Counts)
     → some_one holds_line bs ≡ false → some_one (pulls_line t) bs ≡ false
     → pulled t mask (bus_of false false bs c) false true ≡ bus_of false true (map (where_joined begin) bs) (one_flip c)
@@ -81,15 +81,6 @@ begin_all {X} t mask bs c low line =
     ∙ (ap (λ b. cond {A = Bus X} (not b) (cond (sda_level t (bus_of false false bs c)) (begins w) w) (each fall w)) low
     ∙ ap (λ b. cond {A = Bus X} (not b) (begins w) w) line)
 
-finish_call : {X : Type 0} (t : Table X) (a : ℕ) (j e : Bool) (x : X)
-    → where_joined (finish t) (calling 8 0 (site_of a j e x)) ≡ released (stop_site t (site_of a j e x))
-finish_call t a true e x = refl
-finish_call t a false e x = refl
-
-pub map_same : {A : Type 0} (xs : List A) → map (λ x. x) xs ≡ xs
-map_same [] = refl
-map_same (x ∷ xs) = ap (λ ys. x ∷ ys) (map_same xs)
-
 -- where the lines are high, a start and a stop are a stop of who is joined
 pub start_stops : {X : Type 0} (t : Table X) (mask : Mask X) (bs : List (Bit X)) (gs : List (Site X)) (c : Counts)
     → map (where_joined begin) bs ≡ map (calling 8 0) gs
@@ -98,11 +89,11 @@ pub start_stops : {X : Type 0} (t : Table X) (mask : Mask X) (bs : List (Bit X))
 start_stops {X} t mask bs gs c starts up high =
     let low : some_one holds_line (map (calling 8 0) gs) ≡ false =
     some_map (calling 8 0) holds_line (λ x. false) (λ (s : Site X). call_low 8 0 s.addr s.joined s.heard s.state) gs ∙ no_one gs in
-    ap (λ u. pulled t mask u false false) (begin_all t mask bs c (low_down _ up) (quiet_up _ high)
+    ap (λ u. pulled t mask u false false) (begin_all t mask bs c (not-true _ up) (quiet_up _ high)
     ∙ ap (λ us. bus_of false true us (one_flip c)) starts)
     ∙ (stop_run t mask (calling 8 0) (λ (s : Site X). s) gs (one_flip c) (λ s. finish_call t s.addr s.joined s.heard s.state) low
-    (λ s. call_free t 8 0 s.addr s.joined s.heard s.state)
-    ∙ (ap (λ xs. bus_of false false (map released (rejoin mask (map (stop_site t) xs))) (one_flip (one_flip c))) (map_same gs)
+    (λ s. call_quiet t 8 0 s.addr s.joined s.heard s.state)
+    ∙ (ap (λ xs. bus_of false false (map released (rejoin mask (map (stop_site t) xs))) (one_flip (one_flip c))) (map-id gs)
     ∙ ap (λ us. bus_of false false us (one_flip (one_flip c))) (released_out (rejoin mask (map (stop_site t) gs)))))
 
 -- ---- bus clear from lines that are let go, where SCL is high
@@ -114,7 +105,7 @@ let_by {X} t mask bs c level up is =
     ap (await t 0 STOP_LOOKS) (stays_free t mask bs c)
     ∙ (looks_up t 0 254 w up ∙ ap (λ l. came_up (shifted 0 l) w) is)
 
-level_one : (level : Bool) → (shifted 0 level == 1) ≡ level
+pub level_one : (level : Bool) → (shifted 0 level == 1) ≡ level
 level_one true = refl
 level_one false = refl
 

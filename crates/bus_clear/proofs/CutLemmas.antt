@@ -30,35 +30,22 @@ use Rattle.bus_clear.proofs.Clocks.{rise_calm, clock_calm, clears_from, pulses_o
 use Rattle.bus_clear.proofs.DataLemmas.{bit_left, lows, where_high, high_counts, giving, given, given_level, given_up, rise_on, clock_on, pulse_to, clears_by}
 use Rattle.bus_clear.proofs.AddressLemmas.{Frees, Partway, levels_from, calls_by, seven_frees, eight_frees, out_frees, behind_bit}
 use Rattle.bus_clear.proofs.AckLemmas.{InTime, OutOn, ninth_in_time, ninth_too_late, still, in_time_up, in_time_level, in_time_frees, in_time_falls}
+use Rattle.wire_spec.proofs.LiveLemmas.{out_rises, out_holds, out_falls}
 
 -- after the eighth rise the controller lets SDA go
 free_level : (byte r : ℕ) → 8 < r → cut_level byte r ≡ true
 free_level byte r lt = let e : nat_lt r 9 ≡ false = grind (arith, nat_tests) in ap (λ b. cond b (bit byte (8 - r)) true) e
-
--- ---- who is out of the message
-out_low : {X : Type 0} (a : ℕ) (j e : Bool) (x : X) → holds_line (released (site_of a j e x)) ≡ false
-out_low a true e x = refl
-out_low a false e x = refl
-
-out_rises : {X : Type 0} (t : Table X) (l : Bool) (a : ℕ) (j e : Bool) (x : X)
-    → where_joined (λ b. rise t b l) (released (site_of a j e x)) ≡ released (site_of a j e x)
-out_rises t l a true e x = refl
-out_rises t l a false e x = refl
 
 out_clock : {X : Type 0} (t : Table X) (l : Bool) (a : ℕ) (j e : Bool) (x : X)
     → where_joined (λ b. fall (rise t b l)) (released (site_of a j e x)) ≡ released (site_of a j e x)
 out_clock t l a true e x = refl
 out_clock t l a false e x = refl
 
-out_falls : {X : Type 0} (a : ℕ) (j e : Bool) (x : X) → where_joined fall (released (site_of a j e x)) ≡ released (site_of a j e x)
-out_falls a true e x = refl
-out_falls a false e x = refl
-
 module _ {X : Type 0} (t : Table X) (mask : Mask X) (gs : List (Site X)) where
   out_calm : IsCalm t (map released gs) true
   out_calm =
-      calm_by t released gs true (λ s. out_low s.addr s.joined s.heard s.state)
-      (λ s l. ap holds_line (out_rises t l s.addr s.joined s.heard s.state) ∙ out_low s.addr s.joined s.heard s.state)
+      calm_by t released gs true (λ s. out_holds s.addr s.joined s.heard s.state)
+      (λ s l. ap holds_line (out_rises t l s.addr s.joined s.heard s.state) ∙ out_holds s.addr s.joined s.heard s.state)
       (λ s l. ap (pulls_line t) (out_rises t l s.addr s.joined s.heard s.state))
 
   out_on : (low : Bool) (c : Counts) → cut_clock t mask true (bus_of true low (map released gs) c) ≡ bus_of true false (map released gs) (one_edge c)
@@ -78,7 +65,7 @@ module _ {X : Type 0} (t : Table X) (mask : Mask X) (gs : List (Site X)) where
   out_fall : (c : Counts) → pulled t mask (bus_of false false (map released gs) c) true false ≡ bus_of true false (map released gs) c
   out_fall c =
       goes_down t mask (bus_of false false (map released gs) c) false
-      (ap not (some_map released holds_line (λ x. false) (λ s. out_low s.addr s.joined s.heard s.state) gs ∙ no_one gs))
+      (ap not (some_map released holds_line (λ x. false) (λ s. out_holds s.addr s.joined s.heard s.state) gs ∙ no_one gs))
       ∙ ap (λ bs. bus_of true false bs c) (map_step released released _ (λ s. out_falls s.addr s.joined s.heard s.state) gs)
 
   -- clocks go on where nobody has heard

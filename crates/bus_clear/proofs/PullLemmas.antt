@@ -14,6 +14,7 @@ use Rattle.bus_clear.specs.Clears.{more_pulses}
 use Rattle.bus_clear.specs.Pulls.{cut_level, cut_rise, cut_clock, cut_clocks, cut_pulls, pulse, start_stop, clearing, clear_from, clear_pulls}
 use Rattle.bus_clear.specs.declared.cleared.Cleared.{Cleared}
 use Rattle.bus_clear.specs.declared.cleared.Cleared.TheVariants.{Free, SdaHeld, SclHeld}
+use Rattle.bus_clear.proofs.Clocks.{level_one}
 
 came_bus : (r : Result Bool SclTimeout) (w : Bus NodeState) → (came 0 r w).bus ≡ w
 came_bus (Ok level) w = refl
@@ -89,11 +90,6 @@ module _ (t : Table NodeState) (k k1 k2 : Rooted) (w w2 w3 w4 : Bus NodeState) w
       ∙ (ap (λ h. cut_rise t (mask_at k) h w2) is
       ∙ ap (cut_rise t (mask_at k) (cut_level byte cut)) b))))
 
--- ---- bus clear
-level_is : (level : Bool) → (shifted 0 level == 1) ≡ level
-level_is true = refl
-level_is false = refl
-
 module _ (t : Table NodeState) (k : Rooted) (left made : ℕ) (w : Bus NodeState) where
   next_by : (c : Came NodeState) → c ≡ pulse t (mask_at k) w → (n : ℕ) → left ≡ suc n
       → cond c.up (clear_from t (mask_at k) (c.read == 1) n (made + 1) c.bus) (clearing (SclHeld made) c.bus)
@@ -109,7 +105,7 @@ module _ (t : Table NodeState) (k : Rooted) (left made : ℕ) (w : Bus NodeState
   pub next_up : 0 < left → (level : Bool) (w1 : Bus NodeState) → came_up (shifted 0 level) w1 ≡ pulse t (mask_at k) w
       → clear_from t (mask_at k) level (left - 1) (made + 1) w1 ≡ clear_from t (mask_at k) false left made w
   next_up some level w1 e =
-      ap (λ h. clear_from t (mask_at k) h (left - 1) (made + 1) w1) (sym (level_is level))
+      ap (λ h. clear_from t (mask_at k) h (left - 1) (made + 1) w1) (sym (level_one level))
       ∙ next_by (came_up (shifted 0 level) w1) e (left - 1) (one_less some)
 
   pub next_low : 0 < left → (w1 : Bus NodeState) → gave_up w1 ≡ pulse t (mask_at k) w
@@ -138,7 +134,7 @@ module _ (t : Table NodeState) (k k1 : Rooted) (w w1 w2 : Bus NodeState) (same :
       → clearing a w2 ≡ clear_pulls t (mask_at k) w
   let_up level a e f =
       f ∙ (ap (λ m. clear_from t (mask_at m) level MOST_PULSES 0 w1) same
-      ∙ (ap (λ h. clear_from t (mask_at k) h MOST_PULSES 0 w1) (sym (level_is level)) ∙ let_by (came_up (shifted 0 level) w1) e))
+      ∙ (ap (λ h. clear_from t (mask_at k) h MOST_PULSES 0 w1) (sym (level_one level)) ∙ let_by (came_up (shifted 0 level) w1) e))
 
   pub let_low : gave_up w1 ≡ await t 0 STOP_LOOKS (pulled t (mask_at k) w false false)
       → clearing (SclHeld 0) w1 ≡ clear_pulls t (mask_at k) w

@@ -1,6 +1,5 @@
 -- The world that a cut read and bus clear after it leave.
 use Rattle.std.proofs.Common.{◌≡◌, ℕ, ◌+◌, ◌/◌, Bool, true, false, cond, List, [], ◌∷◌, map, refl, ap, sym, ◌∙◌, subst}
-use Rattle.std.specs.Prelude.{◌&&◌}
 use Rattle.std.specs.List.{AllByRecursion}
 use Rattle.i2c_base.specs.Board.{BoardView}
 use Rattle.i2c_base.specs.Table.{Table}
@@ -23,6 +22,7 @@ use Rattle.i2c_bits.proofs.Told.{On, on_lines, world_on, all_kept, kept_where}
 use Rattle.i2c_bits.proofs.Starts.{started_bytes}
 use Rattle.i2c_bits.proofs.Stops.{all_joined, free_on}
 use Rattle.bus_clear.specs.Cuts.{IsQuietWorld}
+use Rattle.i2c_base.proofs.Booleans.{and_first}
 
 -- ---- who is quiet stays so
 quiet_state : {X : Type 0} (t : Table X) → IsFairTable t → (s : Site X) (joined : Bool) → s.joined ≡ joined
@@ -60,14 +60,10 @@ rest_started t byte (s ∷ ss) all = (
   rest_started t byte ss all.1,
 )
 
-heard_joined : (a b : Bool) → (a && b) ≡ true → a ≡ true
-heard_joined true b is = refl
-heard_joined false b is = is
-
 rest_got : {X : Type 0} (t : Table X) (ack : Bool) (ss : List (Site X)) → RestIsQuiet t ss → RestIsQuiet t (map (get_site t ack) ss)
 rest_got t ack [] all = tt
 rest_got t ack (s ∷ ss) all = (
-  quiet_cond t s (gets t s ack) (hearing s) refl (heard_joined s.joined s.heard) all.0,
+  quiet_cond t s (gets t s ack) (hearing s) refl (and_first s.joined s.heard) all.0,
   rest_got t ack ss all.1,
 )
 

@@ -34,7 +34,7 @@ use Rattle.bus_core.specs.declared.seat.Seat.{Seat}
 use Rattle.i2c_base.proofs.ListLemmas.{map_at}
 
 -- of what a number names: it is one of the scripts
-script-found : {S : Type 0} (scripts : List (ℕ × S)) (n : ℕ) (s : S) → script_at scripts n ≡ Some s
+pub script-found : {S : Type 0} (scripts : List (ℕ × S)) (n : ℕ) (s : S) → script_at scripts n ≡ Some s
     → (i : ℕ) × (m : ℕ) × (slice_get scripts i ≡ Some (m, s))
 script-found [] n s h = absurd (let f : None ≡ Some s = h in cc)
 script-found (x ∷ xs) n s h = by (x.0 == n) h (script-found xs n s)

@@ -1,6 +1,6 @@
 -- Callers that step one after the other: what comes of what, which schedule the journal keeps to, and that all are
 -- through where all are held up.
-use Rattle.std.proofs.Common.{◌≡◌, ℕ, zero, suc, ◌+◌, ◌<◌, ◌≤◌, Bool, true, false, IsTrue, List, [], ◌∷◌, ◌++◌, length, reverse, get_or, Option, Some, None, refl, sym, ◌∙◌, ap, subst, arith, inl, inr}
+use Rattle.std.proofs.Common.{◌≡◌, ℕ, zero, suc, ◌+◌, ◌<◌, Bool, true, false, IsTrue, List, [], ◌∷◌, ◌++◌, length, reverse, get_or, Option, Some, None, refl, sym, ◌∙◌, ap, subst, arith, inl, inr}
 use Rattle.std.specs.Prelude.{slice_get, drop, if◌then◌else◌}
 use Rattle.std.specs.Option.{option_map_or}
 use Rattle.std.proofs.lemmas.Bool.Decides.{eqb_tells}
@@ -259,9 +259,3 @@ drop-next xs i low = subst (λ (k : ℕ). drop i xs ≡ get_or xs i 0 ∷ drop k
     by [] k low = absurd (omega (arith, low))
     by (y ∷ ys) zero low = refl
     by (y ∷ ys) (suc k) low = by ys k (omega (arith, low))
-
-pub drop-all : (xs : List ℕ) (i : ℕ) → length xs ≤ i → drop i xs ≡ []
-drop-all [] zero low = refl
-drop-all [] (suc i) low = refl
-drop-all (x ∷ xs) zero low = absurd (omega (arith, low))
-drop-all (x ∷ xs) (suc i) low = drop-all xs i (omega (arith, low))

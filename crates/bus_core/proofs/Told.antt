@@ -43,7 +43,7 @@ use Rattle.i2c_base.proofs.ListLemmas.{map_from}
 use Rattle.i2c_base.proofs.ListLemmas.{map_at}
 
 -- a number that a caller has stands at a place
-has-at : {S : Type 0} (scripts : List (ℕ × S)) (n : ℕ) → has_caller scripts n ≡ true
+pub has-at : {S : Type 0} (scripts : List (ℕ × S)) (n : ℕ) → has_caller scripts n ≡ true
     → (i : ℕ) × (s : S) × (slice_get scripts i ≡ Some (n, s))
 has-at [] n h = absurd (let f : false ≡ true = h in cc)
 has-at (x ∷ xs) n h =

@@ -8,24 +8,14 @@ use Rattle.std.proofs.lemmas.List.FromFn.{length-range_with_len, get_or-range_wi
 use Rattle.std.proofs.lemmas.List.Sums.{fold-append}
 use Rattle.std.proofs.lemmas.List.Folds.{list_any-append}
 use Rattle.bus_groups.specs.Homes.{names, names_home, lower, least_home, brought, homes_of, caller_home, IsOneMark, AreHomes}
-
-and-both : (a b : Bool) → (a && b) ≡ true → (a ≡ true) × (b ≡ true)
-and-both true b h = (refl, h)
-and-both false b h = absurd (true≢false (sym h))
-
-or-either : (a b : Bool) → (a || b) ≡ true → (a ≡ true) ⊎ (b ≡ true)
-or-either true b h = inl refl
-or-either false b h = inr h
-
-or-right : (a b : Bool) → b ≡ true → (a || b) ≡ true
-or-right true b h = refl
-or-right false b h = h
+use Rattle.std.proofs.lemmas.Bool.{and_parts, or_right, or_cases}
+use Rattle.i2c_base.proofs.ListLemmas.{range_more}
 
 -- some number of a range passes
 any-in : (p : ℕ → Bool) (a n : ℕ) → list_any p (range_with_len a n) ≡ true → (r : ℕ) × (a ≤ r) × (r < a + n) × (p r ≡ true)
 any-in p a zero h = absurd (true≢false (sym h))
 any-in p a (suc n) h =
-    elim (or-either (p a) (list_any p (range_with_len (a + 1) n)) h) [
+    elim (or_cases (p a) (list_any p (range_with_len (a + 1) n)) h) [
       | inl is ↦ (a, omega arith, omega arith, is)
       | inr more ↦ (let r = any-in p (a + 1) n more in (r.0, omega (arith, r.1), omega (arith, r.2), r.3))
     ]
@@ -35,7 +25,7 @@ in-any p a zero r low high is = absurd (omega (arith, low, high))
 in-any p a (suc n) r low high is =
     elim (eqb_tells a r) [
       | inl same ↦ ap (λ b. b || list_any p (range_with_len (a + 1) n)) (ap p same.1 ∙ is)
-      | inr other ↦ or-right (p a) (list_any p (range_with_len (a + 1) n))
+      | inr other ↦ or_right (p a) (list_any p (range_with_len (a + 1) n))
           (in-any p (a + 1) n r (omega (arith, low, other.1)) (omega (arith, high)) is)
     ]
 
@@ -106,7 +96,7 @@ module _ (homes : List ℕ) (mask : ℕ) where
   named : (h : ℕ) → names_home homes mask h ≡ true → (r : ℕ) × (r < length homes) × (names mask r ≡ true) × (home r ≡ h)
   named h is =
       let x = any-in (λ r. names mask r && eqb (home r) h) 0 (length homes) is in
-      let both = and-both (names mask x.0) (eqb (home x.0) h) x.3 in
+      let both = and_parts (names mask x.0) (eqb (home x.0) h) x.3 in
       (x.0, omega (arith, x.2), both.0, eqb-true (home x.0) h both.1)
 
   is-named : (r : ℕ) → r < length homes → names mask r ≡ true → names_home homes mask (home r) ≡ true
@@ -262,13 +252,8 @@ are-homes roots masks =
       callers = of-caller roots (homes_of roots masks) kept;
     }
 
--- a range by its last number
-range-push : (a n : ℕ) → range_with_len a (suc n) ≡ range_with_len a n ++ (a + n) ∷ []
-range-push a zero = ap (λ k. k ∷ []) (omega arith)
-range-push a (suc n) = ap (λ xs. a ∷ xs) (range-push (a + 1) n ∙ ap (λ k. range_with_len (a + 1) n ++ k ∷ []) (omega arith))
-
 pub range-more : (n : ℕ) → range_with_len 0 (n + 1) ≡ range_with_len 0 n ++ n ∷ []
-range-more n = ap (range_with_len 0) (let e : n + 1 ≡ suc n = omega arith in e) ∙ range-push 0 n
+range-more n = ap (range_with_len 0) (let e : n + 1 ≡ suc n = omega arith in e) ∙ range_more 0 n
     ∙ ap (λ k. range_with_len 0 n ++ k ∷ []) (omega arith)
 
 pub fold-range : (f : ℕ → ℕ → ℕ) (low n : ℕ) → fold f low (range_with_len 0 (n + 1)) ≡ f (fold f low (range_with_len 0 n)) n
@@ -289,18 +274,6 @@ lower-no homes mask low r isnt = ap (λ (b : Bool). cond (b && nat_lt (get_or ho
 
 pub lower-not : (homes : List ℕ) (mask low r : ℕ) → names mask r ≡ true → low ≤ get_or homes r 0 → lower homes mask low r ≡ low
 lower-not homes mask low r is more = ap₂ (λ (b c : Bool). cond (b && c) (get_or homes r 0) low) is (le-ltb (get_or homes r 0) low more)
-
-pub length-brought : (homes masks : List ℕ) → length (fold brought homes masks) ≡ length homes
-length-brought homes [] = refl
-length-brought homes (m ∷ ms) = length-brought (brought homes m) ms
-    ∙ length-map homes (λ home. cond (names_home homes m home) (least_home homes m) home)
-
-pub not-same : (a b : ℕ) → (a ≡ b → ⊥) → eqb a b ≡ false
-not-same a b isnt =
-    elim (eqb_tells a b) [
-      | inl same ↦ absurd (isnt same.1)
-      | inr other ↦ other.0
-    ]
 
 pub caller-below : (many : ℕ) (homes : List ℕ) (mask : ℕ) → length homes ≡ many → 0 < many → caller_home homes mask < many
 caller-below many homes mask len some = by (nat_lt (least_home homes mask) (length homes)) refl

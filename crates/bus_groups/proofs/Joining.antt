@@ -5,7 +5,7 @@ use Rattle.std.specs.List.{range_with_len, AllZip}
 use Rattle.std.proofs.lemmas.Bool.Decides.{eqb_tells}
 use Rattle.std.proofs.lemmas.List.{length-map, map-set, map-append}
 use Rattle.std.proofs.lemmas.Option.{get_or_from_slice_get}
-use Rattle.i2c_base.proofs.ListLemmas.{map_from, map_at}
+use Rattle.i2c_base.proofs.ListLemmas.{map_from, map_at, map_map}
 use Rattle.i2c_base.specs.declared.caller.Caller.{Ghosts as CallerGhosts}
 use Rattle.i2c_base.specs.declared.entry.Entry.{Entry}
 use Rattle.i2c_base.specs.declared.port.PortCall.{PortCall}
@@ -24,7 +24,7 @@ use Rattle.bus_core.specs.Places.{scripts_of, script_of, script_at}
 use Rattle.bus_core.specs.State.{CoreState, CoreTold, AllThrough, roots_in, has_caller, worlds_of, taken_of}
 use Rattle.bus_core.specs.declared.bus.ClosedCore.{ClosedCore}
 use Rattle.bus_core.specs.declared.seat.Seat.{Seat}
-use Rattle.bus_core.proofs.Told.{roots-told, has-by}
+use Rattle.bus_core.proofs.Told.{roots-told, has-by, has-at}
 use Rattle.bus_spec.specs.Readings.{caller_of}
 use Rattle.group_laws.specs.Groups.{joined, ArePartsApart, IsApartFrom, AreApart, IsOwn, AreOwn}
 use Rattle.bus_groups.specs.Homes.{homes_of, caller_home, caller_home_at, AreByHomes}
@@ -36,7 +36,7 @@ use Rattle.bus_groups.specs.declared.rounds.Share.{Share}
 use Rattle.std.proofs.lemmas.List.Elements.{All-cons}
 use Rattle.std.proofs.lemmas.List.FromFn.{length-map-range_with_len}
 use Rattle.bus_groups.proofs.ShareLemmas.{undone, zip-length}
-use Rattle.bus_groups.proofs.RoundLemmas.{of-from, map-of, counts, may-share, homes-below, map-map}
+use Rattle.bus_groups.proofs.RoundLemmas.{of-from, map-of, counts, may-share, homes-below}
 use Rattle.bus_groups.proofs.HomeLemmas.{are-homes}
 use Rattle.bus_groups.proofs.OrderLemmas.{AreOfHome, AreFrom, each-own, from-both, by-both}
 use Rattle.bus_groups.proofs.Whole.{whole-told, whole-through, joins}
@@ -128,14 +128,6 @@ any-from (x ∷ xs) r h =
       | inr other ↦ (let t = any-from xs r (sym (ap (λ (t : Bool). t || has_root xs r) other.0) ∙ h) in (suc t.0, t.1))
     ]
 
-found : {S : Type 0} (ss : List (ℕ × S)) (n : ℕ) → has_caller ss n ≡ true → (i : ℕ) × (s : S) × (slice_get ss i ≡ Some (n, s))
-found [] n h = absurd (true≢false (sym h))
-found (x ∷ xs) n h =
-    elim (eqb_tells x.0 n) [
-      | inl is ↦ (zero, x.1, ap (λ (k : ℕ). Some (k, x.1)) is.1)
-      | inr other ↦ (let r = found xs n (sym (ap (λ (t : Bool). cond t true (has_caller xs n)) other.0) ∙ h) in (suc r.0, r.1, r.2))
-    ]
-
 -- who is in a part has the script there that it has in the whole
 script-of-home : {S : Type 0} (hs : List ℕ) (h : ℕ) (ss : List (ℕ × S)) → AreDistinct (map (λ (s : ℕ × S). s.0) ss) → (n : ℕ)
     → has_caller (of_home hs h ss) n ≡ true → script_at ss n ≡ script_at (of_home hs h ss) n
@@ -146,7 +138,7 @@ script-of-home {S} (j ∷ js) h (s ∷ ss) once n has =
   where
     no : has_caller (of_home js h ss) n ≡ true → s.0 ≡ n → ⊥
     no k same =
-        let f = found (of_home js h ss) n k in
+        let f = has-at (of_home js h ss) n k in
         let r = of-from js h ss f.0 (n, f.1) f.2 in
         let e = once zero (suc r.0) n (ap (λ (m : ℕ). Some m) same) (map_at (λ (t : ℕ × S). t.0) ss r.0 (n, f.1) r.1) in
         omega (arith, e)
@@ -289,7 +281,7 @@ module _ {P C S : Type 0} (p : PortGhosts P) (c : CallerGhosts C S) (b : BoardVi
       part-roots h x came = roots-told p.world x.ports.items ∙ came.roots
 
       once : AreDistinct (map (λ (s : ℕ × S). s.0) scripts)
-      once = subst AreDistinct (sym (map-map (λ (s : ℕ × S). s.0) (λ (y : ℕ × C). (y.0, c.script y.1)) callers)) runs.may.distinct
+      once = subst AreDistinct (sym (map_map (λ (s : ℕ × S). s.0) (λ (y : ℕ × C). (y.0, c.script y.1)) callers)) runs.may.distinct
 
       of-group : (h : ℕ) (x : ClosedCore P C) → CameOut p c b (of_home rh h ports) (of_home ch h callers) x → IsOfGroup c.asked p.tells b scripts (left x)
       of-group h x came =
@@ -320,7 +312,7 @@ module _ {P C S : Type 0} (p : PortGhosts P) (c : CallerGhosts C S) (b : BoardVi
       who-home : (h : ℕ) (x : ClosedCore P C) → CameOut p c b (of_home rh h ports) (of_home ch h callers) x → (n : ℕ)
           → has_caller (scripts_of c x.seats.items) n ≡ true → slice_get ch n ≡ Some h
       who-home h x came n is =
-          let k = found (of_home ch h scripts) n (subst (λ (ss : List (ℕ × S)). has_caller ss n ≡ true) (part-scripts h x came) is) in
+          let k = has-at (of_home ch h scripts) n (subst (λ (ss : List (ℕ × S)). has_caller ss n ≡ true) (part-scripts h x came) is) in
           let f = of-from ch h scripts k.0 (n, k.1) k.2 in
           let q = map_from (λ (y : ℕ × C). (y.0, c.script y.1)) callers f.0 (n, k.1) f.1 in
           let m = counts (numbers_in callers) (length masks) f.0 q.0.0 runs.numbers (map_at (λ (y : ℕ × C). y.0) callers f.0 q.0 q.1) in
@@ -421,10 +413,10 @@ module _ {P C S : Type 0} (p : PortGhosts P) (c : CallerGhosts C S) (b : BoardVi
         let are : AreRan 0 xs = ran-from ss xs 0 many ports_of callers_of ran in
         let same : scripts_of c x.seats.items ≡ scripts =
         ap (scripts_of c) se ∙ map-joined (script_of c) ch (map (λ y. y.seats.items) xs)
-        ∙ ap (joined_by ch) (map-map (map (script_of c)) (λ y. y.seats.items) xs
+        ∙ ap (joined_by ch) (map_map (map (script_of c)) (λ y. y.seats.items) xs
         ∙ zip-maps (λ s y. CameOut p c b s.ports.items s.callers.items y) (λ y. scripts_of c y.seats.items) (λ s. callers_scripts c s.callers.items)
         (λ s y r. r.scripts) ss xs ran
-        ∙ sym (map-map (map g) (λ s. s.callers.items) ss) ∙ ap (map (map g)) callers_of)
+        ∙ sym (map_map (map g) (λ s. s.callers.items) ss) ∙ ap (map (map g)) callers_of)
         ∙ sym (map-joined g ch (parts_by ch many callers)) ∙ ap (map g)
         (undone ch callers many (count ∙ sym (length-map masks (caller_home rh))) below) in
         let first : ℕ × P → ℕ = λ y. y.0 in
@@ -432,10 +424,10 @@ module _ {P C S : Type 0} (p : PortGhosts P) (c : CallerGhosts C S) (b : BoardVi
           scripts = same;
           roots =
               ap (map first) ps ∙ map-joined first rh (map (λ y. y.ports.items) xs)
-              ∙ ap (joined_by rh) (map-map (map first) (λ y. y.ports.items) xs
+              ∙ ap (joined_by rh) (map_map (map first) (λ y. y.ports.items) xs
               ∙ zip-maps (λ s y. CameOut p c b s.ports.items s.callers.items y) (λ y. roots_of y.ports.items) (λ s. roots_of s.ports.items)
               (λ s y r. r.roots) ss xs ran
-              ∙ sym (map-map (map first) (λ s. s.ports.items) ss) ∙ ap (map (map first)) ports_of)
+              ∙ sym (map_map (map first) (λ s. s.ports.items) ss) ∙ ap (map (map first)) ports_of)
               ∙ sym (map-joined first rh (parts_by rh many ports)) ∙ ap (map first)
               (undone rh ports many (count_ports ∙ sym (are-homes many masks).count) (homes-below many masks));
           told = λ v tell. whole-told c.asked p.tells b scripts tree (map (left v) xs) (groups-from v 0 xs are) (apart-from v 0 xs are) (left v x)

@@ -187,10 +187,6 @@ module _ {P C S : Type 0} (p : PortGhosts P) (c : CallerGhosts C S) (b : BoardVi
       (subst (λ (ys : List (ℕ × C)). MayOpen p c b (of_home rh k ports) ys (get_or shares k d).limit) (sym cs)
       (subst (MayOpen p c b (of_home rh k ports) (of_home ch k callers)) (sym ls) (may-share k)))
 
-pub map-map : {X Y Z : Type 0} (f : Y → Z) (g : X → Y) (xs : List X) → map f (map g xs) ≡ map (λ x. f (g x)) xs
-map-map f g [] = refl
-map-map {X} {Y} {Z} f g (x ∷ xs) = ap (λ (zs : List Z). f (g x) ∷ zs) (map-map f g xs)
-
 pub zip-map : {X Y Z : Type 0} (R : X → Z → Type 0) (f : Y → Z) (xs : List X) (ys : List Y) → AllZip (λ x y. R x (f y)) xs ys → AllZip R xs (map f ys)
 zip-map R f [] [] are = tt
 zip-map R f [] (y ∷ ys) are = absurd are

@@ -143,10 +143,6 @@ pub some-left : (n : ℕ) → eqb n 0 ≡ false → 0 < n
 some-left zero e = absurd (true≢false e)
 some-left (suc n) e = omega arith
 
-pub nil-by-length : {X : Type 0} (xs : List X) → length xs ≡ 0 → xs ≡ []
-nil-by-length [] e = refl
-nil-by-length (x ∷ xs) e = absurd (omega (arith, e))
-
 -- what all have, the next one has
 pub all-next : {X : Type 0} (P : X → Type 0) (came items rest all : List X) (x : X) → came ++ items ≡ all → items ≡ x ∷ rest → All P all → P x
 all-next {X} P came items rest all x goes steps has =

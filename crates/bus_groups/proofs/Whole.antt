@@ -20,6 +20,7 @@ use Rattle.group_laws.specs.Groups.{IsGroup, IsAlike, joined, IsPart, ArePartsAp
 use Rattle.group_laws.proofs.Joins.{are-joined}
 use Rattle.bus_groups.specs.Slots.{IsTold}
 use Rattle.bus_groups.specs.Whole.{has_root, part_of, IsOfGroup, AreOfGroups, IsWhole}
+use Rattle.bus_core.proofs.Kept.{script-found}
 
 -- who isn't there has no script
 none-there : {S : Type 0} (ss : List (ℕ × S)) (c : ℕ) → has_caller ss c ≡ false → script_at ss c ≡ None
@@ -30,16 +31,6 @@ none-there (s ∷ ss) c isnt =
       | inr other ↦
           ap (λ (t : Bool). cond t (Some s.1) (script_at ss c)) other.0
           ∙ none-there ss c (sym (ap (λ (t : Bool). cond t true (has_caller ss c)) other.0) ∙ isnt)
-    ]
-
--- a script that is found stands somewhere
-found-at : {S : Type 0} (ss : List (ℕ × S)) (c : ℕ) (s : S) → script_at ss c ≡ Some s → (i : ℕ) × (n : ℕ) × (slice_get ss i ≡ Some (n, s))
-found-at [] c s h = absurd (let f : None ≡ Some s = h in cc)
-found-at {S} (x ∷ xs) c s h =
-    elim (eqb_tells x.0 c) [
-      | inl is ↦ (let f : Some x.1 ≡ Some s = sym (ap (λ (t : Bool). cond t (Some x.1) (script_at xs c)) is.0) ∙ h in let e : x.1 ≡ s =
-          cc in (zero, x.0, ap (λ (k : S). Some (x.0, k)) e))
-      | inr other ↦ (let r = found-at xs c s (sym (ap (λ (t : Bool). cond t (Some x.1) (script_at xs c)) other.0) ∙ h) in (suc r.0, r.1, r.2))
     ]
 
 module _ {S : Type 0} (asked : S → List Reply → Option TransferView) (tells : Bool) (b : BoardView) (scripts : List (ℕ × S)) where
@@ -62,7 +53,7 @@ module _ {S : Type 0} (asked : S → List Reply → Option TransferView) (tells 
             → option_map_or (λ s. asked s rs) o None ≡ Some t
             → has_root (roots_in v) (root_of b t.bus) ≡ true
         by c rs t bus None at asks = absurd (let f : None ≡ Some t = asks in cc)
-        by c rs t bus (Some s) at asks = (let x = found-at v.opening.scripts c s at in of.wired x.0 (x.1, s) rs t x.2 asks bus)
+        by c rs t bus (Some s) at asks = (let x = script-found v.opening.scripts c s at in of.wired x.0 (x.1, s) rs t x.2 asks bus)
 
     is-part : IsTrue tells → IsPart b MOST_CALLERS all (part_of asked v)
     is-part tell =

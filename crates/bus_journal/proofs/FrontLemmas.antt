@@ -2,7 +2,7 @@
 use Rattle.std.proofs.Common.{◌≡◌, ℕ, zero, suc, ◌+◌, ◌<◌, ◌≤◌, ◌⊎◌, inl, inr, ◌==◌, ◌&&◌, ◌||◌, Bool, true, false, List, [], ◌∷◌, ◌++◌, length, take, drop, min, Option, Some, None, refl, sym, ◌∙◌, ap, arith}
 use Rattle.std.specs.List.{list_any}
 use Rattle.std.proofs.lemmas.List.{length-append, length-take}
-use Rattle.std.proofs.lemmas.Bool.{cases_lt}
+use Rattle.std.proofs.lemmas.Bool.{cases_lt, and_parts}
 use Rattle.bus_journal.specs.Guess.{byte_at, is_hex, bytes_of}
 use Rattle.bus_journal.specs.Reports.{IsLine}
 use Rattle.bus_journal.proofs.Nexts.{bytes_next, bytes_end, bytes_end_low, hex_is_third}
@@ -16,15 +16,10 @@ parts false false is = (refl, refl)
 parts false true is = cc
 parts true b is = cc
 
-both : (a b : Bool) → a && b ≡ true → (a ≡ true) × (b ≡ true)
-both true true is = (refl, refl)
-both true false is = cc
-both false b is = cc
-
 pub one_byte_more : (text : List ℕ) → begins_with_byte text ≡ true
     → (length (bytes_of text) ≡ length (bytes_of (drop 3 text)) + 1) × (length (drop 3 text) < length text)
 one_byte_more text is =
-    let h = both (is_hex (byte_at 1 text)) (is_hex (byte_at 2 text)) is in
+    let h = and_parts (is_hex (byte_at 1 text)) (is_hex (byte_at 2 text)) is in
     (omega (arith, ap length (bytes_next text h.0 h.1)), hex_is_third text h.1)
 
 pub no_byte_more : (text : List ℕ) → begins_with_byte text ≡ false → length (bytes_of text) ≡ 0

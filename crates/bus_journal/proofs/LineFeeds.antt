@@ -58,7 +58,7 @@ two_digits-line byte =
     line-cons (hex_digit (byte / 16)) (hex_digit (byte % 16) ∷ []) (hex_digit-line (byte / 16))
     (line-cons (hex_digit (byte % 16)) [] (hex_digit-line (byte % 16)) refl)
 
-spaced-line : (bytes : List ℕ) → IsLine (spaced bytes)
+pub spaced-line : (bytes : List ℕ) → IsLine (spaced bytes)
 spaced-line [] = refl
 spaced-line (byte ∷ bytes) = line-append (spaced_digits byte) (spaced bytes) (line-cons 32 (two_digits byte) refl (two_digits-line byte))
     (spaced-line bytes)

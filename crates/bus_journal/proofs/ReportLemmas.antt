@@ -35,15 +35,15 @@ first_lines (c ∷ a) (d ∷ b) x y is_a is_b same =
     (cc, rest.1)
 
 -- a line, those behind it, and a text
-lines-text : (l : List ℕ) (ls : List (List ℕ)) (text : List ℕ) → flat_map line_ended (l ∷ ls) ++ text ≡ l ++ 10 ∷ (flat_map line_ended ls ++ text)
+pub lines-text : (l : List ℕ) (ls : List (List ℕ)) (text : List ℕ) → flat_map line_ended (l ∷ ls) ++ text ≡ l ++ 10 ∷ (flat_map line_ended ls ++ text)
 lines-text l ls text = simp append_assoc
 
-entries-text : (e : Entry) (es : List Entry) (text : List ℕ)
+pub entries-text : (e : Entry) (es : List Entry) (text : List ℕ)
     → flat_map ended_line (e ∷ es) ++ text ≡ entry_line e ++ 10 ∷ (flat_map ended_line es ++ text)
 entries-text e es text = simp append_assoc
 
 -- what stands below the line `journal`
-below_journal : (ls ms : List (List ℕ)) (x y : List ℕ) → All IsSectionLine ls → All IsSectionLine ms
+pub below_journal : (ls ms : List (List ℕ)) (x y : List ℕ) → All IsSectionLine ls → All IsSectionLine ms
     → flat_map line_ended ls ++ (codes "journal\n" ++ x) ≡ flat_map line_ended ms ++ (codes "journal\n" ++ y) → x ≡ y
 below_journal [] [] x y all_l all_m same = (first_lines (codes "journal") (codes "journal") x y refl refl same).1
 below_journal [] (m ∷ ms) x y all_l all_m same =
@@ -70,15 +70,15 @@ below_journal (l ∷ ls) (m ∷ ms) x y all_l all_m same =
 heading-other : (c : ℕ) → ¬ (codes "caller " ++ decimal c ≡ codes "journal")
 heading-other c same = let first : true ≡ false = ap (λ (xs : List ℕ). get_or xs 0 0 == 99) same in cc
 
-heading-line : (c : ℕ) → IsSectionLine (codes "caller " ++ decimal c)
+pub heading-line : (c : ℕ) → IsSectionLine (codes "caller " ++ decimal c)
 heading-line c = record { one = line-append (codes "caller ") (decimal c) refl (decimal-line c); other = heading-other c }
 
-section-text : (c : ℕ) (lines more : List (List ℕ))
+pub section-text : (c : ℕ) (lines more : List (List ℕ))
     → flat_map line_ended ((codes "caller " ++ decimal c) ∷ (lines ++ more)) ≡
     (codes "caller " ++ (decimal c ++ (10 ∷ flat_map line_ended lines))) ++ flat_map line_ended more
 section-text c lines more = simp (append_assoc, flat_map-append)
 
-sections-lines : (c : ℕ) (texts : List (List ℕ)) → All HasNoJournalLine texts → HasNoJournalLine (sections c texts)
+pub sections-lines : (c : ℕ) (texts : List (List ℕ)) → All HasNoJournalLine texts → HasNoJournalLine (sections c texts)
 sections-lines c [] all = record { lines = []; text_is = refl; others = All-nil IsSectionLine }
 sections-lines c (text ∷ texts) all =
     let here = All-head HasNoJournalLine text texts all in

@@ -87,17 +87,6 @@ same_tally t u transfers messages locks errors bytes =
     ∙ ap (λ (n : ℕ). record u { locks = n; errors = t.errors; bytes = t.bytes }) locks
     ∙ ap (λ (n : ℕ). record u { errors = n; bytes = t.bytes }) errors ∙ ap (λ (n : ℕ). record u { bytes = n }) bytes
 
-pub counted_first : (entries : List Entry) (text : List ℕ) → text ≡ flat_map ended_line entries → All IsEntry entries
-    → IsCounted entries text text (record { transfers = 0; messages = 0; locks = 0; errors = 0; bytes = 0 })
-counted_first entries text lines in_range = record {
-  left = entries;
-  lines = lines;
-  in_range = in_range;
-  sums = same_tally (tally_of entries) _ (omega arith) (omega arith) (omega arith) (omega arith) (omega arith);
-  within = omega arith;
-  bound = record { transfers = omega arith; messages = omega arith; locks = omega arith; errors = omega arith; bytes = omega arith };
-}
-
 pub counted_last : (entries : List Entry) (text rest : List ℕ) (t : Tally) → length rest ≡ 0 → IsCounted entries text rest t
     → t ≡ tally_of entries
 counted_last entries text rest t over is = by is.left is.lines is.sums

@@ -10,7 +10,6 @@ pub use Rattle.bus_laws.proofs.past.Stays.{next-stays}
 pub use Rattle.bus_laws.proofs.schedule.Coming.{stuck-waits}
 pub use Rattle.bus_laws.proofs.schedule.Following.{begins, ends, least-made, made, passed}
 pub use Rattle.bus_laws.proofs.schedule.Turns.{turns-more}
-pub use Rattle.bus_laws.proofs.tree.Slots.{eqb-apart}
 pub use Rattle.bus_laws.proofs.walk.Calls.{walk-calls}
 pub use Rattle.bus_laws.proofs.walk.CostLaw.{asks-less, walk-within}
 pub use Rattle.bus_laws.proofs.walk.First.{walk-first}

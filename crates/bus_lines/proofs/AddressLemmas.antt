@@ -19,11 +19,9 @@ use Rattle.bus_lines.proofs.KindLemmas.{addr_kept, joined_kept, doors, doors_kep
 use Rattle.bus_lines.proofs.NumberedLemmas.{map_numbered}
 use Rattle.bus_lines.proofs.UnitLemmas.{done_none, calm_other, shared_rises, shared_last, shared_falls, shared_ticks, shared_holds, shared_pulls, shared_begins, addressed_all, address_holds}
 use Rattle.bus_lines.proofs.TargetsLemmas.{IsTouched, touched_all, stays_out, stays_calm}
-
--- ---- all are seen alike
-pub map_twice : {A B C : Type 0} (f : B → C) (g : A → B) (xs : List A) → map f (map g xs) ≡ map (λ x. f (g x)) xs
-map_twice f g [] = refl
-map_twice f g (x ∷ xs) = ap (λ ys. f (g x) ∷ ys) (map_twice f g xs)
+use Rattle.std.proofs.lemmas.Bool.{and_parts, or_parts}
+use mathlib.Core.Bool.{and-true}
+use Rattle.i2c_base.proofs.ListLemmas.{map_map}
 
 map_each : {A B : Type 0} (f g : A → B) (xs : List A) → ((x : A) → f x ≡ g x) → map f xs ≡ map g xs
 map_each f g [] same = refl
@@ -32,11 +30,11 @@ map_each f g (x ∷ xs) same = ap (λ y. y ∷ map f xs) (same x) ∙ ap (λ ys.
 -- what is kept, as it is seen, is what is seen of what was kept
 pub seen_each : (g h f : Bit NodeState → Bit NodeState) (bs : List (Bit NodeState)) → ((b : Bit NodeState) → g b ≡ f (h b))
     → map g bs ≡ map f (map h bs)
-seen_each g h f bs same = map_each g (λ b. f (h b)) bs same ∙ sym (map_twice f h bs)
+seen_each g h f bs same = map_each g (λ b. f (h b)) bs same ∙ sym (map_map f h bs)
 
 pub seen_numbered : (f : ℕ → Bit NodeState → Bit NodeState) (g h e : Bit NodeState → Bit NodeState) (bs : List (Bit NodeState))
     → ((k : ℕ) (b : Bit NodeState) → slice_get bs k ≡ Some b → g (f k b) ≡ e (h b)) → map g (by_number f 0 bs) ≡ map e (map h bs)
-seen_numbered f g h e bs same = map_numbered f g (λ b. e (h b)) bs same ∙ sym (map_twice e h bs)
+seen_numbered f g h e bs same = map_numbered f g (λ b. e (h b)) bs same ∙ sym (map_map e h bs)
 
 pub some_mapped : (p : Bit NodeState → Bool) (g : Bit NodeState → Bit NodeState) (bs : List (Bit NodeState))
     → ((b : Bit NodeState) → p (g b) ≡ false) → some_one p (map g bs) ≡ false
@@ -68,19 +66,10 @@ coming_units n live started at joins bs units k b is =
     let u = units k b is in
     record { out = u.out; calm = u.calm; waits = λ m e joined. u.waits (suc n) refl joined; joined = u.joined; listed = u.listed }
 
--- ---- its last bit
-pub or_false : (a b : Bool) → (a || b) ≡ false → (a ≡ false) × (b ≡ false)
-or_false true b e = absurd (let f : true ≡ false = e in cc)
-or_false false b e = (refl, e)
-
-and_here : (n : Bool) → (n && true) ≡ n
-and_here true = refl
-and_here false = refl
-
 unnamed_out : (byte : ℕ) (b : Bit NodeState) (j : Bool) → (is_named byte b.site && j) ≡ false → b ≡ released b.site
     → cond j (seen (Address byte) b) b ≡ released (cond j (seen (Address byte) b) b).site
 unnamed_out byte b true names out =
-    let no : is_named byte b.site ≡ false = sym (and_here (is_named byte b.site)) ∙ names in
+    let no : is_named byte b.site ≡ false = sym (and-true (is_named byte b.site)) ∙ names in
     let x = called node_table b.site (is_reading byte) in
     let y = stands (other node_table b.site) Out 0 in
     subst (λ (d : Bool). cond d x y ≡ released (cond d x y).site) (sym no) refl
@@ -88,7 +77,7 @@ unnamed_out byte b false names out = out
 
 unnamed_calm : (byte : ℕ) (b : Bit NodeState) (j : Bool) → b.site.joined ≡ j → (is_named byte b.site && j) ≡ false → IsCalm b
     → where_joined (seen (Address byte)) b ≡ b
-unnamed_calm byte b true is names calm = calm_other byte b (sym (and_here (is_named byte b.site)) ∙ names) calm
+unnamed_calm byte b true is names calm = calm_other byte b (sym (and-true (is_named byte b.site)) ∙ names) calm
 unnamed_calm byte b false is names calm = ap (λ j. cond j (seen (Address byte) b) b) is
 
 pub joined_here : (bs : List (Bit NodeState)) (k : ℕ) (b : Bit NodeState) → slice_get bs k ≡ Some b → joined_at bs k ≡ b.site.joined
@@ -111,7 +100,7 @@ module _ (left v : ℕ) (level : Bool) (live started live_new started_new : List
   call_is : (k : ℕ) (b : Bit NodeState) → slice_get bs k ≡ Some b → call_to k b ≡ where_joined (seen (Address byte)) b
   call_is k b is =
       addressed_all (is_among started_new k) (is_among at_it k) byte b ((units k b is).listed (byte / 2) low)
-      (λ out. (units k b is).calm (or_false (is_among started k) (is_among at_it k && joined_at bs k) (sym (started_has k) ∙ out)).0)
+      (λ out. (units k b is).calm (or_parts (is_among started k) (is_among at_it k && joined_at bs k) (sym (started_has k) ∙ out)).0)
 
   pub called_seen : (w : ℕ) → left ≡ 1 → map (shared 0 w) (by_number call_to 0 bs) ≡ map (where_joined (λ b. rise node_table b level)) (map (shared left v) bs)
   called_seen w last =
@@ -132,11 +121,11 @@ module _ (left v : ℕ) (level : Bool) (live started live_new started_new : List
       ap (λ n. n && joined_at bs k) (u.listed (byte / 2) low) ∙ ap (λ j. is_named byte b.site && j) (joined_here bs k b is) in
       record {
         out = λ out.
-            let parts = or_false (is_among live k) (is_among at_it k && joined_at bs k) (sym (live_has k) ∙ out) in
+            let parts = or_parts (is_among live k) (is_among at_it k && joined_at bs k) (sym (live_has k) ∙ out) in
             stays_out (where_joined (seen (Address byte)) b) (call_to k b) e
             (unnamed_out byte b b.site.joined (sym names ∙ parts.1) (u.out parts.0));
         calm = λ out.
-            let parts = or_false (is_among started k) (is_among at_it k && joined_at bs k) (sym (started_has k) ∙ out) in
+            let parts = or_parts (is_among started k) (is_among at_it k && joined_at bs k) (sym (started_has k) ∙ out) in
             let calm = u.calm parts.0 in
             stays_calm b (call_to k b) (e ∙ unnamed_calm byte b b.site.joined refl (sym names ∙ parts.1) calm) calm;
         waits = λ n more joined. absurd (omega (arith, more));
@@ -155,11 +144,6 @@ module _ (left v : ℕ) (level : Bool) (live started live_new started_new : List
   pub called_holds : (w : ℕ) → some_one holds_line (map (shared 0 w) (by_number call_to 0 bs)) ≡ false
   called_holds w = ap (some_one holds_line) (called_all w) ∙ some_mapped holds_line (where_joined (seen (Address byte))) bs (address_holds byte)
 
--- ---- the start before it
-pub and_both : (a b : Bool) → (a && b) ≡ true → (a ≡ true) × (b ≡ true)
-and_both true b e = (refl, e)
-and_both false b e = absurd (let f : false ≡ true = e in cc)
-
 pub same_of : (k n : ℕ) → (k == n) ≡ true → k ≡ n
 same_of k n at = elim (eqb_tells k n) [
   | inl x ↦ x.1
@@ -175,7 +159,7 @@ all_step p n k ns false at first rest among = rest among
 pub all_have : (p : ℕ → Bool) (ns : List ℕ) → list_all p ns ≡ true → (k : ℕ) → is_among ns k ≡ true → p k ≡ true
 all_have p [] all k among = absurd (let e : false ≡ true = among in cc)
 all_have p (n ∷ ns) all k among =
-    let both = and_both (p n) (list_all p ns) all in
+    let both = and_parts (p n) (list_all p ns) all in
     all_step p n k ns (k == n) refl both.0 (all_have p ns both.1 k) among
 
 left_out : (t j : Bool) (b : Bit NodeState) → b.site.joined ≡ j → (t ≡ false → b ≡ released b.site) → (t ≡ true → j ≡ true)

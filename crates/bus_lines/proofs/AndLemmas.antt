@@ -12,7 +12,8 @@ use Rattle.std.proofs.lemmas.List.{drop_more}
 use Rattle.wire_spec.specs.Roots.{and_all}
 use Rattle.bus_lines.specs.Numbers.{is_among}
 use Rattle.bus_lines.specs.Units.{by_number, and_by, given_by}
-use Rattle.bus_lines.proofs.NumberedLemmas.{same_number, set_number, first_apart, rest_apart}
+use Rattle.bus_lines.proofs.NumberedLemmas.{set_number, first_apart, rest_apart}
+use Rattle.wire_spec.proofs.WorldLemmas.{eq_self}
 
 -- ---- all ones
 pub byte_ones : (n : ℕ) → n < 256 → bit_and 255 n ≡ n
@@ -71,7 +72,7 @@ and_from : {A : Type 0} (q : A → ℕ) (n k i : ℕ) (xs : List A) (d : A) → 
 and_from q n k i [] d at lt = absurd (omega (arith, lt))
 and_from q n k zero (x ∷ xs) d at lt =
     let e : k ≡ n = omega (arith, at) in
-    let here : (k == n) ≡ true = subst (λ m. (k == m) ≡ true) e (same_number k) in
+    let here : (k == n) ≡ true = subst (λ m. (k == m) ≡ true) e (eq_self k) in
     and_comm 255 (q x) ∙ ap (bit_and (q x)) (sym (and_above q n (k + 1) xs (omega (arith, at))))
     ∙ ap (λ b. bit_and (cond b (q x) 255) (and_by (λ j y. cond (j == n) (q y) 255) (k + 1) xs)) (sym here)
 and_from q n k (suc i) (x ∷ xs) d at lt =

@@ -1,10 +1,10 @@
 -- The targets of a root off its lines: chips, and then devices, one of which is taken out.
-use Rattle.std.proofs.Common.{◌≡◌, ℕ, zero, suc, ◌+◌, ◌-◌, ◌<◌, ◌≤◌, Bool, true, false, cond, count_by, List, [], ◌∷◌, ◌++◌, length, map, drop, set, get_or, Option, Some, None, refl, sym, ap, ◌∙◌, subst, arith}
+use Rattle.std.proofs.Common.{◌≡◌, ℕ, zero, suc, ◌+◌, ◌-◌, ◌<◌, Bool, true, false, cond, count_by, List, [], ◌∷◌, ◌++◌, length, map, drop, set, get_or, Option, Some, None, refl, sym, ap, ◌∙◌, subst, arith}
 use Rattle.std.specs.Prelude.{IsSome, if◌then◌else◌, slice_get, slice_set, replicate}
 use Rattle.std.specs.Option.{option_map, option_map_or}
 use Rattle.std.proofs.lemmas.List.{length-map, length-append, map-set, get_or-map, get_or-append-add, set-append_right}
 use Rattle.std.proofs.lemmas.List.Sums.{sum_by-cons}
-use Rattle.std.proofs.lemmas.Option.{slice_get-map}
+use Rattle.std.proofs.lemmas.Option.{slice_get-map, slice_get-get_or}
 use Rattle.i2c_base.specs.declared.ids.Node.{Node}
 use Rattle.i2c_base.specs.declared.ids.Node.TheVariants as node
 use Rattle.i2c_base.specs.Board.{BoardView, DeviceView}
@@ -28,15 +28,6 @@ wired_of : (b : BoardView) (r : ℕ) (o : Option DeviceView)
     → option_map_or (λ p. p.wired) (option_map (device_place b r) o) false ≡ option_map_or (is_of b r) o false
 wired_of b r None = refl
 wired_of b r (Some d) = refl
-
-places_long : (b : BoardView) (r : ℕ) → length (places_of b r) ≡ length b.muxes + length b.devices
-places_long b r =
-    length-append (map (mux_place b r) b.muxes) (map (device_place b r) b.devices)
-    ∙ ap (λ n. n + length (map (device_place b r) b.devices)) (length-map b.muxes (mux_place b r))
-    ∙ ap (λ n. length b.muxes + n) (length-map b.devices (device_place b r))
-
-pub places_room : (b : BoardView) (r m : ℕ) (ps : List PlaceView) → m ≡ length b.muxes → ps ≡ places_of b r → m ≤ length ps
-places_room b r m ps count are = let e = ap length are ∙ places_long b r in omega (arith, count, e)
 
 drop_left : {A : Type 0} (xs ys : List A) → drop (length xs) (xs ++ ys) ≡ ys
 drop_left [] ys = refl
@@ -202,11 +193,6 @@ names_set name j zero (x ∷ ds) d s is lt = ap (λ h. if h then name j ∷ name
 names_set name j (suc k) (x ∷ ds) d s is lt =
     ap (λ ns. if hearing x then name j ∷ ns else ns) (names_set name (j + 1) k ds d s is (omega (arith, lt)))
 
-some_at : {A : Type 0} (xs : List A) (k : ℕ) (d : A) → k < length xs → slice_get xs k ≡ Some (get_or xs k d)
-some_at [] k d lt = absurd (omega (arith, lt))
-some_at (x ∷ xs) zero d lt = refl
-some_at (x ∷ xs) (suc k) d lt = some_at xs k d (omega (arith, lt))
-
 -- a chip stays a chip, and a device a device
 emptied_kind : (x : NodeState) → is_chip (emptied x) ≡ is_chip x
 emptied_kind (Chip x) = refl
@@ -276,7 +262,7 @@ module _ (parts : (cs : List (Site ChipView)) (ds : List (Site TargetState)) →
   pub device_is : device_of (get_or bs (m + number) d).site.state ≡ slice_get (states_of ds) number
   device_is =
       ap (λ (s : Site NodeState). device_of s.state) site_is
-      ∙ sym (slice_get-map (λ (s : Site TargetState). s.state) ds number ∙ ap (option_map (λ (s : Site TargetState). s.state)) (some_at ds number nobody low))
+      ∙ sym (slice_get-map (λ (s : Site TargetState). s.state) ds number ∙ ap (option_map (λ (s : Site TargetState). s.state)) (slice_get-get_or ds number nobody low))
 
   pub device_there : IsSome (device_of (get_or bs (m + number) d).site.state)
   device_there = subst (λ (s : Site NodeState). IsSome (device_of s.state)) (sym site_is) refl

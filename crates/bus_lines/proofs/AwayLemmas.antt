@@ -28,6 +28,7 @@ use Rattle.std.proofs.lemmas.List.{length-map}
 use Rattle.std.specs.Prelude.{replicate, not}
 use Rattle.bus_lines.proofs.NumberedLemmas.{map_numbered, numbered_map, numbered_twice, numbered_same}
 use Rattle.bus_lines.proofs.StopLemmas.{rejoin_numbered}
+use Rattle.bus_lines.proofs.UnitLemmas.{both_same}
 
 -- who isn't there isn't joined
 unfoldable pub AreAway : List PlaceView → List (Bit NodeState) → Type 0
@@ -240,17 +241,13 @@ devices_whole b ps r n (d ∷ ds) wired are =
     (λ j x is. let e : n + suc j ≡ n + 1 + j = omega arith in subst (λ k. is_wired ps k ≡ (root_of b x.bus == r)) e (wired (suc j) x is))
     (λ j x is. let e : n + suc j ≡ n + 1 + j = omega arith in subst (λ k. slice_get b.devices (k - length b.muxes) ≡ Some x) e (are (suc j) x is)))
 
-same_either : (w : Bool) (c : Bit NodeState) → cond w c c ≡ c
-same_either true c = refl
-same_either false c = refl
-
 chips_whole : (b : BoardView) (ps : List PlaceView) (n : ℕ) (ms : List MuxSpec) (xs ys : List (Bit NodeState))
     → by_number (whole_at b ps) (n + length ms) xs ≡ ys → by_number (whole_at b ps) n (map chip_bit ms ++ xs) ≡ map chip_bit ms ++ ys
 chips_whole b ps n [] xs ys rest =
     let e : n ≡ n + 0 = omega arith in ap (λ k. by_number (whole_at b ps) k xs) e ∙ rest
 chips_whole b ps n (m ∷ ms) xs ys rest =
     let e : n + 1 + length ms ≡ n + suc (length ms) = omega arith in
-    ap (λ c. c ∷ by_number (whole_at b ps) (n + 1) (map chip_bit ms ++ xs)) (same_either (is_wired ps n) (chip_bit m))
+    ap (λ c. c ∷ by_number (whole_at b ps) (n + 1) (map chip_bit ms ++ xs)) (both_same (is_wired ps n) (chip_bit m))
     ∙ ap (λ cs. chip_bit m ∷ cs) (chips_whole b ps (n + 1) ms xs ys (ap (λ k. by_number (whole_at b ps) k xs) e ∙ rest))
 
 pub kept_whole : (b : BoardView) (r : ℕ) → whole_on b (places_of b r) (kept_bits b r) ≡ bits_of b

@@ -14,8 +14,10 @@ use Rattle.bus_lines.specs.Known.{ListsJoined}
 use Rattle.bus_lines.specs.Numbers.{is_among}
 use Rattle.bus_lines.specs.Units.{by_number, to_those}
 use Rattle.bus_lines.proofs.KindLemmas.{NoFinish, joined_kept}
-use Rattle.bus_lines.proofs.NumberedLemmas.{at_number, numbered_same, same_number, or_yes}
+use Rattle.bus_lines.proofs.NumberedLemmas.{at_number, numbered_same}
 use Rattle.bus_lines.proofs.StopLemmas.{none_has}
+use mathlib.Core.Bool.{or-true}
+use Rattle.wire_spec.proofs.WorldLemmas.{eq_self}
 
 pub and_again : (a b : Bool) → ((a && b) && b) ≡ (a && b)
 and_again true true = refl
@@ -26,7 +28,7 @@ and_again false b = refl
 all_none : (p : ℕ → Bool) (ns : List ℕ) → ((k : ℕ) → is_among ns k ≡ true → p k ≡ false) → list_any p ns ≡ false
 all_none p [] none = refl
 all_none p (n ∷ ns) none =
-    rw (none n (rw (same_number n) refl), all_none p ns (λ k among. none k (rw among (or_yes (k == n))))) refl
+    rw (none n (rw (eq_self n) refl), all_none p ns (λ k among. none k (rw among (or-true (k == n))))) refl
 
 loose_is_quick : (o : Option (Bit NodeState)) → option_map_or (λ (b : Bit NodeState). b.site.joined) o false ≡ false
     → option_map_or (λ (b : Bit NodeState). b.site.joined && is_too_long (node_table.hold b.site.state)) o false ≡ false

@@ -30,13 +30,16 @@ use Rattle.bus_lines.specs.Joins.{PlaceView, states_on, joins_by}
 use Rattle.bus_lines.specs.LinesViews.{TargetsView, LinesView, lines_of, wire_nine, AddressIs, AreTargets}
 use Rattle.bus_lines.specs.Numbers.{NumbersView, is_among}
 use Rattle.bus_lines.specs.Units.{RegisterView, by_number, some_by, to_those, of_those, shared, addressed, AreUnits}
-use Rattle.bus_lines.proofs.AddressLemmas.{map_twice, or_false, called_all}
+use Rattle.bus_lines.proofs.AddressLemmas.{called_all}
 use Rattle.bus_lines.proofs.AwayLemmas.{units_away, whole_some}
 use Rattle.bus_lines.proofs.InvariantLemmas.{holds_coming, called_are}
 use Rattle.bus_lines.proofs.NumberedLemmas.{some_none, some_of_those, map_same}
 use Rattle.bus_lines.proofs.PutLemmas.{some_kept}
 use Rattle.bus_lines.proofs.StopLemmas.{none_has}
 use Rattle.bus_lines.proofs.TargetsLemmas.{seen_alone, all_told, told_holds}
+use Rattle.std.proofs.lemmas.Bool.{or_parts}
+use mathlib.Core.Bool.{and-false}
+use Rattle.i2c_base.proofs.ListLemmas.{map_map}
 
 -- ---- the byte is its address and its direction
 parts_by : (byte : ℕ) (one : Bool) → ((byte % 2) == 1) ≡ one → byte ≡ shifted (byte / 2) one
@@ -115,12 +118,8 @@ acks_so : (byte a : ℕ) (j h : Bool) (x : NodeState) (m : Mode) (k : ℕ)
 acks_so byte a true h x m k = acks_named ((byte / 2) == a) byte a h x
 acks_so byte a false h x m k = refl
 
-and_none : (b : Bool) → (b && false) ≡ false
-and_none true = refl
-and_none false = refl
-
 acks_none : (b : Bit NodeState) → b ≡ released b.site → acks_enter b ≡ false
-acks_none b out = ap acks_enter out ∙ and_none b.site.joined
+acks_none b out = ap acks_enter out ∙ and-false b.site.joined
 
 entered_holds : (a : ℕ) (h : Bool) (x : NodeState) (n : Next) → holds_line (stands (site_of a true h x) (entered n) 0) ≡ false
 entered_holds a h x Leave = refl
@@ -139,7 +138,7 @@ holds_so a true h x (Gave more) k free = free
 enters_hold : (bs : List (Bit NodeState)) → some_one holds_line bs ≡ false → some_one holds_line (map (where_joined (seen Enter)) bs) ≡ false
 enters_hold [] free = refl
 enters_hold (b ∷ bs) free =
-    let parts = or_false (holds_line b) (some_one holds_line bs) free in
+    let parts = or_parts (holds_line b) (some_one holds_line bs) free in
     rw (holds_so b.site.addr b.site.joined b.site.heard b.site.state b.mode b.hold parts.0, enters_hold bs parts.1) refl
 
 waits_so : (left : ℕ) → 0 < left → (b : Bit NodeState) → ((n : ℕ) → left ≡ suc n → b.site.joined ≡ true → b ≡ released b.site)
@@ -213,12 +212,12 @@ module _ (fair : IsFairTable node_table) (k : Rooted) (ps : List PlaceView) (hel
     module _ (mid : List (Bit NodeState)) (called_is : mid ≡ map (where_joined (seen (Address byte))) bs) where
       pub entered_is : map (where_joined (seen Enter)) mid ≡ map (where_joined (address_in byte)) (map (shared r.left r.value) bs)
       entered_is =
-          ap (map (where_joined (seen Enter))) called_is ∙ map_twice (where_joined (seen Enter)) (where_joined (seen (Address byte))) bs
+          ap (map (where_joined (seen Enter))) called_is ∙ map_map (where_joined (seen Enter)) (where_joined (seen (Address byte))) bs
           ∙ map_same (λ b. where_joined (seen Enter) (where_joined (seen (Address byte)) b))
           (λ b. where_joined (address_in byte) (shared r.left r.value b)) bs
           (λ n b is. enter_so byte b.site.addr b.site.joined b.site.heard b.site.state b.mode b.hold (quick_one n b is)
           ∙ shared_so byte r.left r.value b.site.addr b.site.joined b.site.heard b.site.state b.mode b.hold)
-          ∙ sym (map_twice (where_joined (address_in byte)) (shared r.left r.value) bs)
+          ∙ sym (map_map (where_joined (address_in byte)) (shared r.left r.value) bs)
 
       some_mapped_so : (xs : List (Bit NodeState)) → some_one acks_enter (map (where_joined (seen (Address byte))) xs) ≡ some_one (would_ack byte) xs
       some_mapped_so [] = refl

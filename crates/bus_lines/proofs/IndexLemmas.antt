@@ -8,11 +8,12 @@ use Rattle.wire_spec.specs.Wires.{Bit}
 use Rattle.wire_spec.specs.Sites.{NodeState, NO_ADDRESS}
 use Rattle.bus_lines.specs.Numbers.{is_among, AreNumbers}
 use Rattle.bus_lines.specs.Units.{numbers_from, numbers_at, lists_of, IsIndex}
-use Rattle.bus_lines.proofs.NumberedLemmas.{same_number, or_yes}
 use Rattle.bus_lines.proofs.AddressLemmas.{same_of}
+use mathlib.Core.Bool.{or-true}
+use Rattle.wire_spec.proofs.WorldLemmas.{eq_self}
 
 pub same_tells : (a b : ℕ) → a ≡ b → (a == b) ≡ true
-same_tells a b e = subst (λ c. (a == c) ≡ true) e (same_number a)
+same_tells a b e = subst (λ c. (a == c) ≡ true) e (eq_self a)
 
 kept_behind : (t : Bool) (k n : ℕ) (ns ms : List ℕ) → cond t (k ∷ (ns ++ ms)) (ns ++ ms) ≡ (cond t (k ∷ ns) ns ++ ms)
 kept_behind true k n ns ms = refl
@@ -57,9 +58,9 @@ numbers_within k (b ∷ bs) a j among =
 apart_below : (k : ℕ) (ns : List ℕ) → ((j : ℕ) → is_among ns j ≡ true → k < j) → AllByRecursion (λ j. (k == j) ≡ false) ns
 apart_below k [] above = tt
 apart_below k (n ∷ ns) above =
-    let here : is_among (n ∷ ns) n ≡ true = ap (λ b. b || is_among ns n) (same_number n) in (
+    let here : is_among (n ∷ ns) n ≡ true = ap (λ b. b || is_among ns n) (eq_self n) in (
       ne_eqb k n (λ e. absurd (omega (arith, e, above n here))),
-      apart_below k ns (λ j among. above j (ap (λ b. (j == n) || b) among ∙ or_yes (j == n))),
+      apart_below k ns (λ j among. above j (ap (λ b. (j == n) || b) among ∙ or-true (j == n))),
     )
 
 distinct_step : (t : Bool) (k : ℕ) (ns : List ℕ) → ((j : ℕ) → is_among ns j ≡ true → k < j) → IsDistinct (λ i m. i == m) ns
@@ -87,7 +88,7 @@ not_above k bs a j true is low = absurd (let r = numbers_within k bs a j is in o
 not_above k bs a j false is low = refl
 
 first_listed : (t : Bool) (k : ℕ) (ns : List ℕ) → is_among ns k ≡ false → is_among (cond t (k ∷ ns) ns) k ≡ t
-first_listed true k ns out = ap (λ b. b || is_among ns k) (same_number k)
+first_listed true k ns out = ap (λ b. b || is_among ns k) (eq_self k)
 first_listed false k ns out = out
 
 later_listed : (t : Bool) (k j : ℕ) (ns : List ℕ) → (j == k) ≡ false → is_among (cond t (k ∷ ns) ns) j ≡ is_among ns j

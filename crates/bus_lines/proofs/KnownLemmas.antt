@@ -13,8 +13,10 @@ use Rattle.bus_lines.specs.Known.{known, knows, known_on, known_of, AreKnown}
 use Rattle.bus_lines.specs.Numbers.{is_among}
 use Rattle.bus_lines.specs.Units.{by_number, some_by, and_by, to_those, of_those, given_by}
 use Rattle.bus_lines.proofs.KindLemmas.{doors, joins_kept}
-use Rattle.bus_lines.proofs.NumberedLemmas.{numbered_same, numbered_twice, numbered_itself, at_number, same_number, or_yes, set_number}
+use Rattle.bus_lines.proofs.NumberedLemmas.{numbered_same, numbered_twice, numbered_itself, at_number, set_number}
 use Rattle.bus_lines.proofs.StopLemmas.{rejoin_numbered}
+use mathlib.Core.Bool.{or-true}
+use Rattle.wire_spec.proofs.WorldLemmas.{eq_self}
 
 -- ---- one target
 pub known_same : (j : Bool) (b : Bit NodeState) → b.site.joined ≡ j → known j b ≡ b
@@ -35,10 +37,6 @@ known_of_state false j b = refl
 
 pub states_known_of : (ns : List ℕ) (f : ℕ → Bool) (bs : List (Bit NodeState)) → states_on (by_number (known_of ns f) 0 bs) ≡ states_on bs
 states_known_of ns f bs = states_by (known_of ns f) 0 bs (λ i b. known_of_state (is_among ns i) (f i) b)
-
--- ---- what is known twice
-pub knows_twice : (f g : ℕ → Bool) (bs : List (Bit NodeState)) → knows f (knows g bs) ≡ knows f bs
-knows_twice f g bs = numbered_twice (λ k b. known (g k) b) (λ k b. known (f k) b) 0 bs
 
 pub knows_same : (f g : ℕ → Bool) (bs : List (Bit NodeState)) → ((k : ℕ) → f k ≡ g k) → knows f bs ≡ knows g bs
 knows_same f g bs same = numbered_same (λ k b. known (f k) b) (λ k b. known (g k) b) bs (λ k b is. ap (λ j. known j b) (same k))
@@ -199,10 +197,10 @@ module _ (test : Bit NodeState → Bool) where
       ∙ ap (λ o. option_map_or test o false) (sym (get_knows f 0 k bs))
 
   among_here : (n : ℕ) (ns : List ℕ) → is_among (n ∷ ns) n ≡ true
-  among_here n ns = rw (same_number n) refl
+  among_here n ns = rw (eq_self n) refl
 
   among_more : (n k : ℕ) (ns : List ℕ) → is_among ns k ≡ true → is_among (n ∷ ns) k ≡ true
-  among_more n k ns among = rw among (or_yes (k == n))
+  among_more n k ns among = rw among (or-true (k == n))
 
   pub all_known : (ps : List PlaceView) (bs : List (Bit NodeState)) (ns : List ℕ) → AreKnown ns ps bs
       → list_all (λ k. option_map_or test (slice_get bs k) false) ns ≡ list_all (λ k. option_map_or test (slice_get (known_on ps bs) k) false) ns

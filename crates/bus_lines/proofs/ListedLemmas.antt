@@ -1,6 +1,5 @@
 -- Numbers whose targets are joined, listed one after the other while it is read whether they are.
-use Rattle.std.proofs.Common.{◌≡◌, ℕ, zero, suc, ◌+◌, ◌<◌, ◌≤◌, ◌==◌, Bool, true, false, ◌&&◌, ◌||◌, List, [], ◌∷◌, ◌++◌, length, take, get_or, Option, Some, refl, sym, ap, ◌∙◌, subst, arith}
-use Rattle.std.specs.Prelude.{slice_get}
+use Rattle.std.proofs.Common.{◌≡◌, ℕ, zero, suc, ◌+◌, ◌<◌, ◌≤◌, ◌==◌, Bool, true, false, ◌&&◌, ◌||◌, List, [], ◌∷◌, length, take, get_or, Option, refl, sym, ap, ◌∙◌, arith}
 use Rattle.std.specs.Option.{option_map_or}
 use Rattle.std.proofs.lemmas.List.{take_more}
 use Rattle.i2c_base.proofs.ListLemmas.{there}
@@ -14,20 +13,13 @@ use Rattle.bus_lines.specs.Units.{by_number}
 use Rattle.bus_lines.proofs.AddressLemmas.{same_of}
 use Rattle.bus_lines.proofs.KnownLemmas.{refreshed_those, refreshed_states}
 use Rattle.bus_lines.proofs.NumbersLemmas.{among_more}
-
-or_none : (a : Bool) → (a || false) ≡ a
-or_none true = refl
-or_none false = refl
-
-or_again : (a : Bool) → (a || a) ≡ a
-or_again true = refl
-or_again false = refl
+use mathlib.Core.Bool.{or-false, or_self}
 
 -- one more is listed where it is joined
 listed_either : (f : ℕ → Bool) (k n : ℕ) (a here : Bool) → (k == n) ≡ here → ((a && f k) || (here && f n)) ≡ ((a || here) && f k)
-listed_either f k n true true at = ap (λ i. f k || f i) (sym (same_of k n at)) ∙ or_again (f k)
+listed_either f k n true true at = ap (λ i. f k || f i) (sym (same_of k n at)) ∙ or_self (f k)
 listed_either f k n false true at = ap f (sym (same_of k n at))
-listed_either f k n true false at = or_none (f k)
+listed_either f k n true false at = or-false (f k)
 listed_either f k n false false at = refl
 
 pub listed_next : (f : ℕ → Bool) (ns : List ℕ) (i n k : ℕ) (was joined : Bool) → i < length ns → n ≡ get_or ns i 0

@@ -5,7 +5,7 @@ use Rattle.std.specs.List.{list_all}
 use Rattle.std.specs.Option.{option_map_or}
 use Rattle.std.proofs.lemmas.List.{length-map, length-append, length-replicate}
 use Rattle.std.proofs.lemmas.Bool.Decides.{nat_tests}
-use Rattle.i2c_base.proofs.ListLemmas.{there, map_at}
+use Rattle.i2c_base.proofs.ListLemmas.{there, map_at, get_front}
 use Rattle.i2c_base.specs.declared.board.MuxSpec.{MuxSpec}
 use Rattle.i2c_base.specs.Board.{BoardView, DeviceView}
 use Rattle.i2c_spec.specs.Tree.{Hop, hops, root_of}
@@ -15,6 +15,8 @@ use Rattle.wire_spec.specs.Wires.{Site, Bit}
 use Rattle.wire_spec.specs.Bus.{rejoin_from, rejoined}
 use Rattle.wire_spec.specs.Sites.{NodeState, Chip, Device, chip_by, chips_in, states_of, world_of, mask_of}
 use Rattle.bus_lines.specs.Joins.{mux_place, device_place, places_of, is_chip, kinds_of, states_on, node_opens, opens_at, joins, joins_by, read_anew}
+use mathlib.Core.Bool.{and_assoc}
+use Rattle.wire_spec.proofs.SiteLemmas.{all_same}
 
 -- ---- which channels are open
 abbrev opens_in : ℕ → List NodeState → ℕ → Bool
@@ -93,26 +95,12 @@ pub chips_count : (bs : List (Bit NodeState)) (n m : ℕ) → Kinds n m (states_
 chips_count [] n m is = no_chips n m is
 chips_count (b ∷ bs) n m is = chips_cons b.site b.site.state (states_on bs) (chips_in (sites_on bs)) n m is (chips_count bs)
 
--- ---- who is joined
-all_same : {A : Type 0} (p q : A → Bool) → ((x : A) → p x ≡ q x) → (xs : List A) → list_all p xs ≡ list_all q xs
-all_same p q same [] = refl
-all_same p q same (x ∷ xs) = rw (same x, all_same p q same xs) refl
-
-pub get_left : {A : Type 0} (xs ys : List A) (k : ℕ) → k < length xs → slice_get (xs ++ ys) k ≡ slice_get xs k
-get_left [] ys k lt = absurd (omega (arith, lt))
-get_left (x ∷ xs) ys zero lt = refl
-get_left (x ∷ xs) ys (suc k) lt = get_left xs ys k (omega (arith, lt))
-
 pub get_right : {A : Type 0} (xs ys : List A) (k : ℕ) → length xs ≤ k → slice_get (xs ++ ys) k ≡ slice_get ys (k - length xs)
 get_right [] ys k le = let e : k ≡ k - 0 = omega arith in ap (slice_get ys) e
 get_right (x ∷ xs) ys zero le = absurd (omega (arith, le))
 get_right (x ∷ xs) ys (suc k) le =
     let e : k - length xs ≡ suc k - suc (length xs) = omega arith in
     get_right xs ys k (omega (arith, le)) ∙ ap (slice_get ys) e
-
-and_assoc : (a b c : Bool) → ((a && b) && c) ≡ (a && (b && c))
-and_assoc true b c = refl
-and_assoc false b c = refl
 
 kept_where : (w : Bool) (p : Hop → Bool) (hs : List Hop) → (w && list_all p (cond w hs [])) ≡ (w && list_all p hs)
 kept_where true p hs = refl
@@ -151,7 +139,7 @@ module _ (b : BoardView) (r : ℕ) (bs : List (Bit NodeState)) (is : map is_chip
       let x = there b.muxes k lt in
       let e : length (map (mux_place b r) b.muxes) ≡ length b.muxes = length-map b.muxes (mux_place b r) in
       ap (λ o. option_map_or (joins nodes) o false)
-      (get_left (map (mux_place b r) b.muxes) (map (device_place b r) b.devices) k (omega (arith, lt, e))
+      (get_front (map (mux_place b r) b.muxes) (map (device_place b r) b.devices) k (omega (arith, lt, e))
       ∙ map_at (mux_place b r) b.muxes k x.0 x.1)
       ∙ joins_mux w nodes k x.0 x.1 same
 

@@ -1,6 +1,6 @@
 -- What is made of each of a list by its number, and what is done to those alone that have one of some numbers. The inductions go over
 -- the list, and over the numbers.
-use Rattle.std.proofs.Common.{◌≡◌, ℕ, zero, suc, ◌+◌, ◌<◌, ◌≤◌, ◌==◌, Bool, true, false, ◌&&◌, ◌||◌, cond, List, [], ◌∷◌, length, map, drop, set, get_or, Some, None, refl, sym, ap, ◌∙◌, subst, inl, inr, arith}
+use Rattle.std.proofs.Common.{◌≡◌, ℕ, zero, suc, ◌+◌, ◌<◌, ◌==◌, Bool, true, false, ◌&&◌, ◌||◌, cond, List, [], ◌∷◌, length, map, drop, set, get_or, Some, None, refl, sym, ap, ◌∙◌, subst, inl, inr, arith}
 use Rattle.std.specs.Prelude.{slice_get}
 use Rattle.std.specs.List.{IsDistinct, AllByRecursion}
 use Rattle.std.proofs.lemmas.Bool.{ne_eqb}
@@ -9,8 +9,11 @@ use Rattle.std.proofs.lemmas.List.{drop_more}
 use Rattle.wire_spec.specs.Roots.{some_one}
 use Rattle.bus_lines.specs.Numbers.{is_among}
 use Rattle.bus_lines.specs.Units.{by_number, some_by, to_those, of_those}
+use Rattle.i2c_base.proofs.Booleans.{or_regroup}
+use mathlib.Core.Bool.{or-true}
+use Rattle.wire_spec.proofs.WorldLemmas.{eq_self}
 
-same_some : {A : Type 0} {x y : A} → Some x ≡ Some y → x ≡ y
+pub same_some : {A : Type 0} {x y : A} → Some x ≡ Some y → x ≡ y
 same_some e = cc
 
 -- ---- what is made of each, seen by a map
@@ -114,15 +117,12 @@ above_number n k f (x ∷ xs) lt =
     ap (λ b. cond b (f x) x ∷ by_number (λ i y. cond (i == n) (f y) y) (k + 1) xs) no
     ∙ ap (λ ys. x ∷ ys) (above_number n (k + 1) f xs (omega (arith, lt)))
 
-pub same_number : (n : ℕ) → (n == n) ≡ true
-same_number n = elim (eqb_tells n n) [ inl x ↦ x.0 | inr x ↦ absurd (x.1 refl) ]
-
 set_from : {A : Type 0} (n k i : ℕ) (f : A → A) (xs : List A) (d y : A) → n ≡ k + i → i < length xs → y ≡ f (get_or xs i d)
     → set xs i y ≡ by_number (λ j x. cond (j == n) (f x) x) k xs
 set_from n k i f [] d y at lt is = absurd (omega (arith, lt))
 set_from n k zero f (x ∷ xs) d y at lt is =
     let e : k ≡ n = omega (arith, at) in
-    let yes : (k == n) ≡ true = subst (λ m. (k == m) ≡ true) e (same_number k) in
+    let yes : (k == n) ≡ true = subst (λ m. (k == m) ≡ true) e (eq_self k) in
     ap (λ z. z ∷ xs) (is ∙ ap (λ b. cond b (f x) x) (sym yes))
     ∙ ap (λ ys. cond (k == n) (f x) x ∷ ys) (sym (above_number n (k + 1) f xs (omega (arith, at))))
 set_from n k (suc i) f (x ∷ xs) d y at lt is =
@@ -228,7 +228,7 @@ some_from : {A : Type 0} (p : A → Bool) (n k i : ℕ) (xs : List A) (d : A) �
 some_from p n k i [] d at lt = absurd (omega (arith, lt))
 some_from p n k zero (x ∷ xs) d at lt =
     let e : k ≡ n = omega (arith, at) in
-    let here : (k == n) ≡ true = subst (λ m. (k == m) ≡ true) e (same_number k) in
+    let here : (k == n) ≡ true = subst (λ m. (k == m) ≡ true) e (eq_self k) in
     rw (here, some_above p n (k + 1) xs (omega (arith, at))) (or_none (p x))
 some_from p n k (suc i) (x ∷ xs) d at lt =
     let other : (k == n) ≡ false = ne_eqb k n (λ e. absurd (omega (arith, e, at))) in
@@ -239,18 +239,14 @@ pub some_number : {A : Type 0} (p : A → Bool) (n : ℕ) (xs : List A) (d : A) 
     → p (get_or xs n d) ≡ some_by (λ j x. (j == n) && p x) 0 xs
 some_number p n xs d lt = some_from p n 0 n xs d (omega arith) lt
 
-or_true : (b : Bool) → (b || true) ≡ true
-or_true true = refl
-or_true false = refl
-
 or_swap : (a b : Bool) → (a || b) ≡ (b || a)
-or_swap true b = sym (or_true b)
+or_swap true b = sym (or-true b)
 or_swap false b = or_none b
 
 or_parts : (a b c d : Bool) → ((a || b) || (c || d)) ≡ ((c || a) || (d || b))
 or_parts true b true d = refl
 or_parts true b false d = refl
-or_parts false b true d = or_true b
+or_parts false b true d = or-true b
 or_parts false b false d = or_swap b d
 
 -- one list of tests beside another
@@ -269,10 +265,6 @@ some_after : {A : Type 0} (p : ℕ → A → Bool) (f : ℕ → A → A) (k : �
     → some_by p k (by_number f k xs) ≡ some_by (λ j x. p j (f j x)) k xs
 some_after p f k [] = refl
 some_after p f k (x ∷ xs) = ap (λ b. p k (f k x) || b) (some_after p f (k + 1) xs)
-
-or_inside : (a b c : Bool) → (a || (b || c)) ≡ ((a || b) || c)
-or_inside true b c = refl
-or_inside false b c = refl
 
 and_either : (b c z : Bool) → ((b && z) || (c && z)) ≡ ((b || c) && z)
 and_either true true true = refl
@@ -304,7 +296,7 @@ told_old {A} f q sofar (n ∷ ns) xs d =
     ∙ ap (λ b. b || (some_by first 0 xs || sofar))
     (some_after those one 0 xs ∙ some_same (λ j x. those j (one j x)) those 0 xs
     (λ j x. one_was f q n j ns x (j == n) refl apart))
-    ∙ or_inside (some_by those 0 xs) (some_by first 0 xs) sofar
+    ∙ or_regroup (some_by those 0 xs) (some_by first 0 xs) sofar
     ∙ ap (λ b. b || sofar)
     (some_both those first 0 xs
     ∙ some_same (λ j x. first j x || those j x) (of_those (n ∷ ns) q) 0 xs
@@ -330,23 +322,13 @@ told_some_each {A} f p ns xs d =
 
 -- ---- a loop over some numbers
 among_first : (n k : ℕ) (ns : List ℕ) → k ≡ n → is_among (n ∷ ns) k ≡ true
-among_first n k ns e = let here : (k == n) ≡ true = subst (λ m. (k == m) ≡ true) e (same_number k) in rw here refl
-
-pub or_yes : (a : Bool) → (a || true) ≡ true
-or_yes true = refl
-or_yes false = refl
+among_first n k ns e = let here : (k == n) ≡ true = subst (λ m. (k == m) ≡ true) e (eq_self k) in rw here refl
 
 -- the number at a place is among them
 pub among_at : (ns : List ℕ) (i : ℕ) → i < length ns → is_among ns (get_or ns i 0) ≡ true
 among_at [] i lt = absurd (omega (arith, lt))
 among_at (n ∷ ns) zero lt = among_first n n ns refl
-among_at (n ∷ ns) (suc i) lt = rw (among_at ns i (omega (arith, lt))) (or_yes (get_or ns i 0 == n))
-
-pub drop_all : (ns : List ℕ) (i : ℕ) → length ns ≤ i → drop i ns ≡ []
-drop_all [] zero le = refl
-drop_all [] (suc i) le = refl
-drop_all (n ∷ ns) zero le = absurd (omega (arith, le))
-drop_all (n ∷ ns) (suc i) le = drop_all ns i (omega (arith, le))
+among_at (n ∷ ns) (suc i) lt = rw (among_at ns i (omega (arith, lt))) (or-true (get_or ns i 0 == n))
 
 module _ {A : Type 0} (f : A → A) (ns : List ℕ) (i n : ℕ) (lt : i < length ns) (at : n ≡ get_or ns i 0) (xs : List A) (d y : A) (low : n < length xs)
     (is : y ≡ f (get_or xs n d)) where

@@ -5,7 +5,10 @@ use Rattle.std.proofs.lemmas.Bool.Decides.{eqb_tells}
 use Rattle.std.proofs.lemmas.List.{length-append}
 use Rattle.std.proofs.lemmas.Map.Steps.{length-le_from_distinct_below}
 use Rattle.bus_lines.specs.Numbers.{is_among, AreNumbers}
-use Rattle.bus_lines.proofs.AddressLemmas.{or_false, same_of}
+use Rattle.bus_lines.proofs.AddressLemmas.{same_of}
+use Rattle.i2c_base.proofs.Booleans.{or_regroup}
+use Rattle.std.proofs.lemmas.Bool.{or_parts}
+use mathlib.Core.Bool.{or-false}
 
 pub no_numbers : (room : ℕ) (ns : List ℕ) → ns ≡ [] → AreNumbers room ns
 unfolding IsDistinct
@@ -16,18 +19,10 @@ no_numbers room ns none =
 pub numbers_fit : (room : ℕ) (ns : List ℕ) → AreNumbers room ns → length ns ≤ room
 numbers_fit room ns are = length-le_from_distinct_below ns room are.apart are.below
 
-or_assoc : (a b c : Bool) → (a || (b || c)) ≡ ((a || b) || c)
-or_assoc true b c = refl
-or_assoc false b c = refl
-
-or_last : (a : Bool) → (a || false) ≡ a
-or_last true = refl
-or_last false = refl
-
 -- one more after them is among them
 pub among_more : (ns : List ℕ) (n k : ℕ) → is_among (ns ++ n ∷ []) k ≡ (is_among ns k || (k == n))
-among_more [] n k = or_last (k == n)
-among_more (m ∷ ms) n k = ap (λ b. (k == m) || b) (among_more ms n k) ∙ or_assoc (k == m) (is_among ms k) (k == n)
+among_more [] n k = or-false (k == n)
+among_more (m ∷ ms) n k = ap (λ b. (k == m) || b) (among_more ms n k) ∙ or_regroup (k == m) (is_among ms k) (k == n)
 
 differ : (m n : ℕ) (b : Bool) → (n == m) ≡ b → b ≡ false → (m == n) ≡ false
 differ m n b at other = elim (eqb_tells m n) [
@@ -47,7 +42,7 @@ distinct_more : (ns : List ℕ) (n : ℕ) → IsDistinct (λ k m. k == m) ns →
 unfolding IsDistinct
 distinct_more [] n d out = (tt, tt)
 distinct_more (m ∷ ms) n d out =
-    let parts = or_false (n == m) (is_among ms n) out in
+    let parts = or_parts (n == m) (is_among ms n) out in
     (apart_more m n ms d.0 (differ m n (n == m) refl parts.0), distinct_more ms n d.1 parts.1)
 
 below_more : (room n k : ℕ) (ns : List ℕ) (a b : Bool) → is_among ns k ≡ a → (k == n) ≡ b → (a || b) ≡ true
@@ -70,7 +65,7 @@ room_more room ns n are out lt =
 
 kept_so : (ns : List ℕ) (n k : ℕ) (b : Bool) → (k == n) ≡ b → is_among ns n ≡ true → is_among ns k ≡ (is_among ns k || b)
 kept_so ns n k true at has = rw (ap (is_among ns) (same_of k n at) ∙ has) refl
-kept_so ns n k false at has = sym (or_last (is_among ns k))
+kept_so ns n k false at has = sym (or-false (is_among ns k))
 
 -- a number that is among them isn't added
 pub among_same : (ns : List ℕ) (n k : ℕ) → is_among ns n ≡ true → is_among ns k ≡ (is_among ns k || (k == n))

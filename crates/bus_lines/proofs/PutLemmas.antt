@@ -19,6 +19,7 @@ use Rattle.bus_lines.specs.Units.{by_number, some_by, to_those, of_those, shared
 use Rattle.bus_lines.proofs.NumberedLemmas.{some_of_those}
 use Rattle.bus_lines.proofs.AddressLemmas.{seen_each, some_mapped}
 use Rattle.bus_lines.proofs.TargetsLemmas.{seen_alone, all_told, told_holds}
+use mathlib.Core.Bool.{and-false}
 
 -- ---- one target
 holds_so : (byte : ℕ) (a : ℕ) (j h : Bool) (x : NodeState) (m : Mode) (k : ℕ)
@@ -31,12 +32,8 @@ holds_so byte a true h x (Answered begun acked next looks) k = refl
 holds_so byte a true h x (Give left) k = refl
 holds_so byte a true h x (Gave more) k = refl
 
-and_none : (b : Bool) → (b && false) ≡ false
-and_none true = refl
-and_none false = refl
-
 pub acks_none : (byte : ℕ) (b : Bit NodeState) → b ≡ released b.site → acks_put byte b ≡ false
-acks_none byte b out = ap (acks_put byte) out ∙ and_none b.site.joined
+acks_none byte b out = ap (acks_put byte) out ∙ and-false b.site.joined
 
 pub acks_nobody : (byte : ℕ) (b : Bit NodeState) → b.site.joined ≡ false → acks_put byte b ≡ false
 acks_nobody byte b apart = ap (λ j. j && acks_in byte b b.mode) apart

@@ -1,5 +1,5 @@
 -- Who holds SCL, as the targets are seen. Nobody begins to hold it at a rise.
-use Rattle.std.proofs.Common.{◌≡◌, ℕ, zero, suc, Bool, true, false, ◌||◌, ◌&&◌, List, [], ◌∷◌, map, refl, sym, ap, ◌∙◌}
+use Rattle.std.proofs.Common.{◌≡◌, ℕ, zero, suc, Bool, true, false, ◌&&◌, List, [], ◌∷◌, map, refl, sym, ap, ◌∙◌}
 use Rattle.wire_spec.specs.declared.mode.Mode.{Mode}
 use Rattle.wire_spec.specs.declared.mode.Mode.TheVariants.{Out, In, Answered, Give, Gave}
 use Rattle.i2c_base.specs.Board.{BoardView}
@@ -18,6 +18,7 @@ use Rattle.bus_lines.specs.Units.{RegisterView, by_number, some_by, to_those, of
 use Rattle.bus_lines.proofs.AwayLemmas.{units_away, whole_some}
 use Rattle.bus_lines.proofs.TargetsLemmas.{seen_alone, all_told, told_holds}
 use Rattle.bus_lines.proofs.UnitLemmas.{address_holds}
+use Rattle.std.proofs.lemmas.Bool.{or_parts}
 
 -- ---- who holds SCL
 nobody : (b : Bit NodeState) → b.site.joined ≡ false → holds_line b ≡ false
@@ -42,11 +43,6 @@ holds_so level a true h x (Answered begun acked next looks) k free = free
 holds_so level a true h x (Give zero) k free = refl
 holds_so level a true h x (Give (suc n)) k free = free
 holds_so level a true h x (Gave more) k free = free
-
--- ---- all of them
-or_parts : (a b : Bool) → (a || b) ≡ false → (a ≡ false) × (b ≡ false)
-or_parts true b is = cc
-or_parts false b is = (refl, is)
 
 rises_hold : (level : Bool) (bs : List (Bit NodeState)) → some_one holds_line bs ≡ false
     → some_one holds_line (map (where_joined (seen (Rise level))) bs) ≡ false

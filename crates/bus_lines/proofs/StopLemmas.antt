@@ -24,7 +24,8 @@ use Rattle.bus_lines.proofs.KindLemmas.{finish_kind, states_numbered}
 use Rattle.bus_lines.proofs.NumberedLemmas.{map_itself, at_number, some_none}
 use Rattle.bus_lines.proofs.UnitLemmas.{done_all, calm_stops, shared_finishes}
 use Rattle.bus_lines.proofs.TargetsLemmas.{stays_out, stays_calm}
-use Rattle.bus_lines.proofs.AddressLemmas.{seen_numbered, all_have, joined_here, cleared, or_false, same_of}
+use Rattle.bus_lines.proofs.AddressLemmas.{seen_numbered, all_have, joined_here, cleared, same_of}
+use Rattle.std.proofs.lemmas.Bool.{or_parts, or_right, or_left}
 
 -- ---- who is joined is read anew
 -- a target of which it isn't known whether it is joined
@@ -96,17 +97,8 @@ none_step p n k ns false at first rest among = rest among
 pub none_has : (p : ℕ → Bool) (ns : List ℕ) → list_any p ns ≡ false → (k : ℕ) → is_among ns k ≡ true → p k ≡ false
 none_has p [] none k among = absurd (let e : false ≡ true = among in cc)
 none_has p (n ∷ ns) none k among =
-    let both = or_false (p n) (list_any p ns) none in
+    let both = or_parts (p n) (list_any p ns) none in
     none_step p n k ns (k == n) refl both.0 (none_has p ns both.1 k) among
-
--- what is so of one of some numbers is so of someone, and of nobody else where it is so of no other
-or_left : (a b : Bool) → a ≡ true → (a || b) ≡ true
-or_left true b is = refl
-or_left false b is = absurd (let e : false ≡ true = is in cc)
-
-or_right : (a b : Bool) → b ≡ true → (a || b) ≡ true
-or_right true b is = refl
-or_right false b is = is
 
 some_at : {A : Type 0} (p : A → Bool) (xs : List A) (n : ℕ) → option_map_or p (slice_get xs n) false ≡ true → some_one p xs ≡ true
 some_at p [] zero is = absurd (let e : false ≡ true = is in cc)
@@ -192,7 +184,7 @@ module _ (fair : IsFairTable node_table) (left v : ℕ) (live started : List ℕ
   calm_after reached k c is = let r = at_number stop_to k bs c is in subst IsCalm r.2 (calm_at reached k r.0 r.1)
 
 -- ---- a line is set
-no_byte : (c : ChipView) (byte : ℕ) (b d : Bool)
+pub no_byte : (c : ChipView) (byte : ℕ) (b d : Bool)
     → (if b then record c { control = 0; waiting = None; left = c.foreign } else if d then record c {
       control = 1;
       waiting = None;
@@ -201,21 +193,21 @@ no_byte c byte true d = refl
 no_byte c byte false true = refl
 no_byte c byte false false = refl
 
-still : (c d : ChipView) (byte : ℕ) → d ≡ c → d.waiting ≡ None → c.waiting ≡ Some byte → ⊥
+pub still : (c d : ChipView) (byte : ℕ) → d ≡ c → d.waiting ≡ None → c.waiting ≡ Some byte → ⊥
 still c d byte same none some = let e : None ≡ Some byte = sym none ∙ ap (λ (x : ChipView). x.waiting) same ∙ some in cc
 
 -- what a byte that waits makes of a chip, by the facts of its kind
-abbrev taken_by : (asks by_line : Bool) → ℕ → ChipView → ℕ → ChipView
+abbrev pub taken_by : (asks by_line : Bool) → ℕ → ChipView → ℕ → ChipView
 taken_by asks by_line kept c byte = if asks then arbitrated c byte else if by_line then c else record c { control = kept; waiting = None }
 
-level_taken : (asks by_line : Bool) (kept : ℕ) (c : ChipView) (level byte : ℕ) → c.waiting ≡ Some byte
+pub level_taken : (asks by_line : Bool) (kept : ℕ) (c : ChipView) (level byte : ℕ) → c.waiting ≡ Some byte
     → taken_by asks by_line kept c byte ≡ c → taken_by asks by_line kept (at_level c level) byte ≡ at_level c level
 level_taken true by_line kept c level byte waits same =
     absurd (still c (arbitrated c byte) byte same (no_byte c byte (not (bit_of byte 0)) (is_free c)) waits)
 level_taken false true kept c level byte waits same = refl
 level_taken false false kept c level byte waits same = absurd (still c (record c { control = kept; waiting = None }) byte same refl waits)
 
-level_stop : (c : ChipView) (level : ℕ) (waiting : Option ℕ) → c.waiting ≡ waiting → chip_stopped c waiting ≡ c
+pub level_stop : (c : ChipView) (level : ℕ) (waiting : Option ℕ) → c.waiting ≡ waiting → chip_stopped c waiting ≡ c
     → chip_stopped (at_level c level) waiting ≡ at_level c level
 level_stop c level None waits same = refl
 level_stop c level (Some byte) waits same =

@@ -1,5 +1,5 @@
 -- One target: what an edge is to it as it is seen, and as it is kept. It is told only where it has to be.
-use Rattle.std.proofs.Common.{◌≡◌, ℕ, zero, suc, Bool, true, false, ◌&&◌, cond, refl, sym, ap, ◌∙◌, arith}
+use Rattle.std.proofs.Common.{◌≡◌, ℕ, zero, suc, Bool, true, false, cond, refl, sym, ap, ◌∙◌, arith}
 use Rattle.i2c_spec.specs.Targets.{IsQuiet}
 use Rattle.wire_spec.specs.declared.mode.Mode.{Mode}
 use Rattle.wire_spec.specs.declared.mode.Mode.TheVariants.{Out, In}
@@ -13,6 +13,7 @@ use Rattle.bus_lines.specs.declared.edges.Edge.{Edge}
 use Rattle.bus_lines.specs.declared.edges.Edge.TheVariants.{Rise, Fall, Tick, Finish, Leave, Other, Address, Put, Get, Enter}
 use Rattle.bus_lines.specs.Edges.{seen}
 use Rattle.bus_lines.specs.Units.{shared, IsCalm}
+use mathlib.Core.Bool.{and-false}
 
 -- it is done where a test says so, and would do nothing elsewhere; or it does nothing
 pub done_all : {A : Type 0} (t : Bool) (f : A → A) (x : A) → (t ≡ false → f x ≡ x) → cond t (f x) x ≡ f x
@@ -37,7 +38,7 @@ IsWithin (Put byte) = Unit {0}
 IsWithin (Get ack) = Unit {0}
 IsWithin Enter = Unit {0}
 
-both_same : (j : Bool) (b : Bit NodeState) → cond j b b ≡ b
+pub both_same : (j : Bool) (b : Bit NodeState) → cond j b b ≡ b
 both_same true b = refl
 both_same false b = refl
 
@@ -173,15 +174,11 @@ pub addressed_all : (s n : Bool) (byte : ℕ) (b : Bit NodeState) → n ≡ is_n
 addressed_all s n byte b is calm =
     addressed_so s n byte b.site.addr b.site.joined b.site.heard b.site.state b.mode b.hold (sym is) calm
 
-and_none : (b : Bool) → (b && false) ≡ false
-and_none true = refl
-and_none false = refl
-
 -- what an address byte leaves holds no line while SCL is high
 either_holds : (d : Bool) (byte : ℕ) (s : Site NodeState)
     → holds_line (cond d (called node_table s (is_reading byte)) (stands (other node_table s) Out 0)) ≡ false
-either_holds true byte s = and_none s.joined
-either_holds false byte s = and_none s.joined
+either_holds true byte s = and-false s.joined
+either_holds false byte s = and-false s.joined
 
 address_holds_so : (byte : ℕ) (a : ℕ) (j h : Bool) (x : NodeState) (m : Mode) (k : ℕ)
     → holds_line (where_joined (seen (Address byte)) (stands (site_of a j h x) m k)) ≡ false

@@ -1,7 +1,7 @@
 -- Transfers over two listeners that answer alike: two flat worlds that have the same devices where a transfer may go, and a flat
 -- world beside one sensor that listens alone. The inductions go over the messages.
-use Rattle.std.proofs.Common.{◌≡◌, ℕ, ◌+◌, Bool, true, false, cond, ◌||◌, List, [], ◌∷◌, ◌++◌, drop, Option, Some, None, refl, sym, ◌∙◌, ap}
-use Rattle.std.proofs.lemmas.Bool.{eq-eqb}
+use Rattle.std.proofs.Common.{◌≡◌, ℕ, ◌+◌, Bool, true, false, cond, ◌||◌, List, [], ◌∷◌, ◌++◌, drop, Option, Some, None, refl, ◌∙◌, ap}
+use Rattle.std.proofs.lemmas.Bool.{eq-eqb, or_parts}
 use Rattle.std.specs.Prelude.{slice_get}
 use Rattle.std.specs.List.{AllByRecursion, list_any}
 use Rattle.std.specs.Option.{option_map, option_map_or}
@@ -23,7 +23,7 @@ use Rattle.i2c_spec.specs.Conversation.{Listener, TalkTold, AllTold, is_it, talk
 use Rattle.i2c_spec.proofs.MessageLemmas.{IsFollowing}
 use Rattle.bus_laws.specs.Alike.{ToldAlike, IsUnnamed}
 use Rattle.bus_laws.proofs.device.Talk.{talk-alike}
-use Rattle.bus_laws.proofs.device.Hears.{fed-at}
+use Rattle.bus_laws.proofs.device.Hears.{fed-at, fed_alike}
 use Rattle.bus_laws.proofs.device.Stay.{talk-unnamed}
 use Rattle.cache_laws.proofs.One.{One, one_listener, one_after, one_answer}
 
@@ -78,13 +78,6 @@ pub record FlatAlike (Own : ℕ → Type 0) (f g : FlatListener) : Type 0 where
   pub named : f.named ≡ g.named
   pub current : f.current ≡ g.current
   pub own : (d : ℕ) → f.current ≡ Some d → Own d
-
-fed_alike : (x y : ℕ → Option Event) (xs ys : List TargetState) (d : ℕ) → slice_get xs d ≡ slice_get ys d → x d ≡ y d
-    → slice_get (feed state_table x 0 xs) d ≡ slice_get (feed state_table y 0 ys) d
-fed_alike x y xs ys d same events =
-    fed-at state_table x xs d ∙ ap (λ (o : Option TargetState). option_map (λ (z : TargetState). given state_table (x d) z) o) same
-    ∙ ap (λ (e : Option Event). option_map (λ (z : TargetState). given state_table e z) (slice_get ys d)) events
-    ∙ sym (fed-at state_table y ys d)
 
 module _ (Own : ℕ → Type 0) (granted : ℕ → Option ℕ) where
   -- the device that a message is granted is one of them
@@ -289,11 +282,6 @@ pub all-messages : (P : ℕ → Type 0) (ms : List Msg) (out : List ℕ) → All
 all-messages P [] out all = tt
 all-messages P (m ∷ ms) out all = (all.0, all-messages P ms (drop (written_of m) out) all.1)
 
--- where none of them passes a test, each fails it
-pub or_both : (p q : Bool) → (p || q) ≡ false → (p ≡ false) × (q ≡ false)
-or_both true q e = absurd (let h : true ≡ false = e in cc)
-or_both false q e = (refl, e)
-
 pub none-all : {X : Type 0} (test : X → Bool) (xs : List X) → list_any test xs ≡ false → AllByRecursion (λ (x : X). test x ≡ false) xs
 none-all test [] e = tt
-none-all test (x ∷ xs) e = ((or_both (test x) (list_any test xs) e).0, none-all test xs (or_both (test x) (list_any test xs) e).1)
+none-all test (x ∷ xs) e = ((or_parts (test x) (list_any test xs) e).0, none-all test xs (or_parts (test x) (list_any test xs) e).1)

@@ -1,7 +1,7 @@
 -- Cached callers are fair where those are whose replies they fill in: a hit fits its transfer, so that what is left falls with each.
 -- The inductions go over how many hits there are at most.
 use Rattle.std.proofs.Common.{◌≡◌, ℕ, zero, suc, ◌+◌, ◌<◌, ◌≤◌, Bool, true, false, cond, not, ◌&&◌, ◌||◌, List, [], ◌∷◌, ◌++◌, drop, length, Option, Some, None, eqb, refl, sym, ◌∙◌, ap, subst, arith}
-use Rattle.std.proofs.lemmas.Bool.{eqb-true}
+use Rattle.std.proofs.lemmas.Bool.{eqb-true, not-true}
 use Rattle.std.proofs.lemmas.List.{append_assoc, append-nil}
 use Rattle.std.specs.Prelude.{MatchBool}
 use Rattle.std.specs.List.{fold, list_any}
@@ -15,16 +15,9 @@ use Rattle.i2c_spec.specs.Cost.{cost_of}
 use Rattle.i2c_spec.specs.Fair.{IsFairCaller}
 use Rattle.cache_laws.specs.Cache.{Pair, Access, Kept, Filled, is_kept, writes_just, reads_just, access_by, access_of, pair_at, reply_of, hit, hits_from, learned, known_from, known, with_hits, all_of, more_filled, filled, answered, asked_cached, left_cached, one_stripped, stripped_from, stripped}
 use Rattle.cache_laws.specs.Fair.{cached_of, LeavesHitsOut}
-use Rattle.cache_laws.proofs.Known.{if_access, and_last, hit_parts}
+use Rattle.cache_laws.proofs.Known.{if_access, hit_parts}
 use Rattle.cache_laws.proofs.Law.{filled-is, filled-more}
-
-and_first : (x y : Bool) → (x && y) ≡ true → x ≡ true
-and_first true y f = refl
-and_first false y f = f
-
-is_not : (x : Bool) → not x ≡ true → x ≡ false
-is_not true e = absurd (let f : false ≡ true = e in cc)
-is_not false e = refl
+use Rattle.i2c_base.proofs.Booleans.{and_first, and_last}
 
 -- a reply of two bytes fits a write and a read of two
 fits_two : (w m : Msg) (high low : ℕ) → is_read w ≡ false → is_read m ≡ true → is_counted m ≡ false → m.len ≡ 2
@@ -60,10 +53,10 @@ by_reads bus (w ∷ m ∷ []) (r ∷ []) a e none p =
     let first : writes_just 1 w ≡ true = and_first (writes_just 1 w) (reads_just 2 m && (eqb w.addr m.addr && is_kept r)) h.0 in
     let second : reads_just 2 m ≡ true =
     and_first (reads_just 2 m) (eqb w.addr m.addr && is_kept r) (and_last (writes_just 1 w) (reads_just 2 m && (eqb w.addr m.addr && is_kept r)) h.0) in
-    let not_read : is_read w ≡ false = is_not (is_read w) (and_first (not (is_read w)) (eqb w.len 1) first) in
+    let not_read : is_read w ≡ false = not-true (is_read w) (and_first (not (is_read w)) (eqb w.len 1) first) in
     let reads : is_read m ≡ true = and_first (is_read m) (not (is_counted m) && eqb m.len 2) second in
     let rest : (not (is_counted m) && eqb m.len 2) ≡ true = and_last (is_read m) (not (is_counted m) && eqb m.len 2) second in
-    let plain : is_counted m ≡ false = is_not (is_counted m) (and_first (not (is_counted m)) (eqb m.len 2) rest) in
+    let plain : is_counted m ≡ false = not-true (is_counted m) (and_first (not (is_counted m)) (eqb m.len 2) rest) in
     let two : m.len ≡ 2 = eqb-true m.len 2 (and_last (not (is_counted m)) (eqb m.len 2) rest) in (
       ap (λ (z : Bool). z || (is_read m || false)) not_read ∙ ap (λ (z : Bool). z || false) reads,
       fits_two w m p.high p.low not_read reads plain two,

@@ -1,10 +1,9 @@
 -- Whether a driver's transfer reaches its sensor: where it isn't barred the sensor is granted, since no address stands twice along a
 -- path; and what bars it is the same for each access of the sensor.
 use Rattle.std.proofs.Common.{◌≡◌, ℕ, Bool, true, false, cond, not, ◌&&◌, ◌||◌, Option, Some, None, eqb, ltb, refl, sym, ◌∙◌, ap, subst, inl, zero-add}
-use Rattle.std.proofs.lemmas.Bool.{eqb-true, eq-eqb}
-use Rattle.std.specs.Prelude.{slice_get, unwrap_or}
+use Rattle.std.proofs.lemmas.Bool.{eq-eqb}
+use Rattle.std.specs.Prelude.{slice_get}
 use Rattle.std.specs.List.{position_from}
-use Rattle.std.specs.Option.{option_map}
 use Rattle.i2c_base.specs.declared.ids.Node.TheVariants as node
 use Rattle.i2c_base.specs.declared.errno.Errno.{Errno}
 use Rattle.i2c_base.specs.declared.errno.Errno.TheVariants as errno
@@ -12,21 +11,13 @@ use Rattle.i2c_base.specs.declared.reply.Cut.{Cut}
 use Rattle.i2c_base.specs.declared.reply.Cut.TheVariants as cut_at
 use Rattle.i2c_base.specs.declared.tree.Grant.TheVariants as grant
 use Rattle.i2c_base.specs.Board.{BoardView, DeviceView}
-use Rattle.i2c_spec.specs.Tree.{buses, is_below, is_on_path, is_aside, of_device, IsOver, IsAlong}
-use Rattle.i2c_spec.specs.TreeFacts.{IsTree, addr_of, home_of}
+use Rattle.i2c_spec.specs.Tree.{buses, is_below, is_on_path, is_aside, IsOver, IsAlong}
+use Rattle.i2c_spec.specs.TreeFacts.{IsTree, home_of}
 use Rattle.i2c_spec.specs.Grant.{grant_of, is_busy, named_of, named_by, some_chip, some_device, way_of}
 use Rattle.i2c_spec.specs.Flat.{granted_on, barred, first_of, is_way_cut, way_errno}
-use Rattle.bus_laws.proofs.world.Reach.{and_left, and_right}
-use Rattle.bus_laws.proofs.device.Grant.{path_over, position_at, position_some}
+use Rattle.bus_laws.proofs.device.Grant.{path_over, position_at, position_some, addr_at, bus_at}
 use Rattle.cache_laws.specs.Order.{SensorRegister, Hysteresis, register_read, register_write}
-
-bus_at : (b : BoardView) (d : ℕ) (x : DeviceView) → slice_get b.devices d ≡ Some x → of_device (λ (y : DeviceView). y.bus) 0 b d ≡ x.bus
-bus_at b d x at = ap (λ (o : Option DeviceView). unwrap_or (option_map (λ (y : DeviceView). y.bus) o) 0) at
-
-addr_at : (b : BoardView) (a d : ℕ) (x : DeviceView) → slice_get b.devices d ≡ Some x → eqb x.addr a ≡ true
-    → addr_of b (node.Device d) ≡ Some a
-addr_at b a d x at e = ap (λ (o : Option DeviceView). unwrap_or (option_map (λ (y : DeviceView). Some y.addr) o) None) at
-    ∙ ap Some (eqb-true x.addr a e)
+use Rattle.i2c_base.proofs.Booleans.{and_first, and_last}
 
 free_names : (p q y : Bool) (o : Option ℕ) → is_busy (cond p grant.Busy (cond q grant.Busy (cond y grant.Busy (named_by o)))) ≡ false
     → named_of (cond p grant.Busy (cond q grant.Busy (cond y grant.Busy (named_by o)))) ≡ o
@@ -57,13 +48,13 @@ granted-here b tree d v at free =
     by (Some n) e =
         let r = position_at (λ (x : DeviceView). eqb x.addr v.addr && is_on_path b v.bus x.bus) 0 b.devices n e in
         let there : slice_get b.devices n ≡ Some r.1 = ap (λ (i : ℕ). slice_get b.devices i) (r.2 ∙ zero-add r.0) ∙ r.3 in
-        let over : IsOver b r.1.bus v.bus = path_over b v.bus r.1.bus (and_right (eqb r.1.addr v.addr) (is_on_path b v.bus r.1.bus) r.4) in
+        let over : IsOver b r.1.bus v.bus = path_over b v.bus r.1.bus (and_last (eqb r.1.addr v.addr) (is_on_path b v.bus r.1.bus) r.4) in
         let homes : IsAlong b (home_of b (node.Device n)) (home_of b (node.Device d)) =
         subst (λ (i : ℕ). IsAlong b i (home_of b (node.Device d))) (sym (bus_at b n r.1 there))
         (subst (λ (i : ℕ). IsAlong b r.1.bus i) (sym (bus_at b d v at)) (inl over)) in
         let same : node.Device n ≡ node.Device d =
         tree.addresses (node.Device n) (node.Device d) v.addr
-        (addr_at b v.addr n r.1 there (and_left (eqb r.1.addr v.addr) (is_on_path b v.bus r.1.bus) r.4))
+        (addr_at b v.addr n r.1 there (and_first (eqb r.1.addr v.addr) (is_on_path b v.bus r.1.bus) r.4))
         (addr_at b v.addr d v at (eq-eqb v.addr v.addr refl)) homes in
         (let f : n ≡ d = cc in ap Some f)
 

@@ -1,7 +1,7 @@
 -- What a caller knows is what the registers have, after each transfer of any caller; so a hit's reply is what a read would give.
 -- The inductions go over what is kept.
 use Rattle.std.proofs.Common.{◌≡◌, ℕ, ◌/◌, ◌%◌, Bool, true, false, cond, not, ◌&&◌, ◌||◌, inl, inr, List, [], ◌∷◌, map, Option, Some, None, eqb, ltb, refl, sym, ◌∙◌, ap, subst, arith}
-use Rattle.std.proofs.lemmas.Bool.{eqb-true, eq-eqb}
+use Rattle.std.proofs.lemmas.Bool.{eqb-true, eq-eqb, or_parts}
 use Rattle.std.proofs.Math.Bool.{or-true}
 use Rattle.std.specs.Prelude.{slice_get, is_some}
 use Rattle.std.specs.List.{AllByRecursion, list_any}
@@ -26,8 +26,8 @@ use Rattle.cache_laws.specs.Cache.{Pair, Access, Kept, Cached, is_kept, access_i
 use Rattle.cache_laws.specs.Order.{SensorRegister, Temperature, Hysteresis, Limit, number_of, register_read, register_write, is_granted, is_kept_by, IsLowByte, IsHarmless, Leaves, Reads, Writes, SameButPointers}
 use Rattle.cache_laws.proofs.One.{word_of, with_word, bytes_of}
 use Rattle.cache_laws.proofs.Gate.{IsOpen, GoesThrough, read-goes, granted-here, same-place}
-use Rattle.cache_laws.proofs.Alike.{or_both}
 use Rattle.cache_laws.proofs.Transfer.{barred_is, StepsAlike, Reading, Writing, leaves-left, leaves-alike, read_steps, read_reads, read_others, write_steps, write_writes, write_others}
+use Rattle.i2c_base.proofs.Booleans.{and_last}
 
 -- ---- what is kept of one device
 
@@ -46,11 +46,6 @@ pub record Knows (b : BoardView) (cached : ℕ → Bool) (xs : List TargetState)
   pub is_cached : cached k.device ≡ true
   pub hysteresis : (p : Pair) → k.hysteresis ≡ Some p → IsHeld b xs k.device v Hysteresis p
   pub limit : (p : Pair) → k.limit ≡ Some p → IsHeld b xs k.device v Limit p
-
--- two devices of one place are one
-one_device : (b : BoardView) → IsTree b → (d e : ℕ) (v w : DeviceView) → slice_get b.devices d ≡ Some v → slice_get b.devices e ≡ Some w
-    → v.bus ≡ w.bus → v.addr ≡ w.addr → d ≡ e
-one_device b tree d e v w at there bus addr = same-place b tree d e v w at there bus addr
 
 -- the registers of a device stay the same
 held_view : (b : BoardView) (xs zs : List TargetState) (d : ℕ) (v : DeviceView) (r : SensorRegister) (p : Pair) (x y : Lm75View)
@@ -127,10 +122,6 @@ pub record IsAccess (t : TransferView) (a : Access) : Type 0 where
 pub if_access : (z : Bool) (x a : Access) → access_if z x ≡ Some a → (z ≡ true) × (x ≡ a)
 if_access true x a e = (refl, let f : Some x ≡ Some a = e in cc)
 if_access false x a e = absurd (let f : None ≡ Some a = e in cc)
-
-pub and_last : (x y : Bool) → (x && y) ≡ true → y ≡ true
-and_last true y e = e
-and_last false y e = absurd (let f : false ≡ true = e in cc)
 
 by_access : (bus : ℕ) (msgs : List Msg) (out : List ℕ) (a : Access) → access_by bus msgs out ≡ Some a
     → (bus ≡ a.bus) × (m : Msg) × (rest : List Msg) × (msgs ≡ m ∷ rest) × (m.addr ≡ a.addr) × (is_kept a.register ≡ true)
@@ -229,7 +220,7 @@ open_granted b tree cached xs t cut a is k h at none =
         ap (λ (i : ℕ). is_busy (grant_of b i h.v.addr true)) (sym h.bus ∙ places.0 ∙ is.bus)
         ∙ ap (λ (i : ℕ). is_busy (grant_of b t.bus i true)) (sym h.addr ∙ places.1 ∙ sym is.addr)
         ∙ ap (λ (z : Bool). is_busy (grant_of b t.bus is.first.addr z)) (sym is.force)
-        ∙ (or_both (is_busy (grant_of b t.bus is.first.addr t.force)) (list_any (λ (m : Msg). is_busy (grant_of b t.bus m.addr t.force)) is.rest)
+        ∙ (or_parts (is_busy (grant_of b t.bus is.first.addr t.force)) (list_any (λ (m : Msg). is_busy (grant_of b t.bus m.addr t.force)) is.rest)
         (sym (ap (λ (ms : List Msg). list_any (λ (m : Msg). is_busy (grant_of b t.bus m.addr t.force)) ms) is.msgs) ∙ any_free)).0
 
 -- an access of a driver
@@ -238,11 +229,6 @@ access_read : (v : DeviceView) (r : SensorRegister)
 access_read v r =
     ap (λ (z : Bool). access_if (z && is_kept (number_of r)) (record { bus = v.bus; addr = v.addr; register = number_of r; sent = None }))
     (eq-eqb v.addr v.addr refl)
-
-access_write : (v : DeviceView) (r : SensorRegister) (high low : ℕ)
-    → access_of (register_write v r high low) ≡ access_if (is_kept (number_of r))
-    (record { bus = v.bus; addr = v.addr; register = number_of r; sent = Some (record { high = high; low = low }) })
-access_write v r high low = refl
 
 -- the registers of a number
 kept_register : (n : ℕ) → is_kept n ≡ true → (r : SensorRegister) × (n ≡ number_of r) × (is_kept (number_of r) ≡ true)

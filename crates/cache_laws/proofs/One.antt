@@ -99,10 +99,6 @@ read_messages addr r = pointer_message addr r ∷ word_message addr ∷ []
 abbrev pub write_messages : (addr r high low : ℕ) → List MessageView
 write_messages addr r high low = write_message addr r high low ∷ []
 
--- the same, for the pointer that it has
-abbrev pub pointing : Lm75View → ℕ → Lm75View
-pointing x q = record x { pointer = q }
-
 abbrev pub word_of : Lm75View → SensorRegister → ℕ
 word_of x Temperature = x.temperature
 word_of x Hysteresis = x.hysteresis

@@ -1,8 +1,7 @@
 -- Which transfers leave a bound sensor alone: those that aren't forced, those that don't name its address, and those of the driver of
 -- another device. The inductions go over the devices, and over the messages.
-use Rattle.std.proofs.Common.{◌≡◌, ℕ, zero, suc, Bool, true, false, cond, not, ◌&&◌, ◌||◌, List, [], ◌∷◌, Option, Some, None, eqb, refl, sym, ◌∙◌, ap, zero-add}
+use Rattle.std.proofs.Common.{◌≡◌, ℕ, Bool, true, false, cond, not, ◌&&◌, ◌||◌, List, [], ◌∷◌, Option, Some, None, eqb, refl, sym, ◌∙◌, ap, zero-add}
 use Rattle.std.proofs.lemmas.Bool.{eqb-true}
-use Rattle.std.proofs.Math.Bool.{or-true}
 use Rattle.std.specs.Prelude.{slice_get}
 use Rattle.std.specs.List.{position_from, list_any, AllByRecursion}
 use Rattle.i2c_base.specs.declared.tree.Grant.{Grant}
@@ -16,10 +15,11 @@ use Rattle.i2c_spec.specs.Grant.{grant_of, is_busy, named_of, named_by, some_chi
 use Rattle.i2c_spec.specs.Flat.{granted_on}
 use Rattle.i2c_spec.specs.Conversation.{is_it}
 use Rattle.i2c_spec.proofs.MessageLemmas.{is_it-some}
-use Rattle.bus_laws.proofs.world.Reach.{and_left}
 use Rattle.bus_laws.proofs.device.Grant.{position_at}
 use Rattle.cache_laws.specs.Order.{is_granted}
 use Rattle.cache_laws.proofs.Gate.{granted-here}
+use Rattle.i2c_base.proofs.Booleans.{and_first}
+use Rattle.std.proofs.lemmas.Map.Keys.{any_passes_from_place}
 
 names_passed : (p q y z : Bool) (o : Option ℕ) (d : ℕ)
     → named_of (cond p grant.Busy (cond q grant.Busy (cond y grant.Busy (cond z grant.Busy (named_by o))))) ≡ Some d
@@ -30,13 +30,6 @@ names_passed false false true z o d e = absurd (let f : None ≡ Some d = e in c
 names_passed false false false true o d e = absurd (let f : None ≡ Some d = e in cc)
 names_passed false false false false None d e = absurd (let f : None ≡ Some d = e in cc)
 names_passed false false false false (Some k) d e = (refl, e)
-
-any_at : {X : Type 0} (test : X → Bool) (xs : List X) (i : ℕ) (x : X) → slice_get xs i ≡ Some x → test x ≡ true → list_any test xs ≡ true
-any_at test [] i x at e = absurd (let f : None ≡ Some x = at in cc)
-any_at test (y ∷ ys) zero x at e =
-    let same : y ≡ x = (let f : Some y ≡ Some x = at in cc) in
-    ap (λ (z : Bool). z || list_any test ys) (ap test same ∙ e)
-any_at test (y ∷ ys) (suc i) x at e = ap (λ (z : Bool). test y || z) (any_at test ys i x at e) ∙ or-true (test y)
 
 -- a device that is granted has the address, and no driver unless the transfer is forced
 granted_there : (b : BoardView) (s a : ℕ) (force : Bool) (d : ℕ) (v : DeviceView) → slice_get b.devices d ≡ Some v
@@ -58,14 +51,14 @@ granted_there b s a force d v at e = (eqb-true v.addr a addr, by force v.bound r
         ap (λ (x : DeviceView). eqb x.addr a && is_on_path b s x.bus) (sym same) ∙ r.4
 
     addr : eqb v.addr a ≡ true
-    addr = and_left (eqb v.addr a) (is_on_path b s v.bus) fits
+    addr = and_first (eqb v.addr a) (is_on_path b s v.bus) fits
 
     by : (f y : Bool) → force ≡ f → v.bound ≡ y → (not force && v.bound) ≡ false
     by true y ef ey = ap (λ (z : Bool). not z && v.bound) ef
     by false false ef ey = ap (λ (z : Bool). not z && v.bound) ef ∙ ey
     by false true ef ey =
         absurd (let some : some_bound b a (is_on_path b s) ≡ true =
-        any_at (λ (x : DeviceView). x.bound && (eqb x.addr a && is_on_path b s x.bus)) b.devices d v at
+        any_passes_from_place (λ (x : DeviceView). x.bound && (eqb x.addr a && is_on_path b s x.bus)) b.devices d v at
         (ap (λ (z : Bool). z && (eqb v.addr a && is_on_path b s v.bus)) ey ∙ fits) in
         let f : true ≡ false =
         sym (ap (λ (z : Bool). not z && some_bound b a (is_on_path b s)) ef ∙ some) ∙ parts.0 in cc)

@@ -1,7 +1,7 @@
 -- One transfer in two flat worlds that are the same but for the pointers of sensors: the same reply, and the same but for pointers
 -- again. One law for each kind of harmless transfer.
 use Rattle.std.proofs.Common.{◌≡◌, ℕ, Bool, true, false, ◌||◌, ◌⊎◌, inl, inr, List, [], ◌∷◌, Option, Some, None, eqb, refl, sym, ◌∙◌, ap, subst}
-use Rattle.std.proofs.lemmas.Bool.{eqb-true, eq-eqb}
+use Rattle.std.proofs.lemmas.Bool.{eqb-true, eq-eqb, or_parts}
 use Rattle.std.specs.Prelude.{slice_get}
 use Rattle.std.specs.List.{AllByRecursion, list_any}
 use Rattle.i2c_base.specs.declared.entry.End.{End}
@@ -25,7 +25,7 @@ use Rattle.i2c_spec.proofs.MessageLemmas.{is_it-at}
 use Rattle.cache_laws.specs.Cache.{is_kept}
 use Rattle.cache_laws.specs.Order.{SensorRegister, Temperature, Hysteresis, Limit, number_of, register_read, register_write, is_granted, SameSensor, SameButPointers}
 use Rattle.cache_laws.proofs.One.{one_listener, alone, read_messages, write_messages, word_of, with_word, bytes_of, HasRead, HasWritten, read-facts, read-whole, write-facts}
-use Rattle.cache_laws.proofs.Alike.{AllAlike, IsBeside, flat_all-alike, all-unnamed, all-beside, all-messages, or_both, none-all}
+use Rattle.cache_laws.proofs.Alike.{AllAlike, IsBeside, flat_all-alike, all-unnamed, all-beside, all-messages, none-all}
 use Rattle.cache_laws.proofs.Gate.{IsOpen, GoesThrough, read-goes, write-goes}
 
 -- what both worlds come to
@@ -40,7 +40,7 @@ own_messages : (cached : ℕ → Bool) (granted : ℕ → Option ℕ) (ms : List
 own_messages cached granted [] none = tt
 own_messages cached granted (m ∷ ms) none = (
   (λ d e. by d e (cached d) refl),
-  own_messages cached granted ms (λ d k. (or_both (is_it (granted m.addr) d) (list_any (λ (z : Msg). is_it (granted z.addr) d) ms) (none d
+  own_messages cached granted ms (λ d k. (or_parts (is_it (granted m.addr) d) (list_any (λ (z : Msg). is_it (granted z.addr) d) ms) (none d
       k)).1),
 )
   where
@@ -48,7 +48,7 @@ own_messages cached granted (m ∷ ms) none = (
     by d e false k = k
     by d e true k =
         absurd (let here : is_it (granted m.addr) d ≡ false =
-        (or_both (is_it (granted m.addr) d) (list_any (λ (z : Msg). is_it (granted z.addr) d) ms) (none d k)).0 in
+        (or_parts (is_it (granted m.addr) d) (list_any (λ (z : Msg). is_it (granted z.addr) d) ms) (none d k)).0 in
         let it : is_it (granted m.addr) d ≡ true = is_it-at (granted m.addr) d e in
         let f : true ≡ false = sym it ∙ here in cc)
 

@@ -16,6 +16,7 @@ use Rattle.caller_core.specs.Scripts.{commands_of, asked_by, left_of, cost_of_sc
 use Rattle.caller_core.specs.View.{CommandView, ScriptView}
 use Rattle.caller_core.proofs.CommandLemmas.{IsSpoken, commands_are_read}
 use Rattle.caller_core.proofs.SumLemmas.{sum_first, sum_falls}
+use Rattle.std.proofs.lemmas.Option.{same_Some, none-some}
 
 -- ---- what is left is part of the script
 
@@ -38,19 +39,13 @@ left_all P cs rs h = left_from P (turn_to [] cs) rs (All-drop P (quiet_front cs)
 
 -- ---- what is asked for
 
-some_same : (t u : TransferView) → Some t ≡ Some u → t ≡ u
-some_same t u e = cc
-
-none_some : (t : TransferView) → None ≡ Some t → ⊥
-none_some t e = cc
-
 next_asks : (left : List CommandView) (own : List Reply) (t : TransferView) → All IsSpoken left → next_of left own ≡ Some t → IsAsk t
-next_asks [] own t all e = absurd (none_some t e)
+next_asks [] own t all e = absurd (none-some t e)
 next_asks (c ∷ cs) own t all e =
     let k : ℕ = place_after (command_talk c) own in
     elim (leb_tells (command_talk c).places k) [
-      | inl x ↦ absurd (none_some t (sym (ap (λ b. cond b None (Some ((command_talk c).at k))) x.0) ∙ e))
-      | inr x ↦ subst IsAsk (some_same ((command_talk c).at k) t (sym (ap (λ b. cond b None (Some ((command_talk c).at k))) x.0) ∙ e))
+      | inl x ↦ absurd (none-some t (sym (ap (λ b. cond b None (Some ((command_talk c).at k))) x.0) ∙ e))
+      | inr x ↦ subst IsAsk (same_Some ((command_talk c).at k) t (sym (ap (λ b. cond b None (Some ((command_talk c).at k))) x.0) ∙ e))
           ((All-head IsSpoken c cs all).asks k x.1)
     ]
 

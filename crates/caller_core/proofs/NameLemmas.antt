@@ -1,5 +1,5 @@
 -- A transfer that a script asks for is on a root that it names.
-use Rattle.std.proofs.Common.{◌≡◌, ℕ, zero, suc, ◌+◌, ◌-◌, ◌<◌, Bool, true, false, cond, ◌&&◌, ◌||◌, List, [], ◌∷◌, map, Some, None, refl, sym, ◌∙◌, ap, ap₂, arith, inl, inr, eq-eqb, lt-ltb}
+use Rattle.std.proofs.Common.{◌≡◌, ℕ, zero, suc, ◌+◌, ◌-◌, ◌<◌, Bool, true, cond, ◌&&◌, ◌||◌, List, [], ◌∷◌, map, Some, None, refl, sym, ◌∙◌, ap, ap₂, arith, inl, inr, eq-eqb, lt-ltb}
 use Rattle.std.specs.Prelude.{All}
 use Rattle.std.specs.Int.{bit_at}
 use Rattle.std.specs.List.{list_any, range_with_len}
@@ -14,10 +14,7 @@ use Rattle.caller_core.specs.Roots.{names_root, command_names, HasRoots}
 use Rattle.caller_core.specs.Turns.{command_talk, progress, next_of, asked_at}
 use Rattle.caller_core.specs.View.{CommandView}
 use Rattle.caller_core.proofs.FairLemmas.{left_all}
-
-or_right : (a b : Bool) → b ≡ true → (a || b) ≡ true
-or_right true b h = refl
-or_right false b h = h
+use Rattle.std.proofs.lemmas.Bool.{or_right}
 
 -- what is made of a number of a range stands among what is made of all
 any_made : {X : Type 0} (test : X → Bool) (make : ℕ → X) (from many k : ℕ) → k < many → test (make (from + k)) ≡ true

@@ -7,7 +7,7 @@ use Rattle.std.proofs.Math.Seq.{drop-length, drop-drop}
 use Rattle.std.proofs.Math.ListN.{drop_of_length-le}
 use Rattle.std.proofs.lemmas.Bool.Decides.{leb_tells, eqb_tells}
 use Rattle.std.proofs.lemmas.List.{length_push, drop-append-le, drop_more}
-use Rattle.std.proofs.lemmas.Option.{slice_get_within, get_or_from_slice_get}
+use Rattle.std.proofs.lemmas.Option.{slice_get_within, get_or_from_slice_get, none-some}
 use Rattle.i2c_base.specs.Fitting.{Fits}
 use Rattle.i2c_base.specs.Transfer.{TransferView}
 use Rattle.i2c_base.specs.declared.reply.Reply.{Reply}
@@ -198,14 +198,11 @@ at_first cs =
 pub over_past : (c : CommandView) (k : ℕ) → (command_talk c).places ≤ k → is_over (command_talk c) k ≡ true
 over_past c k h = elim (leb_tells (command_talk c).places k) [ inl x ↦ x.0 | inr x ↦ absurd (omega (arith, x.1, h)) ]
 
-none_asked : (t : TransferView) → None ≡ Some t → ⊥
-none_asked t e = cc
-
 pub turn_asked : (cs : List CommandView) (rs : List Reply) (turn from place : ℕ) (t : TransferView) → IsAt cs rs turn from place
     → asked_at (progress cs rs) ≡ Some t → turn < length cs
 turn_asked cs rs turn from place t a e =
     elim (leb_tells (length cs) turn) [
-      | inl x ↦ absurd (none_asked t
+      | inl x ↦ absurd (none-some t
           (sym (ap (λ (left : List CommandView). next_of left (progress cs rs).own) (a.left ∙ drop_of_length-le cs x.1)) ∙ e))
       | inr x ↦ x.1
     ]

@@ -4,7 +4,7 @@ use Rattle.std.specs.List.{list_any}
 use Rattle.std.specs.Option.{option_map_or}
 use Rattle.std.proofs.lemmas.Grind.{common_steps}
 use Rattle.std.proofs.lemmas.Bool.Decides.{eqb_tells}
-use Rattle.std.proofs.lemmas.List.{length-replicate, get_or-replicate, take_more, map-append, drop-drop, drop_all}
+use Rattle.std.proofs.lemmas.List.{length-replicate, get_or-replicate, take_more, map-append, drop-drop}
 use Rattle.std.proofs.lemmas.List.Elements.{filter_map-append}
 use Rattle.std.proofs.lemmas.List.Folds.{list_any-append}
 use Rattle.std.proofs.lemmas.Option.{slice_get_past, slice_get_within, slice_get-get_or}
@@ -157,9 +157,6 @@ pub record IsReachBefore (b : BoardView) (text : List ℕ) (at : ℕ) (reach : R
   pub has : HasReach b before reach
   pub whole : before ++ commands_of_lines b (lines_of (drop at text)) ≡ commands_in b text
 
-pub reach_first : (b : BoardView) (text : List ℕ) (reach : Reach) → HasReach b [] reach → IsReachBefore b text 0 reach
-reach_first b text reach has = record { before = []; has = has; whole = refl }
-
 pub reach_steps : (b : BoardView) (at len skip : ℕ) (text : List ℕ) (old new : Reach) → HasReachedOn b (take len (drop at text)) old new
     → lines_of (drop at text) ≡ take len (drop at text) ∷ lines_of (drop skip (drop at text)) → IsReachBefore b text at old
     → IsReachBefore b text (at + skip) new
@@ -177,12 +174,3 @@ reach_steps b at len skip text old new on split was =
           ∙ ap (λ ls. was.before ++ commands_of_lines b ls) (sym split)
           ∙ was.whole;
     }
-
-pub reach_last : (b : BoardView) (text : List ℕ) (at : ℕ) (reach : Reach) → length text ≤ at → IsReachBefore b text at reach
-    → HasReach b (commands_in b text) reach
-reach_last b text at reach past was =
-    let none : commands_of_lines b (lines_of (drop at text)) ≡ [] =
-    ap (λ xs. commands_of_lines b (lines_of xs)) (drop_all at text past) in
-    let all : was.before ≡ commands_in b text =
-    sym (append-nil was.before) ∙ ap (λ cs. was.before ++ cs) (sym none) ∙ was.whole in
-    subst (λ (cs : List Cmd). HasReach b cs reach) all was.has

@@ -23,6 +23,7 @@ use Rattle.caller_core.specs.Runs.{handles_behind}
 use Rattle.caller_core.specs.View.{CommandView, ScriptView}
 use Rattle.caller_core.proofs.CommandLines.{HasSectionLines, answers}
 use Rattle.std.proofs.lemmas.Bool.{or_parts}
+use Rattle.tools.proofs.SaysLemmas.{onto_lines}
 
 -- ---- no line feed stands in a line, its words, and what is printed of them
 
@@ -32,10 +33,6 @@ record IsOnto (b : ℕ) (bs : List ℕ) : Type 0 where
 
 first_and_rest : (b : ℕ) (bs : List ℕ) → IsLine (b ∷ bs) → IsOnto b bs
 first_and_rest b bs h = let p = or_parts (b == 10) (list_any (λ c. c == 10) bs) h in record { first = p.0; rest = p.1 }
-
-onto_lines : (b : ℕ) (ls : List (List ℕ)) → (b == 10) ≡ false → All IsLine ls → All IsLine (onto_first b ls)
-onto_lines b [] e h = All-cons IsLine (b ∷ []) [] (or_from _ _ e refl) (All-nil IsLine)
-onto_lines b (l ∷ ls) e h = All-cons IsLine (b ∷ l) ls (or_from _ _ e (All-head IsLine l ls h)) (All-tail IsLine l ls h)
 
 lines_are_lines : (text : List ℕ) → All IsLine (lines_of text)
 lines_are_lines [] = All-nil IsLine

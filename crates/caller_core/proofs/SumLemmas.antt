@@ -9,6 +9,7 @@ use Rattle.i2c_base.specs.declared.reply.Reply.{Reply}
 use Rattle.tools.specs.Dialogues.{Dialogue, next_place, place_after, is_over, sum_behind}
 use Rattle.caller_core.specs.Turns.{Answered, Progress, command_talk, quiet_front, turn_to, over_with, replied, progress, next_of, asked_at, sum_of, sum_from, sum_left}
 use Rattle.caller_core.specs.View.{CommandView}
+use Rattle.std.proofs.lemmas.Option.{same_Some, none-some}
 
 -- ---- sums over places
 
@@ -68,24 +69,18 @@ pub place_push : (c : CommandView) (own : List Reply) (r : Reply)
     → place_after (command_talk c) (own ++ r ∷ []) ≡ next_place (command_talk c) (place_after (command_talk c) own) r
 place_push c own r = fold_push (next_place (command_talk c)) 0 own r
 
-some_same : (t u : TransferView) → Some t ≡ Some u → t ≡ u
-some_same t u e = cc
-
-none_some : (t : TransferView) → None ≡ Some t → ⊥
-none_some t e = cc
-
 falls_in : (f : TransferView → ℕ) (over : List Answered) (left : List CommandView) (own : List Reply) (r : Reply) (t : TransferView)
     → next_of left own ≡ Some t
     → sum_left f (replied (record { over = over; left = left; own = own }) r) + f t
     ≤ sum_left f (record { over = over; left = left; own = own })
-falls_in f over [] own r t e = absurd (none_some t e)
+falls_in f over [] own r t e = absurd (none-some t e)
 falls_in f over (c ∷ cs) own r t e =
     let p : Progress = record { over = over; left = c ∷ cs; own = own } in
     let k : ℕ = place_after (command_talk c) own in
     elim (leb_tells (command_talk c).places k) [
-      | inl x ↦ absurd (none_some t (sym (ap (λ b. cond b None (Some ((command_talk c).at k))) x.0) ∙ e))
+      | inl x ↦ absurd (none-some t (sym (ap (λ b. cond b None (Some ((command_talk c).at k))) x.0) ∙ e))
       | inr x ↦
-          let same : (command_talk c).at k ≡ t = some_same ((command_talk c).at k) t (sym (ap (λ b. cond b None (Some ((command_talk c).at k))) x.0) ∙ e) in
+          let same : (command_talk c).at k ≡ t = same_Some ((command_talk c).at k) t (sym (ap (λ b. cond b None (Some ((command_talk c).at k))) x.0) ∙ e) in
           let here : sum_behind f (command_talk c) k ≡ f ((command_talk c).at k) + sum_behind f (command_talk c) (k + 1) = sum_here f (command_talk c) k x.1 in
           let later : sum_behind f (command_talk c) (k + 1 + (command_talk c).skips k r) ≤ sum_behind f (command_talk c) (k + 1) =
           sum_later f (command_talk c) (k + 1) ((command_talk c).skips k r) in

@@ -2,7 +2,7 @@
 use Rattle.std.proofs.Common.{◌≡◌, ℕ, ◌+◌, ◌<◌, ◌≤◌, Bool, true, false, cond, List, [], ◌∷◌, ◌++◌, length, drop, get_or, Option, Some, None, refl, sym, ap, subst, ◌∙◌, arith}
 use Rattle.std.specs.Prelude.{All, IfSome, IsSome, slice_get, sum_by}
 use Rattle.std.proofs.lemmas.List.{length-map, map-append}
-use Rattle.std.proofs.lemmas.Option.{slice_get-get_or}
+use Rattle.std.proofs.lemmas.Option.{slice_get-get_or, same_Some}
 use Rattle.i2c_base.specs.Fitting.{Fits}
 use Rattle.i2c_base.specs.Need.{Covers, Need, bytes_given}
 use Rattle.i2c_base.specs.Transfer.{TransferView}
@@ -35,9 +35,6 @@ pub given_by : (h : ReplyHead) (bytes : List ℕ) → length bytes ≤ most_read
 given_by head.Done bytes few = none_there bytes few
 given_by head.Read bytes few = refl
 given_by (head.Err e) bytes few = none_there bytes few
-
-transfer_same : (t u : TransferView) → Some t ≡ Some u → t ≡ u
-transfer_same t u e = cc
 
 replies_push : (items now : List (ReplyHead × List ℕ)) (item : ReplyHead × List ℕ) (r : Reply) → now ≡ items ++ item ∷ []
     → reply_of item ≡ r → replies_of now ≡ replies_of items ++ r ∷ []
@@ -110,7 +107,7 @@ module _ (script : ScriptView) (cs : List CommandView) (taken : PackedView Reply
   module _ (room : HasRoom cs taken printed turn) (k : IsTaking cs before turn r) (c : CommandView) (there : slice_get cs turn ≡ Some c) where
     fits_here : Fits ((command_talk c).at place) r
     fits_here =
-        let same : k.transfer ≡ (command_talk c).at place = transfer_same k.transfer ((command_talk c).at place)
+        let same : k.transfer ≡ (command_talk c).at place = same_Some k.transfer ((command_talk c).at place)
         (sym k.next ∙ asks cs before turn from place c is.at there) in
         subst (λ (t : TransferView). Fits t r) same k.fits
 

@@ -31,7 +31,6 @@ use Rattle.bus_spec.specs.Stepwise.{May, IsNext, IsStepwise}
 use Rattle.bus_spec.specs.Tells.{TellsMessage}
 use Rattle.bus_laws.specs.Lines.{LinesAreLocked}
 use Rattle.bus_laws.specs.Reach.{AsksForMessages}
-use Rattle.bus_laws.proofs.world.TalkLaws.{IsOwnEnd}
 use Rattle.bus_laws.proofs.past.Next.{call-reaches}
 use Rattle.bus_laws.proofs.past.StandsStep.{at_same, at_other}
 use Rattle.bus_laws.proofs.past.Whole.{line_root}
@@ -41,14 +40,7 @@ use Rattle.journal_laws.proofs.past.Failures.{went-older}
 use Rattle.check_laws.specs.Failed.{calls_told, is_last_told, calls_made, call_failed, gap_told, since_told, gaps_from, gaps_told, fails_by, FailBy}
 use Rattle.check_laws.proofs.CallsTold.{calls-told}
 use Rattle.check_laws.proofs.Gaps.{IsBy, none-by, both-by, went-by, broken-by, since-longer, since-before}
-
-own_cut : (e : End) → IsOwnEnd e → cut_of e ≡ None
-own_cut end.Ok own = refl
-own_cut end.Nack own = refl
-own_cut end.Slow own = refl
-own_cut end.Refused own = refl
-own_cut end.Proto own = refl
-own_cut (end.Cut q) own = absurd own
+use Rattle.journal_laws.proofs.past.GoesOn.{own_cut}
 
 -- so many calls of a root that went through, in front of these gaps
 went-on : (b : BoardView) (r : ℕ) (es : List Entry) (own : List PortCall) (c : ℕ) → length own ≡ c → AllByRecursion Went own

@@ -28,20 +28,15 @@ use Rattle.journal_laws.proofs.past.LegalSteps.{legal-steps, legal-due, front-le
 use Rattle.journal_laws.proofs.schedule.Whole.{alone_due}
 use Rattle.check_laws.specs.Failed.{gaps_told, FailBy}
 use Rattle.check_laws.specs.Wrong.{up_to, EndsStep, IsFirstWrong, first_step, CantBeTold}
-use Rattle.check_laws.proofs.Gaps.{get_later}
 use Rattle.check_laws.proofs.Faults.{fail-as-told}
 use Rattle.check_laws.proofs.Turns.{same-turn, stuck-adds}
+use Rattle.i2c_base.proofs.ListLemmas.{get_front, get_back}
 
 take_later : {X : Type 0} (xs ys : List X) (n : ℕ) → take (length xs + n) (xs ++ ys) ≡ xs ++ take n ys
 take_later [] ys n = ap (λ (k : ℕ). take k ys) (let e : 0 + n ≡ n = omega arith in e)
 take_later (x ∷ xs) ys n =
     ap (λ (k : ℕ). take k (x ∷ xs ++ ys)) (let e : length (x ∷ xs) + n ≡ suc (length xs + n) = omega arith in e)
     ∙ ap (λ (zs : List _). x ∷ zs) (take_later xs ys n)
-
-get_within : {X : Type 0} (xs ys : List X) (n : ℕ) → n < length xs → slice_get (xs ++ ys) n ≡ slice_get xs n
-get_within [] ys n low = absurd (omega (arith, low))
-get_within (x ∷ xs) ys zero low = refl
-get_within (x ∷ xs) ys (suc n) low = get_within xs ys n (omega (arith, low))
 
 -- a list is parted at an element
 parted_at : {X : Type 0} (xs : List X) (n : ℕ) (x : X) → slice_get xs n ≡ Some x → xs ≡ take n xs ++ x ∷ drop (suc n) xs
@@ -187,7 +182,7 @@ module _ (b : BoardView) (tree : IsTree b) (plain : IsPlainBoard b) (lines : Lin
       let e : Entry = get_or front (suc j) next in
       let here : slice_get front (suc j) ≡ Some (get_or front (suc j) next) = slice_get-get_or front (suc j) next low in
       let there : slice_get es (j + 1) ≡ Some (get_or front (suc j) next) =
-      ap (slice_get es) (let f : j + 1 ≡ suc j = omega arith in f) ∙ get_within front (next ∷ rest) (suc j) low ∙ here in
+      ap (slice_get es) (let f : j + 1 ≡ suc j = omega arith in f) ∙ get_front front (next ∷ rest) (suc j) low ∙ here in
       let split : reverse front ≡ reverse (drop (suc (suc j)) front) ++ get_or front (suc j) next ∷ up_to es j =
       ap reverse (parted_at front (suc j) (get_or front (suc j) next) here)
       ∙ reverse-append (take (suc j) front) (get_or front (suc j) next ∷ drop (suc (suc j)) front)
@@ -210,7 +205,7 @@ module _ (b : BoardView) (tree : IsTree b) (plain : IsPlainBoard b) (lines : Lin
 
   -- the entry after the next one
   second : (n : Entry) → slice_get es (length front + 1) ≡ Some n → (ss : List Entry) × (rest ≡ n ∷ ss)
-  second n at = by rest (sym (get_later front (next ∷ rest) 1) ∙ at)
+  second n at = by rest (sym (get_back front (next ∷ rest) 1) ∙ at)
     where
       by : (xs : List Entry) → slice_get (next ∷ xs) 1 ≡ Some n → (ss : List Entry) × (xs ≡ n ∷ ss)
       by [] e = absurd (let f : None ≡ Some n = e in cc)
@@ -240,7 +235,7 @@ module _ (b : BoardView) (tree : IsTree b) (plain : IsPlainBoard b) (lines : Lin
       let more = and_parts (is_settle s) (caller_of next == caller_of s) parts.1 in
       let both : up_to es (length front + 1) ≡ s ∷ next ∷ past = up-to 1
       ∙ ap (λ (xs : List Entry). reverse (take 2 (next ∷ xs)) ++ past) is in
-      let here : slice_get es (length front + 1) ≡ Some s = get_later front (next ∷ rest) 1 ∙ ap (λ (xs : List Entry). slice_get (next ∷ xs) 1) is in
+      let here : slice_get es (length front + 1) ≡ Some s = get_back front (next ∷ rest) 1 ∙ ap (λ (xs : List Entry). slice_get (next ∷ xs) 1) is in
       record {
         ends = record {
           there = (let e : length es ≡ length front + length (next ∷ rest) = length-append front (next ∷ rest) in

@@ -14,6 +14,7 @@ use Rattle.bus_spec.specs.Readings.{is_on_root}
 use Rattle.journal_laws.proofs.past.Failures.{number_of, number-older, number-of, none-failed}
 use Rattle.journal_laws.proofs.past.CutTalks.{Went}
 use Rattle.check_laws.specs.Failed.{calls_made, call_failed, gap_told, since_told, gaps_from, fails_by}
+use Rattle.i2c_base.proofs.ListLemmas.{get_back}
 
 -- ONE GAP: the call at its end fails, none before it does, and those behind it fail by the other gaps
 pub gap-here : (g : ℕ) (gs : List ℕ) → fails_by (g ∷ gs) g ≡ true
@@ -101,17 +102,12 @@ pub record IsBy (log : List PortCall) (gaps left : List ℕ) : Type 0 where
 pub none-by : (gaps : List ℕ) → IsBy [] gaps gaps
 none-by gaps = record { numbers = λ n low. absurd (omega (arith, low)); behind = λ n. ap (fails_by gaps) (zero-add n) }
 
-pub get_later : {X : Type 0} (xs ys : List X) (n : ℕ) → slice_get (xs ++ ys) (length xs + n) ≡ slice_get ys n
-get_later [] ys n = ap (slice_get ys) (zero-add n)
-get_later (x ∷ xs) ys n =
-    ap (slice_get (x ∷ xs ++ ys)) (let e : length (x ∷ xs) + n ≡ suc (length xs + n) = omega arith in e) ∙ get_later xs ys n
-
 -- newer calls have later numbers
 number-newer : (newer calls : List PortCall) (n : ℕ) → number_of (newer ++ calls) (length calls + n) ≡ number_of newer n
 number-newer newer calls n =
     ap (λ (xs : List PortCall). slice_get xs (length calls + n)) (reverse-append newer calls)
     ∙ ap (λ (k : ℕ). slice_get (reverse calls ++ reverse newer) (k + n)) (sym (length-reverse calls))
-    ∙ get_later (reverse calls) (reverse newer) n
+    ∙ get_back (reverse calls) (reverse newer) n
 
 -- one log on top of another
 pub both-by : (newer log : List PortCall) (gaps left rest : List ℕ) → IsBy log gaps left → IsBy newer left rest → IsBy (newer ++ log) gaps rest

@@ -16,13 +16,14 @@ use Rattle.bus_spec.specs.Walk as walk
 use Rattle.bus_spec.specs.Slots.{Slots, At, MuxSlot, Clean, Marked, mark_in, turned_at, turned, set_marks, polled_slot, select_told, after_job}
 use Rattle.bus_spec.specs.Grammar.{seen}
 use Rattle.bus_laws.specs.Holds.{IsMarkOn, OwnHeld, MarksHeld, AreApart, HoldsLocks}
-use Rattle.bus_laws.proofs.tree.Slots.{eqb-apart, changed-same, changed-other, set_marks-other}
+use Rattle.bus_laws.proofs.tree.Slots.{changed-same, changed-other, set_marks-other}
 use Rattle.mux_plan.specs.Plans.{SeenView, mark_on, kept_of, slots_of, slots_after}
 use Rattle.mux_plan.specs.Marks.{marked, all_marked, last_open, updates_of_job, updates_after, applied_kept}
 use Rattle.mux_plan.specs.declared.marks.MuxUpdate.{MuxUpdate}
 use Rattle.mux_plan.proofs.Openings.{mark_slot}
 use Rattle.core_laws.specs.Spots.{TellsKept}
 use Rattle.core_laws.specs.Wants.{WantsIn}
+use Rattle.bus_laws.proofs.world.Slots.{kept_other}
 
 -- THE LOOKS: each asks for a mux where it stands
 pub seen-told : (b : BoardView) (held : List LockId) (v : Slots) (s : SeenView) → ((p : ℕ) → mark_in (v p).slot ≡ mark_on s p)
@@ -54,9 +55,6 @@ set_told kept m c fits =
 kept_at : (f : ℕ → Option ℕ) (k : ℕ) (x : Option ℕ) → changed_at f k x k ≡ x
 kept_at f k x = ap (λ (t : Bool). cond t x (f k)) (eq-eqb k k refl)
 
-kept_off : (f : ℕ → Option ℕ) (k i : ℕ) (x : Option ℕ) → (i ≡ k → ⊥) → changed_at f k x i ≡ f i
-kept_off f k i x off = ap (λ (t : Bool). cond t x (f i)) (eqb-apart i k off)
-
 module _ (b : BoardView) where
   -- one mux turned, on a bus that was as it is told
   tells-turn : (v y : Slots) (kept : List (Option ℕ)) (on mux : ℕ) (s : MuxSlot) (c : Option ℕ) → home_of_mux b mux ≡ on
@@ -72,7 +70,7 @@ module _ (b : BoardView) where
         | inr h ↦ elim (eqb_tells (home_of_mux b m) on) [
           | inl here ↦ ap (λ (p : ℕ). (changed_at y on (turned_at (v on) mux s c) p).kept m) here.1
               ∙ ap (λ (x : At). x.kept m) (changed-same y on (turned_at (v on) mux s c))
-              ∙ kept_off (v on).kept mux m c h.1
+              ∙ kept_other (v on).kept mux m c h.1
               ∙ ap (λ (x : At). x.kept m) (sym same) ∙ ap (λ (p : ℕ). (y p).kept m) (sym here.1)
               ∙ told m ∙ sym (get_or-set_other kept mux m c None h.1)
           | inr there ↦ ap (λ (x : At). x.kept m) (changed-other y on (home_of_mux b m) (turned_at (v on) mux s c) there.1)

@@ -2,8 +2,7 @@
 -- heard it is who hears its start.
 use Rattle.std.proofs.Common.{◌≡◌, ℕ, zero, suc, ◌+◌, ◌-◌, eqb, Bool, true, false, cond, List, length, Option, Some, None, unwrap_or, refl, sym, ◌∙◌, ap, arith}
 use Rattle.std.specs.Prelude.{is_some, slice_get}
-use Rattle.std.proofs.lemmas.Bool.{eq-eqb}
-use Rattle.bus_laws.proofs.tree.Slots.{eqb-apart}
+use Rattle.std.proofs.lemmas.Bool.{eq-eqb, ne_eqb}
 use Rattle.i2c_base.specs.declared.ids.Node.{Node}
 use Rattle.i2c_base.specs.declared.ids.Node.TheVariants as node
 use Rattle.i2c_base.specs.declared.entry.End.{End}
@@ -146,8 +145,8 @@ message-moves b t sent (SwitchOff off) left next addr of owns =
 -- a stop follows it exactly where it is the last of its transfer
 last_of : (sent left n : ℕ) → sent + suc left ≡ n → eqb (n - left) n ≡ eqb left 0
 last_of sent zero n count = eq-eqb (n - 0) n (omega (arith, count))
-last_of sent (suc left) n count = eqb-apart (n - suc left) n (λ e. omega (arith, count, e))
-    ∙ sym (eqb-apart (suc left) 0 (λ e. omega (arith, e)))
+last_of sent (suc left) n count = ne_eqb (n - suc left) n (λ e. omega (arith, count, e))
+    ∙ sym (ne_eqb (suc left) 0 (λ e. omega (arith, e)))
 
 pub last-is : (job : Job) (left : ℕ) (next : NextMsg) → IsMessageOf job left next
     → ((bus : ℕ) (ms : List MessageView) → job ≡ Call bus ms → (sent : ℕ) × (sent + suc left ≡ length ms))

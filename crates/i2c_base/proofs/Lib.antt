@@ -1,4 +1,5 @@
 pub mod AliasLemmas
+pub mod Booleans
 pub mod FittingLemmas
 pub mod ListLemmas
 pub mod MuxLemmas

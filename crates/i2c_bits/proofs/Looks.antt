@@ -7,7 +7,7 @@ use Rattle.ports.specs.Causes.{counted}
 use Rattle.wire_spec.specs.Wires.{LOOKS, shifted}
 use Rattle.wire_spec.specs.Bus.{Bus, Came, came_up, gave_up, scl_level, sda_level, looked, await}
 use Rattle.wire_spec.specs.Calls.{STOP_LOOKS}
-use Rattle.i2c_bits.specs.Wiring.{Wire, wire_looked, CameUp, StayedLow}
+use Rattle.i2c_bits.specs.Wiring.{Wire, wire_looked}
 
 -- SCL is high
 pub found : {X : Type 0} (t : Table X) (v n : ℕ) (w new : Bus X) (clock level : Bool) → 0 < n → clock ≡ true → clock ≡ scl_level w
@@ -77,16 +77,3 @@ counted_next old w new made high level is low few c =
       stuck = subst (Passed STOP_LOOKS (made + 1) old.stuck) (sym (ap (λ x. x.stuck) e))
           (passed_next STOP_LOOKS made w.low old.stuck w.stuck c.low c.stuck);
     }
-
--- the last look was high, and one was left; or all were low
-pub came_up_after : (old w new : Wire) (looks made : ℕ) (high level : Bool) → new ≡ wire_looked w high level → high ≡ true → made < looks
-    → Counted made old w → CameUp looks old new
-came_up_after old w new looks made high level is up more c =
-    let e : new ≡ wire_looked w true level = is ∙ ap (λ h. wire_looked w h level) up in
-    record {
-      slow = λ few. ap (λ x. x.slow) e ∙ c.slow.before (omega arith);
-      stuck = λ few. ap (λ x. x.stuck) e ∙ c.stuck.before (omega arith);
-    }
-
-pub stayed_low : (old new : Wire) (looks made : ℕ) → made ≡ looks → Counted made old new → StayedLow looks old new
-stayed_low old new looks made all c = record { slow = λ is. c.slow.behind (all ∙ is); stuck = λ is. c.stuck.behind (all ∙ is) }

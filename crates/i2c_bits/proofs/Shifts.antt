@@ -3,7 +3,6 @@ use Rattle.std.proofs.Common.{◌≡◌, ℕ, zero, suc, ◌+◌, ◌-◌, ◌*�
 use Rattle.std.specs.Prelude.{◌==◌, not, bit_and}
 use Rattle.std.proofs.lemmas.Nat.Bits.{shr_and_one}
 use Rattle.std.proofs.Math.Nat.{pow-suc}
-use Rattle.std.proofs.Math.Pow.{pow_mono}
 use mir.Val.{bool_byte}
 use Rattle.i2c_base.specs.Table.{Table}
 use Rattle.wire_spec.specs.Wires.{LOOKS, bit, bits, shifted}
@@ -70,9 +69,6 @@ pub fits_next : (r left x : ℕ) → 0 < left → left ≤ 8 → x < 2 → r < 2
 fits_next r left x some few small fits =
     let e : 8 - (left - 1) ≡ suc (8 - left) = omega arith in
     rw e (omega (arith, pow-suc 2 (8 - left)))
-
-pub fits_byte : (r left : ℕ) → r < 2 ^ (8 - left) → r < 256
-fits_byte r left fits = let m : 2 ^ (8 - left) ≤ 2 ^ 8 = pow_mono {i = 8 - left} {j = 8} (omega arith) in omega arith
 
 pub byte_bool : (b : Bool) → bool_byte b ≡ cond b 1 0
 byte_bool true = refl

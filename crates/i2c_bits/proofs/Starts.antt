@@ -27,6 +27,8 @@ use Rattle.i2c_bits.specs.Counting.{begun_counts, start_counts}
 use Rattle.i2c_bits.specs.Stands.{AreTold, StandsIn, MayBegin, CalledTold, StartIs, StartTold, sites_of, chips_on, devices_on}
 use Rattle.i2c_bits.specs.declared.lines.SclTimeout.{SclTimeout}
 use Rattle.i2c_bits.proofs.Told.{On, on_lines, world_on, stands_on, all_kept, kept_where, shifted_same, sent_up}
+use Rattle.std.proofs.lemmas.Bool.{or_from, and_right}
+use Rattle.wire_spec.proofs.AckClock.{or_left, or_right}
 
 -- ---- a start, and a repeated one
 pub again_up : (t : Table NodeState) (k k1 : Rooted) (w w1 w2 : Bus NodeState) (level : Bool) → k1 ≡ k
@@ -127,30 +129,14 @@ started_bytes keeps byte ds all =
     (λ is. kept_where (is_named byte s) (other state_table s) (hears state_table s (is_reading byte)) (keeps.after s.state Other tt is)
     (λ was. keeps.after s.state (Start (is_reading byte)) tt is))) ds all
 
--- ---- nobody has heard where nobody acknowledges, nor holds the clock to do so
-neither : (a b : Bool) → a ≡ false → b ≡ false → (a || b) ≡ false
-neither a b p q = ap (λ x. x || b) p ∙ q
-
-first_not : (a b : Bool) → (a || b) ≡ false → a ≡ false
-first_not true b is = is
-first_not false b is = refl
-
-second_not : (a b : Bool) → (a || b) ≡ false → b ≡ false
-second_not true b is = cc
-second_not false b is = is
-
-and_false : (a b : Bool) → b ≡ false → (a && b) ≡ false
-and_false true b is = is
-and_false false b is = refl
-
 unheard_one : {X : Type 0} (t : Table X) (reading : Bool) (s : Site X) (joined named : Bool) → s.joined ≡ joined
     → (joined && (named && is_slow (t.answer s.state (Start reading)))) ≡ false
     → (joined && (named && is_ack (t.answer s.state (Start reading)))) ≡ false
     → hearing (cond joined (cond named (hears t s reading) (other t s)) s) ≡ false
 unheard_one t reading s true true is slow ack =
-    and_false s.joined (is_ack (t.answer s.state (Start reading)) || is_slow (t.answer s.state (Start reading)))
-    (neither (is_ack (t.answer s.state (Start reading))) (is_slow (t.answer s.state (Start reading))) ack slow)
-unheard_one t reading s true false is slow ack = and_false s.joined false refl
+    and_right s.joined (is_ack (t.answer s.state (Start reading)) || is_slow (t.answer s.state (Start reading)))
+    (or_from (is_ack (t.answer s.state (Start reading))) (is_slow (t.answer s.state (Start reading))) ack slow)
+unheard_one t reading s true false is slow ack = and_right s.joined false refl
 unheard_one t reading s false named is slow ack = ap (λ j. j && s.heard) is
 
 pub unheard_all : {X : Type 0} (t : Table X) (byte : ℕ) (ss : List (Site X))
@@ -159,9 +145,9 @@ pub unheard_all : {X : Type 0} (t : Table X) (byte : ℕ) (ss : List (Site X))
     → some_one hearing (map (started t byte) ss) ≡ false
 unheard_all t byte [] slow ack = refl
 unheard_all t byte (s ∷ ss) slow ack =
-    neither (hearing (started t byte s)) (some_one hearing (map (started t byte) ss))
-    (unheard_one t (is_reading byte) s s.joined (is_named byte s) refl (first_not _ _ slow) (first_not _ _ ack))
-    (unheard_all t byte ss (second_not _ _ slow) (second_not _ _ ack))
+    or_from (hearing (started t byte s)) (some_one hearing (map (started t byte) ss))
+    (unheard_one t (is_reading byte) s s.joined (is_named byte s) refl (or_left _ _ slow) (or_left _ _ ack))
+    (unheard_all t byte ss (or_right _ _ slow) (or_right _ _ ack))
 
 -- ---- which answer it is
 slow_by : (slow acked : Bool) → is_slow (answer_by slow acked) ≡ false → slow ≡ false

@@ -20,18 +20,14 @@ use Rattle.wire_spec.specs.CallLaws.{PutOnWires, GetOnWires}
 use Rattle.i2c_bits.specs.Wiring.{Rooted, the_table, mask_at, came_acked, CameRead}
 use Rattle.i2c_bits.specs.Stands.{AreTold, StandsIn, PutTold, GetTold, sites_of, chips_on, devices_on, world_at}
 use Rattle.i2c_bits.specs.declared.lines.SclTimeout.{SclTimeout}
-
--- ---- nine clocks
-not_not : (b : Bool) → not (not b) ≡ b
-not_not true = refl
-not_not false = refl
+use mathlib.Core.Bool.{not-not}
 
 module _ (t : Table NodeState) (k k1 : Rooted) (w w1 w2 : Bus NodeState) (same : k1 ≡ k) where
   pub sent_up : (byte n : ℕ) (level : Bool) → came_up n w1 ≡ bit_steps t (mask_at k) 0 (bits 8 byte) w
       → came_up (shifted 0 level) w2 ≡ bit_step t (mask_at k1) 0 true w1
       → came_acked (Ok (not level)) w2 ≡ sent_byte t (mask_at k) byte w
   sent_up byte n level e f =
-      ap (λ b. came_up (shifted 0 b) w2) (not_not level)
+      ap (λ b. came_up (shifted 0 b) w2) (not-not level)
       ∙ (f ∙ (ap (λ m. bit_step t (mask_at m) 0 true w1) same
       ∙ ap (λ c. then_bits c (bit_step t (mask_at k) 0 true c.bus)) e))
 

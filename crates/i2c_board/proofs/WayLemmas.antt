@@ -11,6 +11,7 @@ use Rattle.i2c_spec.specs.Tree.{Hop, hops, over, buses, buses_of, hop_at, hops_o
 use Rattle.i2c_spec.specs.Plain.{IsPlainBoard}
 use Rattle.i2c_spec.proofs.HopLemmas.{reverse_back, buses_of-cons, buses_of-reverse, hops_of-cross, hops_of-pass}
 use Rattle.i2c_spec.proofs.TreeLemmas.{tree_leads, tree_tail, tree_above, tree_root_hops}
+use Rattle.i2c_base.proofs.ListLemmas.{get_front, get_back}
 
 length-channel_hops : (first k : ℕ) (m : MuxSpec) (n : ℕ) → length (channel_hops first k m n) ≡ n
 length-channel_hops first k m zero = refl
@@ -29,29 +30,19 @@ length-hops_by_bus roots (m ∷ before) =
       buses_of-cons roots m before,
     )
 
-slice_get_front : {X : Type 0} (xs ys : List X) (k : ℕ) → k < length xs → slice_get (xs ++ ys) k ≡ slice_get xs k
-slice_get_front [] ys k low = absurd (omega (arith, low))
-slice_get_front (x ∷ xs) ys zero low = refl
-slice_get_front (x ∷ xs) ys (suc k) low = slice_get_front xs ys k (omega (arith, low))
-
-slice_get_back : {X : Type 0} (xs ys : List X) (k : ℕ) → slice_get (xs ++ ys) (length xs + k) ≡ slice_get ys k
-slice_get_back [] ys k = ap (slice_get ys) (let e : 0 + k ≡ k = omega arith in e)
-slice_get_back (x ∷ xs) ys k =
-    ap (slice_get (x ∷ (xs ++ ys))) (let e : suc (length xs) + k ≡ suc (length xs + k) = omega arith in e) ∙ slice_get_back xs ys k
-
 -- the hop over a channel
 read_channel : (first k : ℕ) (m : MuxSpec) (n j : ℕ) → j < n → slice_get (channel_hops first k m n) j ≡ Some (channel_hop first k m j)
 read_channel first k m zero j low = absurd (omega (arith, low))
 read_channel first k m (suc n) j low =
     let long = length-channel_hops first k m n in
     elim (cases_lt j n) [
-      | inl front ↦ slice_get_front (channel_hops first k m n) (channel_hop first k m n ∷ []) j (omega (arith, front, long))
+      | inl front ↦ get_front (channel_hops first k m n) (channel_hop first k m n ∷ []) j (omega (arith, front, long))
           ∙ read_channel first k m n j front
       | inr back ↦
           let last : j ≡ length (channel_hops first k m n) + 0 = omega (arith, back, low, long) in
           let same : n ≡ j = omega (arith, back, low) in
           ap (slice_get (channel_hops first k m (suc n))) last
-          ∙ slice_get_back (channel_hops first k m n) (channel_hop first k m n ∷ []) 0
+          ∙ get_back (channel_hops first k m n) (channel_hop first k m n ∷ []) 0
           ∙ ap (λ i. Some (channel_hop first k m i)) same
     ]
 
@@ -83,13 +74,13 @@ read_over roots (m ∷ before) s behind there =
     let long = length-hops_by_bus roots before in
     elim (cases_lt s first) [
       | inl pass ↦
-          slice_get_front (hops_by_bus roots before) (channel_hops first n m m.channels) (s - roots) (omega (arith, pass, behind, long))
+          get_front (hops_by_bus roots before) (channel_hops first n m m.channels) (s - roots) (omega (arith, pass, behind, long))
           ∙ read_over roots before s behind pass
           ∙ ap (λ (hs : List Hop). slice_get hs 0) (sym (hops_of-pass roots m before s pass))
       | inr cross ↦
           let place : s - roots ≡ length (hops_by_bus roots before) + (s - first) = omega (arith, cross, behind, long) in
           ap (slice_get (hops_by_bus roots (m ∷ before))) place
-          ∙ slice_get_back (hops_by_bus roots before) (channel_hops first n m m.channels) (s - first)
+          ∙ get_back (hops_by_bus roots before) (channel_hops first n m m.channels) (s - first)
           ∙ read_channel first n m m.channels (s - first) (omega (arith, cross, there, buses_of-cons roots m before))
           ∙ ap (λ h. Some h) (channel_hop-is roots before m s cross)
           ∙ ap (λ (hs : List Hop). slice_get hs 0) (sym (hops_of-cross roots m before s cross))

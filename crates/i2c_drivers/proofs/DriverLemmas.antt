@@ -8,8 +8,8 @@ use Rattle.std.proofs.Math.IntN.{negsuc-*ℤ-pos}
 use Rattle.std.proofs.lemmas.Bool.Decides.{leb_tells, nat_tests}
 use Rattle.std.proofs.lemmas.List.Elements.{All-nil, All-cons}
 use Rattle.bus_journal.specs.Reports.{IsLine, IsSectionLine}
-use Rattle.bus_journal.proofs.LineFeeds.{decimal-line, line-append, two_digits-line}
-use Rattle.bus_spec.specs.Lines.{errno_text, joined, spaced, spaced_digits, two_digits}
+use Rattle.bus_journal.proofs.LineFeeds.{decimal-line, line-append, two_digits-line, spaced-line}
+use Rattle.bus_spec.specs.Lines.{errno_text, joined, spaced, two_digits}
 use Rattle.i2c_base.specs.Board.{BoardView}
 use Rattle.i2c_base.specs.Bytes.{AreBytes}
 use Rattle.i2c_base.specs.declared.errno.Errno.{Errno}
@@ -29,7 +29,7 @@ use Rattle.tools.specs.declared.command.driver.DriverCmd.{DriverCmd}
 use Rattle.tools.specs.declared.command.driver.DriverCmd.TheVariants as driver
 use Rattle.tools.proofs.TableLemmas.{rows_section}
 use Rattle.tools.proofs.TransferLemmas.{IsAsk, call_asks, short_byte, short_bytes, word_bytes}
-use Rattle.tools.proofs.ValueLemmas.{others, result_line}
+use Rattle.tools.proofs.ValueLemmas.{others, result_line, errno as errno_line}
 use Rattle.i2c_drivers.specs.At24.{failure_of, eeprom_read_by, read_run, unless_failed, write_by, eeprom_write_run}
 use Rattle.i2c_drivers.specs.Bound.{eeprom_at, sensor_at}
 use Rattle.i2c_drivers.specs.Lm75.{milli_of, outcome_text, pointer_of, raw_of, read_call, reading_text, sensor_read_run, sensor_write_run, swapped, degrees_text, write_call, written_text}
@@ -46,6 +46,7 @@ use Rattle.tools.specs.declared.command.driver.lm75.RegName.TheVariants.{Temp, H
 use Rattle.i2c_drivers.specs.declared.run.DriverRun.{DriverRun}
 use Rattle.i2c_drivers.specs.declared.run.DriverRun.TheVariants as run
 use Rattle.i2c_drivers.proofs.PageLemmas.{read_asks, write_asks}
+use Rattle.tools.proofs.FormLemmas.{one_line}
 
 -- each of its transfers is within the limits
 abbrev pub AsksWithin : DriverRun → Type 0
@@ -87,14 +88,8 @@ asks (run.Sensors ss) is k within = sensors_ask ss k within
 
 -- ---- its lines
 
-errno_line : (e : Errno) → IsSectionLine (errno_text e)
-errno_line e = result_line (Err (fail.Errno e))
-
 done_line : IsSectionLine (codes "ok")
 done_line = result_line (Ok value.done)
-
-one_line : (line : List ℕ) → IsSectionLine line → All IsSectionLine (line ∷ [])
-one_line line is = All-cons IsSectionLine line [] is (All-nil IsSectionLine)
 
 -- a text whose first sign comes before j
 abbrev IsLow : List ℕ → Type 0
@@ -168,12 +163,6 @@ sensor_lines [] rs = All-nil IsSectionLine
 sensor_lines (s ∷ ss) [] = All-nil IsSectionLine
 sensor_lines (s ∷ ss) (r ∷ rs) =
     All-cons IsSectionLine (sensor_line s r) (map line_of (zip ss rs)) (sensor_section s r) (sensor_lines ss rs)
-
--- of bytes: the third sign is a space, or there is none
-spaced-line : (bytes : List ℕ) → IsLine (spaced bytes)
-spaced-line [] = refl
-spaced-line (b ∷ bytes) =
-    line-append (spaced_digits b) (spaced bytes) (line-append (codes " ") (two_digits b) refl (two_digits-line b)) (spaced-line bytes)
 
 third_low : (b : ℕ) (bytes : List ℕ) → get_or (joined (b ∷ bytes)) 2 0 < 117
 third_low b [] = omega arith

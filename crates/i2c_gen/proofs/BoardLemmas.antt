@@ -1,21 +1,20 @@
 -- The generated boards: their parts one by one, and what is computed of all eight of them.
-use Rattle.std.proofs.Common.{◌≡◌, ℕ, zero, suc, ◌+◌, ◌*◌, ◌-◌, ◌/◌, ◌%◌, ◌<◌, ◌≤◌, nat_lt, Bool, true, false, not, ◌||◌, List, [], ◌∷◌, ◌++◌, length, map, reverse, refl, sym, ◌∙◌, ap, subst, arith, rules}
-use Rattle.std.specs.List.{All, range_with_len, flat_map, list_any, sum_by}
-use Rattle.std.proofs.lemmas.Bool.{true≢false, false≢true}
+use Rattle.std.proofs.Common.{◌≡◌, ℕ, suc, ◌+◌, ◌*◌, ◌-◌, ◌/◌, ◌%◌, ◌<◌, ◌≤◌, nat_lt, Bool, true, false, not, ◌||◌, List, [], ◌∷◌, ◌++◌, length, map, reverse, refl, sym, ◌∙◌, ap, subst, arith, rules}
+use Rattle.std.specs.List.{All, range_with_len, flat_map, list_any}
+use Rattle.std.proofs.lemmas.Bool.{false≢true, or_parts}
 use Rattle.std.proofs.lemmas.Bool.Decides.{nat_tests}
 use Rattle.std.proofs.lemmas.Grind.{flat_map-append}
 use Rattle.std.proofs.lemmas.List.Elements.{All-nil, All-cons, All-append, All-from_recursion, All-map}
-use Rattle.std.proofs.lemmas.List.Sums.{sum_by-cons}
 use Rattle.std.proofs.lemmas.List.FromFn.{length-map-range_with_len, map-range_with_len_more}
 use Rattle.i2c_base.specs.declared.board.MuxSpec.{MuxSpec}
 use Rattle.i2c_base.specs.Board.{BoardView}
 use Rattle.i2c_base.specs.Limits.{MOST_ROOTS, MOST_DEVICES}
-use Rattle.i2c_spec.specs.Flat.{block_limit}
 use Rattle.i2c_spec.specs.Plain.{IsPlainMux, IsPlainDevice, IsPlanted, IsPlainBoard}
 use Rattle.i2c_spec.specs.Rules.{some_below, NoPair, NoneOf, MeetsRules, items, clashes, is_too_deep, is_locked_under, is_wrongly_locked, breaks_idle}
 use Rattle.i2c_spec.specs.Tree.{buses, buses_of}
 use Rattle.i2c_spec.proofs.IdleLemmas.{one_below}
 use Rattle.i2c_gen.specs.Boards.{bus_of, switch_of, devices_on, devices_of, made_board}
+use Rattle.i2c_base.proofs.ListLemmas.{range_more}
 
 -- ---- one part more
 
@@ -24,12 +23,6 @@ roots_more n = map-range_with_len_more (λ r. record { smbus_only = false }) 0 n
 
 pub switches_more : (n : ℕ) → map switch_of (range_with_len 0 (n + 1)) ≡ map switch_of (range_with_len 0 n) ++ switch_of n ∷ []
 switches_more n = map-range_with_len_more switch_of 0 n n (omega arith)
-
-range_more : (a n : ℕ) → range_with_len a (suc n) ≡ range_with_len a n ++ (a + n) ∷ []
-range_more a zero = ap (λ (x : ℕ). x ∷ []) (let e : a ≡ a + 0 = omega arith in e)
-range_more a (suc n) =
-    ap (λ (xs : List ℕ). a ∷ xs) (range_more (a + 1) n)
-    ∙ ap (λ (x : ℕ). a ∷ range_with_len (a + 1) n ++ x ∷ []) (let e : a + 1 + n ≡ a + suc n = omega arith in e)
 
 pub devices_more : (roots n : ℕ) → flat_map (devices_of roots) (range_with_len 0 (n + 1))
     ≡ flat_map (devices_of roots) (range_with_len 0 n) ++ devices_on (roots + n) (n % 8)
@@ -49,22 +42,6 @@ roots_count n = length-map-range_with_len (λ r. record { smbus_only = false }) 
 
 muxes_count : (n : ℕ) → length (made_board n).muxes ≡ n
 muxes_count n = length-map-range_with_len switch_of 0 n
-
-channels_in : (a n : ℕ) → sum_by (λ m. m.channels) (map switch_of (range_with_len a n)) ≡ 8 * n
-channels_in a zero = refl
-channels_in a (suc n) =
-    sum_by-cons (λ (m : MuxSpec). m.channels) (switch_of a) (map switch_of (range_with_len (a + 1) n))
-    ∙ ap (λ (k : ℕ). 8 + k) (channels_in (a + 1) n) ∙ (let e : 8 + 8 * n ≡ 8 * suc n = omega arith in e)
-
--- each root is a bus, and each of the eight channels of its switch
-pub buses_made : (n : ℕ) → buses (made_board n) ≡ 9 * n
-buses_made n = omega (arith, roots_count n, channels_in 0 n)
-
-pub bus_is_there : (roots root channel : ℕ) → root < roots → channel < 8 → bus_of roots root channel < buses (made_board roots)
-bus_is_there roots root channel some within = omega (arith, buses_made roots)
-
-pub limit_made : (n : ℕ) → block_limit (made_board n) ≡ 32
-limit_made n = refl
 
 -- ---- all eight boards
 
@@ -145,11 +122,6 @@ all_flat : {X : Type 0} (P : X → Type 0) (f : ℕ → List X) → ((k : ℕ) �
 all_flat P f each [] = All-nil P
 all_flat P f each (k ∷ ks) = All-append P (f k) (flat_map f ks) (each k) (all_flat P f each ks)
 
--- neither of two
-neither : (a b : Bool) → (a || b) ≡ false → (a ≡ false) × (b ≡ false)
-neither false b none = (refl, none)
-neither true b none = absurd (true≢false none)
-
 pub below_by : (a b : ℕ) → not (nat_lt a b) ≡ false → a < b
 below_by a b h = grind (arith, nat_tests)
 
@@ -160,7 +132,7 @@ all_but : {X : Type 0} (test : X → Bool) (P : X → Type 0) → ((x : X) → t
     → (xs : List X) → list_any test xs ≡ false → All P xs
 all_but test P each [] none = All-nil P
 all_but test P each (x ∷ xs) none =
-    let parts = neither (test x) (list_any test xs) none in
+    let parts = or_parts (test x) (list_any test xs) none in
     All-cons P x xs (each x parts.0) (all_but test P each xs parts.1)
 
 -- some mux stands on a bus that doesn't come before its own channels
@@ -171,7 +143,7 @@ is_unplanted roots (m ∷ before) = not (nat_lt m.bus (buses_of roots before)) |
 planted : (roots : ℕ) (ms : List MuxSpec) → is_unplanted roots ms ≡ false → IsPlanted roots ms
 planted roots [] none = tt
 planted roots (m ∷ before) none =
-    let parts = neither (not (nat_lt m.bus (buses_of roots before))) (is_unplanted roots before) none in
+    let parts = or_parts (not (nat_lt m.bus (buses_of roots before))) (is_unplanted roots before) none in
     (below_by m.bus (buses_of roots before) parts.0, planted roots before parts.1)
 
 all_placed : (n : ℕ) → 1 ≤ n → n ≤ 8 → All (λ d. d.bus < buses (made_board n)) (made_board n).devices

@@ -1,36 +1,13 @@
 -- What the transfers on a generated board cost.
-use Rattle.std.proofs.Common.{◌≡◌, ℕ, ◌+◌, ◌*◌, ◌<◌, ◌≤◌, nat_lt, Bool, true, false, cond, List, [], ◌∷◌, refl, ap, ◌∙◌, arith}
+use Rattle.std.proofs.Common.{◌≡◌, ℕ, ◌+◌, ◌<◌, ◌≤◌, nat_lt, Bool, true, false, cond, refl, arith}
 use Rattle.std.proofs.lemmas.Bool.Decides.{nat_tests}
-use Rattle.i2c_base.specs.declared.board.MuxKind.{MuxKind}
-use Rattle.i2c_base.specs.Muxes.{facts_of}
 use Rattle.i2c_base.specs.Transfer.{TransferView}
-use Rattle.i2c_spec.specs.Cost.{lock_steps, behind_by, behind_cost, inner_cost, full_cost, steps_of, cost_of}
+use Rattle.i2c_spec.specs.Cost.{full_cost, steps_of, cost_of}
 use Rattle.i2c_spec.specs.Rules.{some_below}
-use Rattle.i2c_spec.specs.Tree.{Hop, hops, buses}
+use Rattle.i2c_spec.specs.Tree.{hops, buses}
 use Rattle.i2c_gen.specs.Boards.{bus_of, made_board}
 use Rattle.i2c_gen.proofs.BoardLemmas.{not_below, of_eight, within_by}
-
--- a job's own steps are counted beside what the way takes
-behind_beside : (kind : MuxKind) (control job x : ℕ) → behind_cost kind control (job + x) ≡ behind_cost kind control job + x
-behind_beside kind control job x = by_facts (facts_of kind).by_line (facts_of kind).asks
-  where
-    by_facts : (by_line asks : Bool) → behind_by by_line asks control (job + x) ≡ behind_by by_line asks control job + x
-    by_facts true asks = omega arith
-    by_facts false true = omega arith
-    by_facts false false = omega arith
-
-inner_beside : (hs : List Hop) (x : ℕ) → inner_cost hs x ≡ inner_cost hs 0 + x
-inner_beside [] x = omega arith
-inner_beside (h ∷ hs) x = by_lock (inner_beside hs x) h.parent
-  where
-    by_lock : inner_cost hs x ≡ inner_cost hs 0 + x → (t : Bool)
-        → cond t (behind_cost h.kind (inner_cost hs 2) (inner_cost hs x))
-        (3 * (lock_steps hs + inner_cost hs 2) + (lock_steps hs + inner_cost hs x))
-        ≡ cond t (behind_cost h.kind (inner_cost hs 2) (inner_cost hs 0))
-        (3 * (lock_steps hs + inner_cost hs 2) + (lock_steps hs + inner_cost hs 0)) + x
-    by_lock before true = ap (λ (y : ℕ). behind_cost h.kind (inner_cost hs 2) y) before
-        ∙ behind_beside h.kind (inner_cost hs 2) (inner_cost hs 0) x
-    by_lock before false = omega (arith, before)
+use Rattle.i2c_spec.proofs.CostLemmas.{inner_more}
 
 below_from : (a b : ℕ) → nat_lt a b ≡ true → a < b
 below_from a b h = grind (arith, nat_tests)
@@ -55,7 +32,7 @@ few_cost roots some most t few = by_bus (nat_lt t.bus (buses (made_board roots))
     by_bus true h =
         let hs = hops (made_board roots) t.bus in
         let way : full_cost hs 0 ≤ 16 = way_within roots t.bus some most (below_from t.bus (buses (made_board roots)) h) in
-        omega (arith, way, few, inner_beside hs (steps_of (made_board roots) t))
+        omega (arith, way, few, inner_more hs (steps_of (made_board roots) t))
 
 pub bus_cost : (roots root channel : ℕ) → 1 ≤ roots → roots ≤ 8 → root < roots → channel < 8
     → (t : TransferView) → t.bus ≡ bus_of roots root channel → steps_of (made_board roots) t ≤ 8 → cost_of (made_board roots) t ≤ 125

@@ -1,5 +1,5 @@
 -- Draws that come one behind another.
-use Rattle.std.proofs.Common.{◌≡◌, ℕ, zero, suc, ◌+◌, ◌++◌, [], ◌∷◌, map, refl, sym, ◌∙◌, ap, subst, arith}
+use Rattle.std.proofs.Common.{◌≡◌, ℕ, suc, ◌+◌, ◌++◌, [], ◌∷◌, map, refl, sym, ◌∙◌, ap, subst, arith}
 use Rattle.std.specs.List.{range_with_len}
 use Rattle.std.proofs.lemmas.List.FromFn.{map-range_with_len_more}
 use Rattle.i2c_gen.specs.Draws.{behind, drawn, number_behind, draw}
@@ -12,13 +12,6 @@ number_behind_next seed n x e =
 -- the draw that it leads to
 pub drawn_next : (seed n x many : ℕ) → x ≡ number_behind seed n → drawn (behind x) many ≡ draw seed n many
 drawn_next seed n x many e = ap (λ (y : ℕ). drawn (behind y) many) e
-
--- the number behind more draws is counted from the number behind some
-pub number_behind_more : (seed n k : ℕ) → number_behind seed (n + k) ≡ number_behind (number_behind seed n) k
-number_behind_more seed n zero = ap (number_behind seed) (let e : n + 0 ≡ n = omega arith in e)
-number_behind_more seed n (suc k) =
-    subst (λ (j : ℕ). number_behind seed j ≡ behind (number_behind (number_behind seed n) k))
-    (let e : suc (n + k) ≡ n + suc k = omega arith in e) (ap behind (number_behind_more seed n k))
 
 -- one draw more from the first on
 pub draws_more : (seed first n x many word : ℕ) → x ≡ number_behind seed (first + n) → word ≡ drawn (behind x) many

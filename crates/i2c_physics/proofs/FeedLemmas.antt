@@ -2,7 +2,7 @@
 use Rattle.std.proofs.Common.{◌≡◌, ℕ, ◌+◌, ◌<◌, Bool, true, false, ◌&&◌, ◌||◌, List, [], ◌∷◌, ◌++◌, length, None, refl, sym, ◌∙◌, ap, subst, inl, inr, arith}
 use Rattle.std.specs.Prelude.{not, if◌then◌else◌}
 use Rattle.std.specs.List.{filter, range_with_len}
-use Rattle.std.proofs.lemmas.Bool.{cases_Bool, or_cases}
+use Rattle.std.proofs.lemmas.Bool.{cases_Bool, or_cases, and_parts}
 use Rattle.std.proofs.lemmas.List.{length-map}
 use Rattle.std.proofs.lemmas.List.Folds.{list_any-append}
 use Rattle.i2c_base.specs.declared.ids.Node.{Node}
@@ -25,7 +25,7 @@ use Rattle.i2c_physics.specs.SimWorlds.{seen_on, IsSimWorld}
 use Rattle.i2c_physics.specs.Answering.{wired_and_of, start_answer}
 use Rattle.i2c_physics.specs.declared.wired_and.WiredAnd.{WiredAnd}
 use Rattle.i2c_physics.specs.declared.reach.Reach.{Reach}
-use Rattle.i2c_physics.proofs.NumberLemmas.{and_true, filter-among, rising-filter, rising-of_range}
+use Rattle.i2c_physics.proofs.NumberLemmas.{filter-among, rising-filter, rising-of_range}
 use Rattle.i2c_physics.proofs.OwnLemmas.{other-apart, joined-own, length-seen, feed-seen, answers-seen}
 use Rattle.i2c_physics.proofs.PlaceLemmas.{chip-started, chip-stopped, device-started, device-stopped}
 use Rattle.i2c_physics.proofs.ReachLemmas.{reached-sent, stopped-fed, reached-stopped, started-fed, started-heard, reached-started}
@@ -245,7 +245,7 @@ module _ (b : BoardView) (root : ℕ) (muxes places : List PlaceView) (chips : L
         (range_with_len 0 (length states)) k among).1) [
           | inl before ↦ inv.reached_own k before
           | inr called ↦ joined-own b root places inv.device_places k chips
-              (and_true (has_at a places k) (joins_at chips places k)
+              (and_parts (has_at a places k) (joins_at chips places k)
               (filter-among (λ m. has_at a places m && joins_at chips places m) (range_with_len 0 (length places)) k called).1).1
         ]
 

@@ -1,14 +1,13 @@
 -- A line is set: a chip that was quiet stays so, and the program's chips and devices are as they are opened.
-use Rattle.std.proofs.Common.{◌≡◌, ◌≢◌, ℕ, zero, suc, ◌<◌, ◌≤◌, Bool, true, false, List, [], ◌∷◌, length, map, set, Option, Some, None, refl, sym, ◌∙◌, ap, subst, inl, inr, arith}
-use Rattle.std.specs.Prelude.{not, if◌then◌else◌, slice_get}
+use Rattle.std.proofs.Common.{◌≡◌, ◌≢◌, ℕ, zero, suc, ◌<◌, ◌≤◌, false, List, [], ◌∷◌, length, map, set, Some, None, refl, sym, ◌∙◌, ap, subst, inl, inr, arith}
+use Rattle.std.specs.Prelude.{slice_get}
 use Rattle.std.specs.Option.{option_map}
 use Rattle.std.proofs.lemmas.List.{length-map, length-set}
 use Rattle.std.proofs.lemmas.Bool.Decides.{eqb_tells}
 use Rattle.std.proofs.lemmas.Option.{slice_get-map, slice_get_cases}
-use Rattle.i2c_base.specs.Muxes.{facts_of}
 use Rattle.i2c_base.specs.Board.{BoardView}
 use Rattle.i2c_base.specs.Table.{Table}
-use Rattle.i2c_spec.specs.Chips.{ChipView, chip_table, chip_opening, at_level, chip_stopped, arbitrated, is_free, kept_bits, bit_of}
+use Rattle.i2c_spec.specs.Chips.{ChipView, chip_table, chip_opening, at_level}
 use Rattle.i2c_spec.specs.Targets.{TargetState, IsQuiet}
 use Rattle.i2c_spec.specs.World.{set_level, opening_world}
 use Rattle.i2c_physics.specs.Reach.{IsReach}
@@ -16,38 +15,8 @@ use Rattle.i2c_physics.specs.SimWorlds.{opened_on}
 use Rattle.i2c_physics.proofs.FeedLemmas.{world_of}
 use Rattle.i2c_physics.proofs.OwnLemmas.{seen-opened}
 use Rattle.i2c_base.proofs.ListLemmas.{set_here}
-
-some_same : {A : Type 0} {x y : A} → Some x ≡ Some y → x ≡ y
-some_same e = cc
-
-no_byte : (c : ChipView) (byte : ℕ) (b d : Bool)
-    → (if b then record c { control = 0; waiting = None; left = c.foreign } else if d then record c {
-      control = 1;
-      waiting = None;
-    } else record c { waiting = None }).waiting ≡ None
-no_byte c byte true d = refl
-no_byte c byte false true = refl
-no_byte c byte false false = refl
-
-still : (c d : ChipView) (byte : ℕ) → d ≡ c → d.waiting ≡ None → c.waiting ≡ Some byte → ⊥
-still c d byte same none some = let e : None ≡ Some byte = sym none ∙ ap (λ (x : ChipView). x.waiting) same ∙ some in cc
-
--- what a byte that waits makes of a chip, by the facts of its kind
-abbrev taken_by : (asks by_line : Bool) → ℕ → ChipView → ℕ → ChipView
-taken_by asks by_line kept c byte = if asks then arbitrated c byte else if by_line then c else record c { control = kept; waiting = None }
-
-level_taken : (asks by_line : Bool) (kept : ℕ) (c : ChipView) (level byte : ℕ) → c.waiting ≡ Some byte
-    → taken_by asks by_line kept c byte ≡ c → taken_by asks by_line kept (at_level c level) byte ≡ at_level c level
-level_taken true by_line kept c level byte waits same =
-    absurd (still c (arbitrated c byte) byte same (no_byte c byte (not (bit_of byte 0)) (is_free c)) waits)
-level_taken false true kept c level byte waits same = refl
-level_taken false false kept c level byte waits same = absurd (still c (record c { control = kept; waiting = None }) byte same refl waits)
-
-level_stop : (c : ChipView) (level : ℕ) (waiting : Option ℕ) → c.waiting ≡ waiting → chip_stopped c waiting ≡ c
-    → chip_stopped (at_level c level) waiting ≡ at_level c level
-level_stop c level None waits same = refl
-level_stop c level (Some byte) waits same =
-    level_taken (facts_of c.kind).asks (facts_of c.kind).by_line (kept_bits c.kind byte) c level byte waits same
+use Rattle.bus_lines.proofs.StopLemmas.{level_stop}
+use Rattle.bus_lines.proofs.NumberedLemmas.{same_some}
 
 level_quiet : (c : ChipView) (level : ℕ) → IsQuiet chip_table c → IsQuiet chip_table (at_level c level)
 level_quiet c level quiet = record { other = refl; stop = level_stop c level c.waiting refl quiet.stop }
@@ -58,7 +27,7 @@ of_map : {A B : Type 0} (P : B → Type 0) (f : A → B) (xs : List A) (k : ℕ)
 of_map P f xs k y is each =
     elim (slice_get_cases xs k).1 [
       | inl x ↦ (let e : Some (f x.0) ≡ Some y = ap (option_map f) (sym x.2) ∙ sym (slice_get-map f xs k) ∙ is in
-          subst P (some_same e) (each x.0))
+          subst P (same_some e) (each x.0))
       | inr none ↦ absurd (let e : None ≡ Some y = ap (option_map f) (sym none.1) ∙ sym (slice_get-map f xs k) ∙ is in cc)
     ]
 
@@ -100,7 +69,7 @@ quiet-in-place t xs m y started hearing low quiet reached =
       hearing_started = reached.hearing_started;
       quiet = λ k x got out. elim (eqb_tells k m) [
         | inl same ↦ (let e : Some y ≡ Some x = sym (ap (slice_get (set xs m y)) same.1 ∙ set_here xs m y low) ∙ got in
-            subst (IsQuiet t) (some_same e) quiet)
+            subst (IsQuiet t) (same_some e) quiet)
         | inr other ↦ reached.quiet k x (sym (got_other xs m k y other.1) ∙ got) out
       ];
     }
@@ -112,7 +81,7 @@ set_quiet chips m level c is low k x got quiet =
     elim (eqb_tells k m) [
       | inl same ↦ (let e : Some (at_level c level) ≡ Some x = sym (ap (slice_get (set chips m (at_level c level))) same.1
           ∙ set_here chips m (at_level c level) low) ∙ got in
-          subst (IsQuiet chip_table) (some_same e) (level_quiet c level (quiet c (ap (slice_get chips) same.1 ∙ is))))
+          subst (IsQuiet chip_table) (same_some e) (level_quiet c level (quiet c (ap (slice_get chips) same.1 ∙ is))))
       | inr other ↦ quiet x (sym (got_other chips m k (at_level c level) other.1) ∙ got)
     ]
 

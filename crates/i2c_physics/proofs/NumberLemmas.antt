@@ -2,7 +2,7 @@
 use Rattle.std.proofs.Common.{◌≡◌, ℕ, zero, suc, ◌+◌, ◌-◌, ◌<◌, ◌≤◌, Bool, true, false, ◌&&◌, ◌||◌, cond, List, [], ◌∷◌, ◌++◌, length, drop, refl, sym, ◌∙◌, ap, subst, arith, inl, inr}
 use Rattle.std.specs.Prelude.{◌==◌}
 use Rattle.std.specs.List.{filter, list_all, range_with_len}
-use Rattle.std.proofs.lemmas.Bool.{ne_eqb, eqb-false}
+use Rattle.std.proofs.lemmas.Bool.{ne_eqb, eqb-false, and_parts}
 use Rattle.std.proofs.lemmas.Bool.Decides.{eqb_tells}
 use Rattle.std.proofs.lemmas.List.{map-id}
 use Rattle.std.proofs.lemmas.List.FromFn.{filter_of_map_range_with_len_more}
@@ -86,12 +86,8 @@ pub among-filter : (p : ℕ → Bool) (ns : List ℕ) (k : ℕ) → is_among (fi
 among-filter p [] k = refl
 among-filter p (n ∷ ns) k = among_if p (p n) n k ns (filter p ns) refl (among-filter p ns k)
 
-pub and_true : (b c : Bool) → (b && c) ≡ true → (b ≡ true) × (c ≡ true)
-and_true true c e = (refl, e)
-and_true false c e = absurd (let f : true ≡ false = sym e in cc)
-
 pub filter-among : (p : ℕ → Bool) (ns : List ℕ) (k : ℕ) → is_among (filter p ns) k ≡ true → (is_among ns k ≡ true) × (p k ≡ true)
-filter-among p ns k among = and_true (is_among ns k) (p k) (sym (among-filter p ns k) ∙ among)
+filter-among p ns k among = and_parts (is_among ns k) (p k) (sym (among-filter p ns k) ∙ among)
 
 among_from : (low n k : ℕ) → low ≤ k → k < low + n → is_among (range_with_len low n) k ≡ true
 among_from low zero k at below = absurd (omega arith)
@@ -153,7 +149,7 @@ either_none count (n ∷ none) ns empty r = absurd (omega arith)
 or_has : (ns ms : List ℕ) → list_all (is_among ns) ms ≡ true → (k : ℕ) → (is_among ns k || is_among ms k) ≡ is_among ns k
 or_has ns [] all k = or-false (is_among ns k)
 or_has ns (m ∷ ms) all k =
-    let both = and_true (is_among ns m) (list_all (is_among ns) ms) all in
+    let both = and_parts (is_among ns m) (list_all (is_among ns) ms) all in
     elim (eqb_tells m k) [
       | inl same ↦ (let in_ns : is_among ns k ≡ true = ap (is_among ns) (sym same.1) ∙ both.0 in rw in_ns refl)
       | inr other ↦ rw other.0 (or_has ns ms both.1 k)

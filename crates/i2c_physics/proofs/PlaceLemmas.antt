@@ -1,5 +1,5 @@
 -- Where a target stands, by its place: the world says the same by its number.
-use Rattle.std.proofs.Common.{◌≡◌, ℕ, ◌<◌, ◌==◌, Bool, true, false, ◌&&◌, List, length, map, Some, refl, ◌∙◌, ap}
+use Rattle.std.proofs.Common.{◌≡◌, ℕ, ◌<◌, ◌==◌, Bool, false, ◌&&◌, List, length, map, Some, refl, ◌∙◌, ap}
 use Rattle.std.specs.Prelude.{not, slice_get, is_some}
 use Rattle.std.specs.List.{list_all}
 use Rattle.std.specs.Option.{option_map, option_map_or}
@@ -12,10 +12,7 @@ use Rattle.i2c_spec.specs.Tree.{hops, root_of}
 use Rattle.i2c_spec.specs.World.{World, opens_hop, joins_chip, joins_device, chip_start, device_start, start_event, stop_event}
 use Rattle.i2c_physics.specs.Places.{PlaceView, mux_place, device_place, joins}
 use Rattle.i2c_physics.specs.Reach.{joins_at, has_at}
-
-and_assoc : (a b c : Bool) → ((a && b) && c) ≡ (a && (b && c))
-and_assoc true b c = refl
-and_assoc false b c = refl
+use mathlib.Core.Bool.{and_assoc}
 
 joins_mux : (w : World) (m : ℕ) (x : MuxSpec) → slice_get w.board.muxes m ≡ Some x
     → joins w.chips (mux_place w.board w.root x) ≡ joins_chip w m

@@ -16,7 +16,7 @@ use Rattle.i2c_spec.specs.World.{World, AreWorldsOf, device_in, devices_of}
 use Rattle.i2c_spec.proofs.TreeLemmas.{tree_root_is}
 use Rattle.bus_lines.specs.Owned.{is_own, owns}
 use Rattle.i2c_physics.specs.SimRigs.{device_of, state_at, states_from, IsThere}
-use Rattle.i2c_physics.proofs.WiredAndLemmas.{same_number}
+use Rattle.wire_spec.proofs.WorldLemmas.{eq_self}
 
 -- these devices are those of the board from number k on
 abbrev AreFrom : BoardView → ℕ → List DeviceView → Type 0
@@ -27,10 +27,6 @@ here b k d ds from = rw add-zero at (from 0)
 
 next : (b : BoardView) (k : ℕ) (d : DeviceView) (ds : List DeviceView) → AreFrom b k (d ∷ ds) → AreFrom b (k + 1) ds
 next b k d ds from i = let e : k + 1 + i ≡ k + suc i = omega arith in rw e (from (suc i))
-
-pub empty-from_length : {A : Type 0} (xs : List A) → length xs ≡ 0 → xs ≡ []
-empty-from_length [] h = refl
-empty-from_length (x ∷ xs) h = absurd (omega arith)
 
 pub count_of_worlds : (b : BoardView) (ws : List World) → AreWorldsOf b ws → length ws ≡ length b.roots
 count_of_worlds b ws of = sym (length-map ws (λ w. w.root)) ∙ ap length of.roots ∙ length-range_with_len 0 (length b.roots)
@@ -68,7 +64,7 @@ is_there b ws home k of h own there =
 
 -- a device is of the root that its bus hangs from
 own_root : (b : BoardView) (k : ℕ) (d : DeviceView) → slice_get b.devices k ≡ Some d → is_own b (root_of b d.bus) k ≡ true
-own_root b k d is = rw is (same_number (root_of b d.bus))
+own_root b k d is = rw is (eq_self (root_of b d.bus))
 
 states_are : (b : BoardView) (ws : List World) (k : ℕ) (ds : List DeviceView) → IsPlainBoard b → AreWorldsOf b ws
     → AreFrom b k ds → All (λ d. d.bus < buses b) ds

@@ -11,7 +11,7 @@ use Rattle.i2c_physics.specs.Places.{PlaceView}
 use Rattle.i2c_physics.specs.Reach.{has_at}
 use Rattle.i2c_physics.specs.Sites.{numbers_at, numbers_below, IsIndex}
 use Rattle.i2c_physics.proofs.NumberLemmas.{filter_more, rising-length, rising-of_range}
-use Rattle.i2c_physics.proofs.WiredAndLemmas.{same_number}
+use Rattle.wire_spec.proofs.WorldLemmas.{eq_self}
 
 pub length-at : (places : List PlaceView) (a : ℕ) → length (numbers_at places a) ≤ length places
 length-at places a = omega (
@@ -85,7 +85,7 @@ module _ (places : List PlaceView) (n : ℕ) (p : PlaceView) (low : n < length p
     listed-here v w was grown =
         let here : numbers w ≡ numbers_below places (n + 1) (0 + a) =
         grown ∙ ap (λ ns. ns ++ n ∷ []) (get-listed numbers (numbers_below places n) at listed a within v was)
-        ∙ sym (one_more a true (ap (has_address a) some ∙ same_number a)) ∙ ap (numbers_below places (n + 1)) (sym (zero-add a)) in
+        ∙ sym (one_more a true (ap (has_address a) some ∙ eq_self a)) ∙ ap (numbers_below places (n + 1)) (sym (zero-add a)) in
         map-set numbers at a w ∙ ap (λ ls. set ls a (numbers w)) listed
         ∙ ap (set (map (numbers_below places n) (range_with_len 0 128)) a) here
         ∙ one_list (numbers_below places n) (numbers_below places (n + 1)) 0 128 a within elsewhere

@@ -1,9 +1,8 @@
 -- Targets that are told of an event by their numbers, the highest number first: one target more.
-use Rattle.std.proofs.Common.{◌≡◌, ◌≢◌, ℕ, zero, suc, ◌+◌, ◌<◌, ◌≤◌, true, false, List, [], ◌∷◌, ◌++◌, length, map, drop, get_or, set, Option, Some, None, refl, sym, ap, ◌∙◌, subst, inl, inr, arith, add-zero, zero-add}
+use Rattle.std.proofs.Common.{◌≡◌, ◌≢◌, ℕ, zero, suc, ◌+◌, ◌<◌, ◌≤◌, true, false, List, [], ◌∷◌, ◌++◌, length, map, drop, get_or, set, Option, Some, None, refl, sym, ap, ◌∙◌, subst, arith, add-zero, zero-add}
 use Rattle.std.specs.Prelude.{◌==◌}
 use Rattle.std.specs.List.{range_with_len}
 use Rattle.std.proofs.lemmas.Bool.{ne_eqb}
-use Rattle.std.proofs.lemmas.Bool.Decides.{eqb_tells}
 use Rattle.std.proofs.lemmas.List.{at_drop_more}
 use Rattle.std.proofs.Math.Seq.{drop-length}
 use Rattle.std.proofs.lemmas.List.FromFn.{map-range_with_len_more}
@@ -14,13 +13,11 @@ use Rattle.i2c_spec.specs.World.{feed, given, answers, answer_with}
 use Rattle.i2c_spec.proofs.FeedLemmas.{feed-same}
 use Rattle.i2c_physics.specs.Reach.{AreRising, to_those}
 use Rattle.i2c_physics.proofs.NumberLemmas.{rising-apart, rising-drop}
+use Rattle.wire_spec.proofs.WorldLemmas.{eq_self}
 
 -- one number more
 pub listed_more : {X : Type 0} (f : ℕ → X) (n : ℕ) → map f (range_with_len 0 (n + 1)) ≡ map f (range_with_len 0 n) ++ f n ∷ []
 listed_more f n = map-range_with_len_more f 0 n n (omega arith)
-
-pub same_number : (n : ℕ) → (n == n) ≡ true
-same_number n = elim (eqb_tells n n) [ inl x ↦ x.0 | inr x ↦ absurd (x.1 refl) ]
 
 module _ {X : Type 0} (t : Table X) where
   pub answers-same : (f g : ℕ → Option Event) (k : ℕ) (xs : List X)
@@ -85,7 +82,7 @@ module _ {X : Type 0} (t : Table X) where
     other k ne = let differs : (n == k) ≡ false = ne_eqb n k (λ e. ne (sym e ∙ sym (zero-add n))) in rw differs refl
 
     this : to_those (n ∷ rest) event (0 + n) ≡ Some event
-    this = let same : (n == 0 + n) ≡ true = rw zero-add (same_number n) in rw same refl
+    this = let same : (n == 0 + n) ≡ true = rw zero-add (eq_self n) in rw same refl
 
     below : (k : ℕ) → k < 0 + n + 1 → to_those rest event k ≡ None
     below k low = rw (rising-apart (n + 1) high rest rising k (omega (arith, low))) refl

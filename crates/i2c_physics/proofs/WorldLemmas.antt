@@ -1,9 +1,8 @@
 -- What chips and devices answer together is what the world answers. The inductions go over the answers.
-use Rattle.std.proofs.Common.{◌≡◌, ℕ, ◌+◌, ◌<◌, Bool, true, false, cond, ◌||◌, ◌==◌, List, [], ◌∷◌, ◌++◌, Some, None, bit_and, refl, sym, ap, ◌∙◌, arith}
+use Rattle.std.proofs.Common.{◌≡◌, ℕ, ◌+◌, ◌<◌, Bool, true, false, cond, ◌||◌, ◌==◌, List, [], ◌∷◌, ◌++◌, Some, None, bit_and, refl, sym, ap, ◌∙◌}
 use Rattle.std.specs.Prelude.{map}
 use Rattle.std.specs.List.{list_any}
 use Rattle.std.proofs.lemmas.Nat.{and_assoc}
-use Rattle.std.proofs.lemmas.Grind.{common_steps}
 use Rattle.i2c_base.specs.declared.ids.Node.{Node}
 use Rattle.i2c_base.specs.declared.ids.Node.TheVariants as node
 use Rattle.i2c_base.specs.declared.event.Event.{Event}
@@ -18,6 +17,7 @@ use Rattle.i2c_physics.specs.Heard.{numbers_of, nodes_of}
 use Rattle.i2c_physics.specs.Places.{event_if}
 use Rattle.i2c_physics.specs.Reach.{is_among, to_those}
 use Rattle.i2c_physics.specs.Answering.{chips_say, devices_say}
+use Rattle.wire_spec.proofs.WorldLemmas.{all_ones}
 
 -- those who have heard, by name and by number
 named_if : (name : ℕ → Node) (b : Bool) (n : ℕ) (xs : List Node) (ns : List ℕ) → xs ≡ map name ns
@@ -34,10 +34,6 @@ pub hearers_told : (w : World) (a : ℕ) (reading : Bool)
 hearers_told w a reading =
     ap (λ l. l ++ heard_of node.Device (start_devices w a reading)) (heard_named node.Chip (start_chips w a reading))
     ∙ ap (λ l. map node.Chip (numbers_of (start_chips w a reading)) ++ l) (heard_named node.Device (start_devices w a reading))
-
--- the bytes of two lists of answers
-all_ones : (n : ℕ) → n < 256 → n ≡ bit_and 255 n
-all_ones n small = grind (arith, common_steps)
 
 and_of-append : (xs ys : List (ℕ × Answer)) → and_of ys < 256 → and_of (xs ++ ys) ≡ bit_and (and_of xs) (and_of ys)
 and_of-append [] ys small = all_ones (and_of ys) small

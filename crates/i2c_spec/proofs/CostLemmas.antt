@@ -15,6 +15,7 @@ use Rattle.i2c_spec.specs.Cost.{bytes_of, lock_steps, behind_by, behind_cost, in
 use Rattle.i2c_spec.specs.Plain.{IsPlainBoard}
 use Rattle.i2c_spec.specs.Rules.{MeetsRules}
 use Rattle.i2c_spec.proofs.AddressLemmas.{tree_of}
+use Rattle.i2c_base.specs.declared.board.MuxKind.{MuxKind}
 
 bytes_by : (t : Bool) (limit len : ℕ) → limit ≤ LARGEST_BLOCK → len ≤ MOST_LENGTH → cond t (limit + len) len ≤ 767
 bytes_by true limit len l h = omega (arith, l)
@@ -77,7 +78,11 @@ by_more true asks control job x = omega arith
 by_more false true control job x = omega arith
 by_more false false control job x = omega arith
 
-inner_more : (hs : List Hop) (x : ℕ) → inner_cost hs x ≡ inner_cost hs 0 + x
+-- a job's own steps are counted beside what the way takes
+pub behind_beside : (kind : MuxKind) (control job x : ℕ) → behind_cost kind control (job + x) ≡ behind_cost kind control job + x
+behind_beside kind control job x = by_more (facts_of kind).by_line (facts_of kind).asks control job x
+
+pub inner_more : (hs : List Hop) (x : ℕ) → inner_cost hs x ≡ inner_cost hs 0 + x
 inner_more [] x = omega arith
 inner_more (h ∷ hs) x =
     let more : inner_cost hs x ≡ inner_cost hs 0 + x = inner_more hs x in
@@ -85,7 +90,7 @@ inner_more (h ∷ hs) x =
     let locks : ℕ = lock_steps hs in
     elim h.parent as (λ b. cond b (behind_cost h.kind control (inner_cost hs x)) (3 * (locks + control) + (locks + inner_cost hs x))
     ≡ cond b (behind_cost h.kind control (inner_cost hs 0)) (3 * (locks + control) + (locks + inner_cost hs 0)) + x) [
-      | true ↦ rw more (by_more (facts_of h.kind).by_line (facts_of h.kind).asks control (inner_cost hs 0) x)
+      | true ↦ rw more (behind_beside h.kind control (inner_cost hs 0) x)
       | false ↦ omega (arith, more)
     ]
 

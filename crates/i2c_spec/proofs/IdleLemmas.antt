@@ -1,5 +1,5 @@
 -- Rule 5 as its search finds it. The inductions go over the number of items that were asked.
-use Rattle.std.proofs.Common.{◌≡◌, ℕ, zero, suc, ◌+◌, ◌<◌, Bool, true, false, not, ◌&&◌, ◌||◌, Option, Some, None, option_map, slice_get, refl, sym, ◌∙◌, ap, subst, arith, inl, inr}
+use Rattle.std.proofs.Common.{◌≡◌, ℕ, zero, suc, ◌<◌, Bool, true, false, not, ◌&&◌, ◌||◌, Option, Some, None, option_map, slice_get, refl, sym, ◌∙◌, ap, arith, inl, inr}
 use Rattle.std.specs.Prelude.{unwrap_or, is_some, IsSome, IfSome, IfNone}
 use Rattle.std.proofs.lemmas.Bool.{false≢true}
 use Rattle.std.proofs.lemmas.Bool.Decides.{eqb_tells}
@@ -24,9 +24,6 @@ one_below test (suc n) i low e =
       | inl same ↦ ap (λ (t : Bool). some_below test n || t) (ap test (sym same.1) ∙ e) ∙ or-true (some_below test n)
       | inr off ↦ ap (λ (t : Bool). t || test n) (one_below test n i (let apart = off.1 in omega (arith, low, apart)) e)
     ]
-
-pub below_none : (test : ℕ → Bool) (n : ℕ) → some_below test n ≡ false → test n ≡ false → some_below test (n + 1) ≡ false
-below_none test n none here = subst (λ (k : ℕ). some_below test k ≡ false) (let e : suc n ≡ n + 1 = omega arith in e) (rw (none, here) refl)
 
 -- where the kind may stay, the rule is broken only by an address that stands outside
 pub outside-some : (b : BoardView) (m : ℕ) → breaks_idle b m ≡ true → may_stay b m ≡ true → NoneOf (stands_outside b m) (items b) → ⊥

@@ -18,13 +18,14 @@ use Rattle.i2c_top.specs.MapFiles.{HasBadMap}
 use Rattle.i2c_top.specs.Readings.{AreScriptsIn, HasReadMap, HasReadSomeMap, IsAcceptedIn, IsMapIn, IsRejectedIn, IsRefusedAt, IsRefusedScript, IsScheduleIn, IsBadBoard, IsBadMap, IsBadSchedule, IsTooDear}
 use Rattle.i2c_top.specs.Runs.{MOST_COST, cost_of_texts, texts_of}
 use Rattle.i2c_top.specs.Scripts.{script_name, HasBadSchedule, HasBadScript, HasScripts, texts_in}
-use Rattle.i2c_top.specs.Traces.{ShelfView, RigView, Outside, KeepsBut, IsAtMostOnce, IsUntouched}
+use Rattle.i2c_top.specs.Traces.{ShelfView, RigView, Outside, KeepsBut, IsAtMostOnce}
 use Rattle.i2c_top.specs.forms.Atrs.{AtrNames, HasAtrFiles, HasAtrReport, HasAtrRun, HasAtrTexts, HasMapped, HasTranslated, IsAtrAfter, IsAtrPlace, as_run, atr_form}
 use Rattle.i2c_top.specs.forms.Replays.{HasScriptsBefore}
 use Rattle.i2c_top.specs.declared.status.Status.{Status}
 use Rattle.i2c_top.specs.declared.status.Status.TheVariants as status
 use Rattle.i2c_top.proofs.EndingLemmas.{came_to_success, memory_wanting, file_unread, run_refused, text_refused}
 use Rattle.i2c_top.proofs.FileLemmas.{kept_then, same_bad, same_scripts, same_texts}
+use Rattle.i2c_top.proofs.VerifyLemmas.{untouched}
 
 -- ---- what is read after a place is another
 after_first : (other : ℕ) → IsAtrAfter 1 other → other ≡ 1 → ⊥
@@ -100,9 +101,6 @@ abbrev pub has_atr_texts : (file : Files) (names : AtrNames) (b : BoardView) (m 
     → HasReadMap file names b m texts words → HasAtrTexts file names
 has_atr_texts file names b m texts words read =
     record { files = has_mapped file names b m read.board_in read.scripts read.map_in; schedule = read.words_in.has }
-
-untouched : (rig : RigView) → IsUntouched rig rig
-untouched rig = record { plugs = refl; unplugs = refl }
 
 -- the board is read, so the shelf tells it where it tells the files that are read
 when : (names : AtrNames) (shelf : ShelfView) {X : Type 0} → (IsTrue shelf.tells → X) → TellsItsFiles (atr_form names) shelf → X

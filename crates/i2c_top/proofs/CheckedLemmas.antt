@@ -54,9 +54,10 @@ use Rattle.i2c_top.specs.Checked.{HasBeenChecked, callers_on, checked_on}
 use Rattle.i2c_top.specs.Cores.{IsCoreOf}
 use Rattle.i2c_top.specs.Callers.{asks_in, scripts_in, callers_in}
 use Rattle.i2c_top.specs.Runs.{asks_by, script_row, AreOpened, printed_by, section_of, texts_of}
-use Rattle.i2c_top.proofs.CoreLemmas.{all-at, asks-same, is-left, left, number-here, scripts-same, through-at, twice}
+use Rattle.i2c_top.proofs.CoreLemmas.{asks-same, is-left, left, number-here, scripts-same, through-at}
 use Rattle.i2c_top.proofs.RunLemmas.{of_asks, report-over, same_asks, sections_are}
 use Rattle.i2c_top.proofs.TextLemmas.{asks-of-texts, count-of-texts, opened-scripts, printed-of-texts, report-of-texts, section_by}
+use Rattle.i2c_base.proofs.ListLemmas.{all_at, map_map}
 
 -- THE OPENING: each script by its number
 abbrev numbered : ℕ → List CallerView → List (ℕ × ScriptView)
@@ -99,7 +100,7 @@ module _ (b : BoardView) (scripts : List CallerView) (opened : AreOpened b scrip
           ≡ option_map_or (λ text. asked_by (script_on b text) rs) (option_map (λ (s : CallerView). s.script.text) o) None
       by c rs None at = refl
       by c rs (Some s) at =
-          ap (λ (k : BoardView). asked_by (script_on k s.script.text) rs) (all-at (λ t. IsOpened b t.script.text t) scripts c s opened at).board_is
+          ap (λ (k : BoardView). asked_by (script_on k s.script.text) rs) (all_at (λ t. IsOpened b t.script.text t) scripts c s opened at).board_is
 
   module _ {P : Type 0} (ports : List P) (core : CoreState ScriptView) (of : IsCoreOf script_row b scripts ports core) where
     pub asks-opened : asks_on asked_by core.opening ≡ asks_by b (texts_of scripts)
@@ -323,7 +324,7 @@ module _ (b : BoardView) (texts : List (List ℕ)) (text front lines : List ℕ)
 
   module _ (seats : List (Seat CallerView)) (entries : List Entry) (left : HasBeenChecked b texts es seats entries) (fair : IsFairCaller asked_by left_of board_of) where
     printed : map (λ (s : Seat CallerView). section_of s.caller) seats ≡ map section_of (callers_on seats)
-    printed = sym (twice section_of (λ (s : Seat CallerView). s.caller) seats)
+    printed = sym (map_map section_of (λ (s : Seat CallerView). s.caller) seats)
 
     pub report-verified : (n : ℕ) → front ≡ sections 0 (map (λ (s : Seat CallerView). section_of s.caller) seats)
         → n ≡ length entries → IsVerified (checked_on b texts) text n

@@ -5,7 +5,7 @@ use Rattle.std.specs.List.{enumerate_from, range_with_len, sum_by}
 use Rattle.std.specs.Option.{option_map_or}
 use Rattle.std.proofs.lemmas.Bool.{cases_lt}
 use Rattle.std.proofs.lemmas.List.{length-map}
-use Rattle.std.proofs.lemmas.List.Elements.{All-get_or, All-from_get_or}
+use Rattle.std.proofs.lemmas.List.Elements.{All-from_get_or}
 use Rattle.std.proofs.lemmas.List.Sums.{sum_by-cons}
 use Rattle.std.proofs.lemmas.List.FromFn.{length-enumerate_from, length-range_with_len, get_or-range_with_len}
 use Rattle.std.proofs.lemmas.Option.{slice_get_within, slice_get_past, get_or_from_slice_get}
@@ -50,7 +50,7 @@ use Rattle.bus_spec.specs.Faults.{faults_in}
 use Rattle.i2c_top.specs.Faults.{AccountsForFaults, AreCounted}
 use Rattle.i2c_top.specs.Runs.{MOST_COST}
 use Rattle.i2c_top.proofs.RunLemmas.{same_asks}
-use Rattle.i2c_base.proofs.ListLemmas.{there, map_from, map_at}
+use Rattle.i2c_base.proofs.ListLemmas.{there, map_from, map_at, all_at, map_map}
 
 -- an element of a numbered list, and of a list whose elements all are so
 pub numbered-at : {X : Type 0} (n : ℕ) (xs : List X) (i : ℕ) (y : ℕ × X) → slice_get (enumerate_from n xs) i ≡ Some y
@@ -75,21 +75,10 @@ number-here m [] i low = absurd (omega (arith, low))
 number-here m (x ∷ xs) zero low = ap (λ (k : ℕ). Some k) (omega (arith))
 number-here m (x ∷ xs) (suc i) low = number-here (m + 1) xs i (omega (arith, low)) ∙ ap (λ (k : ℕ). Some k) (omega (arith))
 
-pub all-at : {X : Type 0} (P : X → Type 0) (xs : List X) (i : ℕ) (x : X) → All P xs → slice_get xs i ≡ Some x → P x
-all-at P xs i x all here = subst P (get_or_from_slice_get xs i x x here) (All-get_or P xs i x (slice_get_within xs i x here) all)
-
-pub twice : {X Y Z : Type 0} (f : Y → Z) (g : X → Y) (xs : List X) → map f (map g xs) ≡ map (λ x. f (g x)) xs
-twice f g [] = refl
-twice {X} {Y} {Z} f g (x ∷ xs) = ap (λ (zs : List Z). f (g x) ∷ zs) (twice f g xs)
-
 -- what is told of the elements alone
 alone : {X Y : Type 0} (f : X → Y) (n : ℕ) (xs : List X) → map (λ (x : ℕ × X). f x.1) (enumerate_from n xs) ≡ map f xs
 alone f n [] = refl
 alone {X} {Y} f n (x ∷ xs) = ap (λ (ys : List Y). f x ∷ ys) (alone f (n + 1) xs)
-
-pub firsts : {X : Type 0} (n : ℕ) (xs : List X) → map (λ (x : ℕ × X). x.1) (enumerate_from n xs) ≡ xs
-firsts n [] = refl
-firsts {X} n (x ∷ xs) = ap (λ (ys : List X). x ∷ ys) (firsts (n + 1) xs)
 
 -- what is left of callers by their numbers is what is left of them
 lefts : {C S : Type 0} (row : CallerGhosts C S) (callers : List C) (n : ℕ)
@@ -130,18 +119,18 @@ module _ {P C S : Type 0} (g : PortGhosts P) (row : CallerGhosts C S) (b : Board
             let low = slice_get_within callers i x.1 r.1 in
             omega (arith, number, low, few);
         once = λ i k n here to. (let a = number-is 0 ports i n here in let c = number-is 0 ports k n to in omega (arith, a, c));
-        idle = λ k x here. all-at (λ p. g.phase p ≡ Idle) ports k x.1 idle (numbered-at 0 ports k x here).1;
+        idle = λ k x here. all_at (λ p. g.phase p ≡ Idle) ports k x.1 idle (numbered-at 0 ports k x here).1;
         worlds = λ tells k x here.
             let r = numbered-at 0 ports k x here in
             let number = r.0 in
             let same : k ≡ x.0 = omega (arith, number) in (
               opening-at g.world b ports (worlds tells) k x.1 r.1
                   ∙ ap (opening_world b) same,
-              all-at (λ p. g.log p ≡ []) ports k x.1 (empty tells) r.1,
+              all_at (λ p. g.log p ≡ []) ports k x.1 (empty tells) r.1,
             );
         fair = fair;
-        untaken = λ i x here. (all-at (λ s. (row.board (row.script s) ≡ b) × (row.taken s ≡ [])) callers i x.1 ready (numbered-at 0 callers i x here).1).1;
-        home = λ i x here. (all-at (λ s. (row.board (row.script s) ≡ b) × (row.taken s ≡ [])) callers i x.1 ready (numbered-at 0 callers i x here).1).0;
+        untaken = λ i x here. (all_at (λ s. (row.board (row.script s) ≡ b) × (row.taken s ≡ [])) callers i x.1 ready (numbered-at 0 callers i x here).1).1;
+        home = λ i x here. (all_at (λ s. (row.board (row.script s) ≡ b) × (row.taken s ≡ [])) callers i x.1 ready (numbered-at 0 callers i x here).1).0;
         wired = λ i x rs t here asks bus.
             let low : root_of b t.bus < length b.roots = tree_root_is b plain.planted t.bus bus in
             let on = number-here 0 ports (root_of b t.bus) (omega (arith, low, count)) in
@@ -159,7 +148,7 @@ module _ {P C S : Type 0} (g : PortGhosts P) (row : CallerGhosts C S) (b : Board
       (λ i low.
       let w = there words i low in
       let is = get_or_from_slice_get words i w.0 0 w.1 in
-      let below : w.0 < length callers = all-at (λ c. c < length callers) words i w.0 named w.1 in
+      let below : w.0 < length callers = all_at (λ c. c < length callers) words i w.0 named w.1 in
       let s = there callers w.0 below in
       subst (λ (n : ℕ). has_caller (callers_scripts row (enumerate_from 0 callers)) n ≡ true) (sym is)
       (has-by (callers_scripts row (enumerate_from 0 callers)) w.0 w.0 (row.script s.0)
@@ -248,10 +237,10 @@ module _ {P C S : Type 0} (g : PortGhosts P) (row : CallerGhosts C S) (b : Board
 
   pub scripts-same : scripts_in row (callers_in x) ≡ scripts_in row callers
   scripts-same =
-      twice (λ (s : C). row.script s) (λ (s : Seat C). s.caller) seats
-      ∙ sym (twice (λ (y : ℕ × S). y.1) (script_of row) seats)
+      map_map (λ (s : C). row.script s) (λ (s : Seat C). s.caller) seats
+      ∙ sym (map_map (λ (y : ℕ × S). y.1) (script_of row) seats)
       ∙ ap (λ (ys : List (ℕ × S)). map (λ (y : ℕ × S). y.1) ys) same
-      ∙ twice (λ (y : ℕ × S). y.1) (λ (y : ℕ × C). (y.0, row.script y.1)) (enumerate_from 0 callers)
+      ∙ map_map (λ (y : ℕ × S). y.1) (λ (y : ℕ × C). (y.0, row.script y.1)) (enumerate_from 0 callers)
       ∙ alone (λ (s : C). row.script s) 0 callers
 
   script-at : (i : ℕ) (s : Seat C) → slice_get seats i ≡ Some s → slice_get (scripts_in row (callers_in x)) i ≡ Some (row.script s.caller)
@@ -351,7 +340,7 @@ ports-counted g b ports tells count account =
           let port = map_from g.faults ports root count counted in
           let same : Some (g.log port.0) ≡ Some log = sym (map_at g.log ports root port.0 port.1) ∙ logged in
           let its : g.log port.0 ≡ log = cc in
-          let few : faults_in (g.log port.0) ≤ g.faults port.0 = all-at (AccountsForFaults g) ports root port.0 account port.1 tells in
+          let few : faults_in (g.log port.0) ≤ g.faults port.0 = all_at (AccountsForFaults g) ports root port.0 account port.1 tells in
           subst (λ (n : ℕ). faults_in log ≤ n) port.2 (subst (λ (calls : List PortCall). faults_in calls ≤ g.faults port.0) its few);
     }
 

@@ -6,7 +6,7 @@ use Rattle.std.specs.Str.{all_ascii_digits}
 use Rattle.std.specs.Char.{is_ascii_digit}
 use Rattle.std.specs.Str.Parse.{ParsesUnsigned, digits_value}
 use Rattle.std.specs.Result.{OkIff}
-use Rattle.std.proofs.lemmas.Bool.{cases_lt}
+use Rattle.std.proofs.lemmas.Bool.{cases_lt, and_parts}
 use Rattle.std.proofs.lemmas.Str.Parse.{tells_all_ascii_digits, numerals_by_value, parse_digits}
 use Rattle.tools.specs.Numbers.{is_decimal, within}
 use Rattle.i2c_top.specs.Numbers.{is_numeral, number_named}
@@ -15,12 +15,6 @@ use Rattle.i2c_top.specs.Numbers.{is_numeral, number_named}
 pub all_digits : (word : List ℕ) → list_all is_ascii_digit word ≡ all_ascii_digits word
 all_digits [] = refl
 all_digits (c ∷ cs) = ap (λ (rest : Bool). is_ascii_digit c && rest) (all_digits cs)
-
--- both of two tests
-both : (a b : Bool) → a && b ≡ true → (a ≡ true) × (b ≡ true)
-both true true is = (refl, refl)
-both true false is = cc
-both false b is = cc
 
 -- a number that is too large is not from low to high
 too_large : (low high n : ℕ) → high < n → within low high (Some n) ≡ None
@@ -37,11 +31,11 @@ too_large low high n large = by (nat_le n high) refl
 -- what a word names, by what it is read as
 module _ (word : List ℕ) (low high : ℕ) (small : high < 2 ^ 64) (is : is_numeral word ≡ true) where
   digits : all_ascii_digits word ≡ true
-  digits = (both (is_decimal word) (all_ascii_digits word) is).1
+  digits = (and_parts (is_decimal word) (all_ascii_digits word) is).1
 
   some : 0 < length word
-  some = ltb-true 0 (length word) (both (nat_lt 0 (length word)) (not (slice_index word 0 == 48) || (length word == 1))
-      (both (is_decimal word) (all_ascii_digits word) is).0).0
+  some = ltb-true 0 (length word) (and_parts (nat_lt 0 (length word)) (not (slice_index word 0 == 48) || (length word == 1))
+      (and_parts (is_decimal word) (all_ascii_digits word) is).0).0
 
   numeral : number_named low high word ≡ within low high (Some (digits_value 10 word))
   numeral = ap (λ (t : Bool). if t then within low high (Some (digits_value 10 word)) else None) is

@@ -3,6 +3,7 @@ use Rattle.std.proofs.Common.{◌≡◌, ℕ, suc, ◌+◌, ◌<◌, ◌≤◌, 
 use Rattle.std.specs.List.{enumerate_from}
 use Rattle.std.proofs.lemmas.List.{length-append, append_assoc}
 use Rattle.std.proofs.lemmas.List.Elements.{All-head, All-tail}
+use Rattle.journal_check.proofs.PortLemmas.{numbered-push}
 
 -- so far `out` is what a function tells of the elements that came, `rest` is to come, and there is room for all
 pub record GoesOver {X Y : Type 0} (told : List X → List Y) (all came rest : List X) (count : ℕ) (out : List Y) (room : ℕ) : Type 0 where
@@ -70,13 +71,6 @@ module _ {X Y : Type 0} (told : List X → List Y) (all : List X) where
       subst (λ (ys : List Y). GoesOver told all (came ++ x ∷ []) rest less ys wide) (sym pushed)
       (subst (λ (n : ℕ). GoesOver told all (came ++ x ∷ []) rest less (out ++ y ∷ []) n) (sym same)
       (over-one came rest x y count less room out (subst (λ (xs : List X). GoesOver told all came xs count out room) steps over) one tells))
-
--- numbers go on after the last
-pub numbered-push : {X : Type 0} (n : ℕ) (xs : List X) (x : X)
-    → enumerate_from n (xs ++ x ∷ []) ≡ enumerate_from n xs ++ (n + length xs, x) ∷ []
-numbered-push n [] x = ap (λ (k : ℕ). (k, x) ∷ []) (omega (arith))
-numbered-push n (y ∷ xs) x = ap (λ (zs : List (ℕ × _)). (n, y) ∷ zs) (numbered-push (n + 1) xs x
-    ∙ ap (λ (k : ℕ). enumerate_from (n + 1) xs ++ (k, x) ∷ []) (omega (arith)))
 
 pub map-push : {X Y : Type 0} (f : X → Y) (xs : List X) (x : X) → map f (xs ++ x ∷ []) ≡ map f xs ++ f x ∷ []
 map-push f [] x = refl

@@ -155,7 +155,7 @@ journal_read first second third names tells b scripts text same same_again t boa
       there = sym (same names.journal) ∙ sym (same_again names.journal) ∙ there;
     }
 
-untouched : (rig : RigView) → IsUntouched rig rig
+pub untouched : (rig : RigView) → IsUntouched rig rig
 untouched rig = record { plugs = refl; unplugs = refl }
 
 -- the board is read, so the shelf tells it where it tells the files that are read

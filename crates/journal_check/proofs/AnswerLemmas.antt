@@ -1,16 +1,16 @@
 -- A text has one answer: a fault, or that it is verified. The inductions go over lines.
-use Rattle.std.proofs.Common.{◌≡◌, ◌⊎◌, ℕ, zero, suc, ◌+◌, ◌<◌, ◌≤◌, Bool, true, false, List, [], ◌∷◌, ◌++◌, length, length-append, append_assoc, append-nil, All, drop, take, map, reverse, Option, Some, None, refl, sym, ◌∙◌, ap, subst, arith, inl, inr}
+use Rattle.std.proofs.Common.{◌≡◌, ◌⊎◌, ℕ, zero, suc, ◌+◌, Bool, true, false, List, [], ◌∷◌, ◌++◌, length, length-append, append_assoc, append-nil, All, drop, take, map, reverse, Some, refl, sym, ◌∙◌, ap, subst, arith, inl, inr}
 use Rattle.std.specs.Prelude.{codes, slice_get, MatchBool}
 use Rattle.std.specs.List.{flat_map, range_with_len}
 use Rattle.std.specs.Str.{bytes_eq}
-use Rattle.std.proofs.lemmas.Bool.{cases_lt, cases_order}
+use Rattle.std.proofs.lemmas.Bool.{cases_order}
 use Rattle.std.proofs.lemmas.Slice.Eq.{bytes_eq-Decides}
 use Rattle.std.proofs.lemmas.List.Elements.{All-nil, All-cons, All-head, All-tail}
-use Rattle.std.proofs.lemmas.List.{reverse-append, take-append-drop, take-append-le, take_all, take_more}
+use Rattle.std.proofs.lemmas.List.{reverse-append, take-append-drop, take-append-le, take_all}
 use Rattle.i2c_base.specs.declared.entry.Entry.{Entry}
 use Rattle.bus_spec.specs.Legal.{IsLegal, IsComplete}
 use Rattle.bus_spec.specs.Lines.{entry_line}
-use Rattle.bus_spec.specs.Report.{ended_line, sections, text_of}
+use Rattle.bus_spec.specs.Report.{ended_line, text_of}
 use Rattle.bus_laws.proofs.Laws.{settled-told}
 use Rattle.journal_laws.specs.Layers.{BelongsTo}
 use Rattle.bus_journal.specs.Ranges.{IsEntry}
@@ -18,16 +18,16 @@ use Rattle.bus_journal.specs.Reports.{IsLine, line_ended, IsSectionLine, HasNoJo
 use Rattle.bus_journal.specs.Told.{entries_of}
 use Rattle.bus_journal.proofs.LineFeeds.{entry-line}
 use Rattle.bus_journal.proofs.Told.{entries_of-lines}
-use Rattle.check_laws.specs.Wrong.{EndsStep, IsFirstWrong, up_to}
-use Rattle.journal_check.specs.Faults.{CanBeChecked, Checked, HasOpenCaller, HasOtherText, HasWrongEntry, IsFaultIn, IsFirstLeft, IsLegalIn, IsRead, IsVerified, sections_told}
+use Rattle.check_laws.specs.Wrong.{IsFirstWrong, up_to}
+use Rattle.journal_check.specs.Faults.{CanBeChecked, Checked, IsFaultIn, IsFirstLeft, IsLegalIn, IsRead, IsVerified, sections_told}
 use Rattle.journal_check.specs.Forms.{Line, Stage, Sections, Entries, Over, FirstOffence, HasForm, IsEntryLine, lines_of}
 use Rattle.journal_check.specs.Steps.{AreLines}
 use Rattle.journal_check.specs.Texts.{FirstOther}
 use Rattle.journal_check.specs.declared.fault.CheckFault.{CheckFault}
 use Rattle.journal_check.specs.declared.fault.CheckFault.TheVariants as fault
 use Rattle.journal_check.proofs.FormLemmas.{first-cut}
-use Rattle.journal_check.proofs.LineLemmas.{entry-text}
-use Rattle.journal_check.proofs.ReportLemmas.{below-journal, not-the-end, section-line, whole-sections}
+use Rattle.journal_check.proofs.ReportLemmas.{not-the-end}
+use Rattle.bus_journal.proofs.ReportLemmas.{below_journal, sections-lines, lines-text, entries-text}
 
 -- at a line of the journal that isn't `end`
 abbrev AtEntry : ℕ → Line → List Line → ℕ → Type 0
@@ -83,7 +83,7 @@ sections_passed [] n f rest all offence = (n, offence)
 sections_passed (l ∷ ls) n f rest all offence =
     sections_passed ls (n + 1) f rest (All-tail IsSectionLine l ls all)
     (section_passed n f l (flat_map line_ended ls ++ rest) (All-head IsSectionLine l ls all)
-    (subst (λ (xs : List ℕ). FirstOffence Sections n (lines_of xs) f) (section-line l ls rest) offence))
+    (subst (λ (xs : List ℕ). FirstOffence Sections n (lines_of xs) f) (lines-text l ls rest) offence))
 
 heading_passed : (n f : ℕ) (rest : List ℕ) → FirstOffence Sections n (lines_of (codes "journal\n" ++ rest)) f
     → FirstOffence Entries (n + 1) (lines_of rest) f
@@ -107,7 +107,7 @@ entries_passed [] n f rest all offence = (n, offence)
 entries_passed (e ∷ es) n f rest all offence =
     entries_passed es (n + 1) f rest (All-tail IsEntry e es all)
     (entry_passed n f e (flat_map ended_line es ++ rest) (All-head IsEntry e es all)
-    (subst (λ (xs : List ℕ). FirstOffence Entries n (lines_of xs) f) (entry-text e es rest) offence))
+    (subst (λ (xs : List ℕ). FirstOffence Entries n (lines_of xs) f) (entries-text e es rest) offence))
 
 end_passed : (n f : ℕ) → FirstOffence Entries n (lines_of (codes "end\n")) f → ⊥
 end_passed n f offence =
@@ -146,7 +146,7 @@ module _ (text : List ℕ) (p q : IsRead text) where
 
   below_same : below p ≡ below q
   below_same =
-      below-journal p.form.others.lines q.form.others.lines (below p) (below q) p.form.others.others q.form.others.others
+      below_journal p.form.others.lines q.form.others.lines (below p) (below q) p.form.others.others q.form.others.others
       (ap (λ (xs : List ℕ). xs ++ (codes "journal\n" ++ below p)) (sym p.form.others.text_is) ∙ parts_same
       ∙ ap (λ (xs : List ℕ). xs ++ (codes "journal\n" ++ below q)) q.form.others.text_is)
 
@@ -249,7 +249,7 @@ module _ (x : Checked) (can : CanBeChecked x)
           lines = lines;
           form = record {
             parts = v.report;
-            others = whole-sections 0 texts (all_whole v.journal (range_with_len 0 x.callers));
+            others = sections-lines 0 texts (all_whole v.journal (range_with_len 0 x.callers));
             entries = subst (λ (es : List Entry). AreLines lines es) (sym same) (record { lines = refl; in_range = v.in_range });
           };
         };

@@ -1,12 +1,10 @@
 -- Where a core parts from a journal the step that is told there is the first that isn't legal. No induction.
-use Rattle.std.proofs.Common.{◌≡◌, ℕ, ◌+◌, ◌-◌, ◌<◌, ◌≤◌, false, List, [], ◌∷◌, ◌++◌, length, length-append, All, drop, reverse, Option, Some, None, sym, ◌∙◌, ap, subst, arith, inl, inr}
+use Rattle.std.proofs.Common.{◌≡◌, ℕ, ◌+◌, ◌-◌, ◌<◌, ◌≤◌, false, List, ◌∷◌, ◌++◌, length, length-append, All, drop, reverse, Option, Some, None, sym, ◌∙◌, ap, subst, arith, inl, inr}
 use Rattle.std.specs.Prelude.{slice_get}
 use Rattle.std.specs.List.{flat_map}
 use Rattle.std.proofs.lemmas.List.Prefix.{front_rest}
 use Rattle.std.proofs.lemmas.List.{reverse-append}
-use Rattle.std.proofs.lemmas.List.Elements.{All-get_or}
-use Rattle.std.proofs.lemmas.Option.{slice_get_within, get_or_from_slice_get}
-use Rattle.i2c_base.proofs.ListLemmas.{map_from, map_at}
+use Rattle.i2c_base.proofs.ListLemmas.{map_from, map_at, all_at}
 use Rattle.i2c_base.specs.declared.entry.Entry.{Entry}
 use Rattle.i2c_base.specs.declared.port.PortCall.{PortCall}
 use Rattle.i2c_base.specs.declared.reply.Reply.{Reply}
@@ -26,18 +24,14 @@ use Rattle.bus_laws.proofs.past.Known.{callers-known}
 use Rattle.bus_core.specs.Opening.{Opening, HasRoot}
 use Rattle.bus_core.specs.Places.{asks_of}
 use Rattle.bus_core.specs.State.{CoreState, CoreTold, has_caller, roots_in, worlds_of, logs_of}
-use Rattle.bus_spec.specs.Lines.{entry_line}
 use Rattle.bus_spec.specs.Report.{ended_line}
 use Rattle.bus_journal.specs.Ranges.{IsEntry}
 use Rattle.check_laws.specs.Failed.{FailBy, FailedBy, gaps_told}
-use Rattle.check_laws.specs.Wrong.{CantBeTold, HasStepped, IsFirstWrong, first_step}
+use Rattle.check_laws.specs.Wrong.{CantBeTold, IsFirstWrong, first_step}
 use Rattle.check_laws.specs.Wrong as wrong
 use Rattle.journal_check.specs.Steps.{AreLines, asks_on, MadeAnother, Differs}
-use Rattle.journal_check.proofs.LineLemmas.{entry-lines, lines-append}
+use Rattle.journal_check.proofs.LineLemmas.{lines-append, fewer-entries}
 use Rattle.journal_check.specs.declared.steps.JournalPlace.{JournalPlace}
-
-all-at : {X : Type 0} (P : X → Type 0) (xs : List X) (i : ℕ) (x : X) → All P xs → slice_get xs i ≡ Some x → P x
-all-at P xs i x all here = subst P (get_or_from_slice_get xs i x x here) (All-get_or P xs i x (slice_get_within xs i x here) all)
 
 module _ {S : Type 0} (asked : S → List Reply → Option TransferView) (o : Opening S) (v : CoreState S) (es : List Entry) (named : ℕ → List ℕ)
     (is_named : (r : ℕ) → named r ≡ gaps_told o.board es r)
@@ -87,7 +81,7 @@ module _ {S : Type 0} (asked : S → List Reply → Option TransferView) (o : Op
           subst (λ (x : Opening S). log p.0.1 ≡ calls_of x.board (asks_of asked x.scripts) (reverse v.journal.entries) p.0.0) opened
           (told.logs has.place p.0.0 (log p.0.1) log_at) in
           let own : (world p.0.1).root ≡ r = ap (λ (x : World). x.root) world_is ∙ root_law (reverse v.journal.entries) p.0.0 steps ∙ root in
-          let mine : FailedBy (log p.0.1) (named (world p.0.1).root) = all-at (λ x. FailedBy (log x.1) (named (world x.1).root)) ports has.place p.0 failed p.1 in
+          let mine : FailedBy (log p.0.1) (named (world p.0.1).root) = all_at (λ x. FailedBy (log x.1) (named (world x.1).root)) ports has.place p.0 failed p.1 in
           subst (λ (gs : List ℕ). FailedBy (calls_of b asks (reverse v.journal.entries) r) gs) (ap named own ∙ is_named r)
           (subst (λ (cs : List PortCall). FailedBy cs (named (world p.0.1).root)) (log_is ∙ ap (calls_of b asks (reverse v.journal.entries)) root) mine)
 
@@ -138,20 +132,11 @@ module _ {S : Type 0} (asked : S → List Reply → Option TransferView) (o : Op
       fewer (place.before + k - 1) (subst (λ (i : ℕ). IsFirstWrong b MOST_CALLERS asks es i) number
       (subst (λ (xs : List Entry). IsFirstWrong b MOST_CALLERS asks xs (length d.front + first_step (d.next ∷ d.rest) - 1)) (sym d.parts) first))
 
--- each entry has a line, so that fewer stand before a place than the lines have bytes
-fewer-lines : (es : List Entry) → length es ≤ length (flat_map ended_line es)
-fewer-lines [] = omega arith
-fewer-lines (e ∷ es) =
-    let more : length es ≤ length (flat_map ended_line es) = fewer-lines es in
-    let counted : length (flat_map ended_line (e ∷ es)) ≡ length (entry_line e) + length (10 ∷ flat_map ended_line es) =
-    ap (λ (xs : List ℕ). length xs) (entry-lines e es) ∙ length-append (entry_line e) (10 ∷ flat_map ended_line es) in
-    omega (arith, more, counted)
-
 pub before-fits : {S : Type 0} (asked : S → List Reply → Option TransferView) (o : Opening S) (v : CoreState S) (es : List Entry) (lines : List ℕ)
     → AreLines lines es → (place : JournalPlace) → Differs asked o v es place → place.before < length lines
 before-fits asked o v es lines are place d =
     let counted : length lines ≡ length (flat_map ended_line es) = ap (λ (xs : List ℕ). length xs) are.lines in
-    let few : length es ≤ length (flat_map ended_line es) = fewer-lines es in
+    let few : length es ≤ length (flat_map ended_line es) = fewer-entries es in
     let parts : length es ≡ length d.front + length (d.next ∷ d.rest) = ap (λ (xs : List Entry). length xs) d.parts ∙ length-append d.front (d.next ∷ d.rest) in
     let before = d.before in
     omega (arith, counted, few, parts, before)

@@ -21,7 +21,8 @@ use Rattle.journal_check.specs.Gaps.{AreGapsOf}
 use Rattle.journal_check.specs.declared.gaps.RootGaps.{RootGaps}
 use Rattle.i2c_base.specs.Board.{BoardView}
 use Rattle.journal_check.specs.Steps.{AreLines}
-use Rattle.journal_check.proofs.LineLemmas.{entry-text, lines-append}
+use Rattle.journal_check.proofs.LineLemmas.{lines-append}
+use Rattle.bus_journal.proofs.ReportLemmas.{entries-text}
 
 -- ONE LINE MORE
 lines-cut : (front line more : List ℕ) → IsLine line → lines_from front (line ++ 10 ∷ more) ≡ (record { text = front ++ line; ended = true }) ∷ lines_of more
@@ -64,9 +65,6 @@ pub record IsReading (text rest : List ℕ) (number : ℕ) : Type 0 where
   pub others : All IsSectionLine lines
   pub few : number + length rest ≤ 1 + length text
   pub goes : (f : ℕ) → FirstOffence Sections number (lines_of rest) f → FirstOffence Sections 1 (lines_of text) f
-
-pub reads-first : (text : List ℕ) → IsReading text text 1
-reads-first text = record { lines = []; parts = refl; others = All-nil IsSectionLine; few = omega arith; goes = λ f first. first }
 
 pub counted_line : (line more : List ℕ) → length (line ++ 10 ∷ more) ≡ length line + (1 + length more)
 counted_line line more = (let e : length (line ++ 10 ∷ more) ≡ length line + length (10 ∷ more) = length-append line (10 ∷ more) in omega (arith, e))
@@ -131,10 +129,6 @@ pub record IsTelling (b : BoardView) (text rest : List ℕ) (first number : ℕ)
   pub few : number + length rest ≤ first + length text
   pub goes : (f : ℕ) → FirstOffence Entries number (lines_of rest) f → FirstOffence Entries first (lines_of text) f
   pub told : AreGapsOf b es gaps
-
-pub tells-first : (b : BoardView) (text : List ℕ) (first : ℕ) (gaps : List RootGaps) → AreGapsOf b [] gaps → IsTelling b text text first first gaps
-tells-first b text first gaps none =
-    record { es = []; in_range = All-nil IsEntry; parts = refl; few = omega arith; goes = λ f offence. offence; told = none }
 
 -- something after the line `end` is an offence
 over_last : (n : ℕ) (xs : List ℕ) (d : ℕ) → FirstOffence Over n (last_line (xs ++ d ∷ [])) n
@@ -205,7 +199,7 @@ module _ (b : BoardView) (text rest line : List ℕ) (first number : ℕ) (gaps 
       }
     where
       one : flat_map ended_line (added.entry ∷ []) ++ next ≡ entry_line added.entry ++ 10 ∷ next
-      one = entry-text added.entry [] next
+      one = entries-text added.entry [] next
 
   pub end-at : line ≡ codes "end" → (length (drop (length line + 1) rest) == 0) ≡ true → (at : ℕ) → at ≡ length text - length rest
       → EndAt text at (entries_of (take at text)) × AreGapsOf b (entries_of (take at text)) gaps

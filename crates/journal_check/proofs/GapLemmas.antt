@@ -1,5 +1,5 @@
 -- Gaps grow by an entry on their root, and stay over one on another. No induction.
-use Rattle.std.proofs.Common.{◌≡◌, ◌⊎◌, ℕ, zero, suc, ◌<◌, ◌≤◌, arith, Bool, true, false, cond, List, [], ◌∷◌, ◌++◌, append_assoc, Some, None, refl, sym, ◌∙◌, ap, subst, inl, inr, set, length}
+use Rattle.std.proofs.Common.{◌≡◌, ℕ, ◌<◌, ◌≤◌, arith, Bool, true, false, cond, List, [], ◌∷◌, ◌++◌, append_assoc, Some, None, refl, sym, ◌∙◌, ap, subst, inl, inr, set, length}
 use Rattle.std.specs.Prelude.{slice_get}
 use Rattle.std.proofs.lemmas.Bool.{eq-eqb, ne_eqb, cases_eq}
 use Rattle.std.proofs.lemmas.Option.{slice_get_within}
@@ -10,6 +10,7 @@ use Rattle.bus_spec.specs.Readings.{is_on_root}
 use Rattle.check_laws.specs.Failed.{call_failed, calls_made, gap_told, since_told, gaps_from, gaps_told}
 use Rattle.journal_check.specs.Gaps.{root_told, IsGapsOf, AreGapsOf}
 use Rattle.journal_check.specs.declared.gaps.RootGaps.{RootGaps}
+use Rattle.i2c_base.proofs.ListLemmas.{set_elsewhere, set_here}
 
 -- an entry is on the root that it tells, and on no other
 pub on-told : (b : BoardView) (e : Entry) (r : ℕ) → root_told b e ≡ Some r → is_on_root b r e ≡ true
@@ -49,31 +50,19 @@ module _ (b : BoardView) (r : ℕ) (es : List Entry) (e : Entry) where
       (gaps_from b r x.since later)) off))
       ∙ old (e ∷ later) ∙ behind later
 
-set_own : {X : Type 0} (xs : List X) (k : ℕ) (y : X) → k < length xs → slice_get (set xs k y) k ≡ Some y
-set_own [] k y low = absurd (omega (arith, low))
-set_own (x ∷ xs) zero y low = refl
-set_own (x ∷ xs) (suc k) y low = set_own xs k y (omega (arith, low))
-
-set_other : {X : Type 0} (xs : List X) (k r : ℕ) (y : X) → (r ≡ k → ⊥) → slice_get (set xs k y) r ≡ slice_get xs r
-set_other [] k r y other = refl
-set_other (x ∷ xs) zero zero y other = absurd (other refl)
-set_other (x ∷ xs) zero (suc r) y other = refl
-set_other (x ∷ xs) (suc k) zero y other = refl
-set_other (x ∷ xs) (suc k) (suc r) y other = set_other xs k r y (λ same. other (ap suc same))
-
 module _ (b : BoardView) (es : List Entry) (e : Entry) (roots : List RootGaps) (told : AreGapsOf b es roots) where
   pub entry-added : (k : ℕ) (x0 y : RootGaps) → root_told b e ≡ Some k → slice_get roots k ≡ Some x0
       → y.gaps.items ≡ x0.gaps.items ++ gap_told x0.since (call_failed e) → y.since ≡ since_told x0.since (calls_made e) (call_failed e)
       → AreGapsOf b (es ++ e ∷ []) (set roots k y)
   entry-added k x0 y is here gaps since r x at =
       elim (cases_eq r k) [
-        | inl same ↦ (let mine : y ≡ x = (let f : Some y ≡ Some x = sym (set_own roots k y (slice_get_within roots k x0 here))
+        | inl same ↦ (let mine : y ≡ x = (let f : Some y ≡ Some x = sym (set_here roots k y (slice_get_within roots k x0 here))
             ∙ ap (slice_get (set roots k y)) (sym same) ∙ at in cc) in
             subst (λ (z : RootGaps). IsGapsOf b r (es ++ e ∷ []) z) mine
             (subst (λ (i : ℕ). IsGapsOf b i (es ++ e ∷ []) y) (sym same)
             (gaps-grow b k es e x0 y (on-told b e k is) (told k x0 here) gaps since)))
         | inr other ↦ gaps-stay b r es e x (off-told b e r (λ f. other (let g : Some k ≡ Some r = sym is ∙ f in let h : k ≡ r = cc in sym h)))
-            (told r x (sym (set_other roots k r y other) ∙ at))
+            (told r x (sym (set_elsewhere roots k r y other) ∙ at))
       ]
 
   pub entry-beyond : (k : ℕ) → root_told b e ≡ Some k → length roots ≤ k → AreGapsOf b (es ++ e ∷ []) roots
@@ -85,21 +74,3 @@ module _ (b : BoardView) (es : List Entry) (e : Entry) (roots : List RootGaps) (
   pub entry-nowhere : root_told b e ≡ None → AreGapsOf b (es ++ e ∷ []) roots
   entry-nowhere is r x at =
       gaps-stay b r es e x (off-told b e r (λ f. let g : None ≡ Some r = sym is ∙ f in cc)) (told r x at)
-
--- no gaps yet
-pub none-yet : (b : BoardView) (r : ℕ) (x : RootGaps) → x.since ≡ 0 → x.gaps.items ≡ [] → IsGapsOf b r [] x
-none-yet b r x since gaps later = ap (λ (gs : List ℕ). gs ++ gaps_from b r x.since later) gaps ∙ ap (λ (k : ℕ). gaps_from b r k later) since
-
-get_push : {X : Type 0} (xs : List X) (y x : X) (r : ℕ) → slice_get (xs ++ y ∷ []) r ≡ Some x → (slice_get xs r ≡ Some x) ⊎ (y ≡ x)
-get_push [] y x zero at = inr (let f : Some y ≡ Some x = at in cc)
-get_push [] y x (suc r) at = absurd (let f : None ≡ Some x = at in cc)
-get_push (z ∷ xs) y x zero at = inl at
-get_push (z ∷ xs) y x (suc r) at = get_push xs y x r at
-
-pub none-push : (b : BoardView) (roots : List RootGaps) (y : RootGaps) → AreGapsOf b [] roots → y.since ≡ 0 → y.gaps.items ≡ []
-    → AreGapsOf b [] (roots ++ y ∷ [])
-none-push b roots y told since gaps r x at =
-    elim (get_push roots y x r at) [
-      | inl old ↦ told r x old
-      | inr new ↦ subst (λ (z : RootGaps). IsGapsOf b r [] z) new (none-yet b r y since gaps)
-    ]

@@ -7,7 +7,7 @@ use Rattle.bus_spec.specs.Lines.{entry_line}
 use Rattle.bus_spec.specs.Report.{ended_line}
 use Rattle.bus_journal.specs.Ranges.{IsEntry}
 use Rattle.bus_journal.proofs.LineFeeds.{entry-line}
-use Rattle.bus_journal.proofs.ReportLemmas.{first_lines}
+use Rattle.bus_journal.proofs.ReportLemmas.{first_lines, entries-text}
 use Rattle.std.proofs.lemmas.Bool.{eqb-true}
 use Rattle.bus_spec.specs.Legal.{is_stepping}
 use Rattle.bus_spec.specs.Readings.{caller_of}
@@ -18,9 +18,6 @@ use Rattle.bus_journal.proofs.FrontLemmas.{drop_line}
 use Rattle.check_laws.specs.Wrong.{first_step}
 use Rattle.bus_journal.proofs.Whole.{entry-read, lines_are_distinct}
 use Rattle.i2c_base.specs.declared.entry.Entry.{Entry}
-
-pub entry-text : (e : Entry) (es : List Entry) (more : List ℕ) → flat_map ended_line (e ∷ es) ++ more ≡ entry_line e ++ 10 ∷ (flat_map ended_line es ++ more)
-entry-text e es more = simp append_assoc
 
 pub entry-lines : (e : Entry) (es : List Entry) → flat_map ended_line (e ∷ es) ≡ entry_line e ++ 10 ∷ flat_map ended_line es
 entry-lines e es = simp append_assoc
@@ -35,7 +32,7 @@ pub record StandsIn (front all : List Entry) (more : List ℕ) : Type 0 where
 none_text : (e : Entry) (es : List Entry) (more : List ℕ) → [] ≡ flat_map ended_line (e ∷ es) ++ more → ⊥
 none_text e es more same =
     let counted : length (flat_map ended_line (e ∷ es) ++ more) ≡ length (entry_line e) + length (10 ∷ (flat_map ended_line es ++ more)) =
-    ap (λ (xs : List ℕ). length xs) (entry-text e es more) ∙ length-append (entry_line e) (10 ∷ (flat_map ended_line es ++ more)) in
+    ap (λ (xs : List ℕ). length xs) (entries-text e es more) ∙ length-append (entry_line e) (10 ∷ (flat_map ended_line es ++ more)) in
     let none : 0 ≡ length (flat_map ended_line (e ∷ es) ++ more) = ap (λ (xs : List ℕ). length xs) same in
     omega (arith, counted, none)
 
@@ -45,7 +42,7 @@ stands-in [] all more in_front in_all same = record { rest = all; parts = refl; 
 stands-in (t ∷ ts) [] more in_front in_all same = absurd (none_text t ts more same)
 stands-in (t ∷ ts) (u ∷ us) more in_front in_all same =
     let lines = first_lines (entry_line u) (entry_line t) (flat_map ended_line us) (flat_map ended_line ts ++ more) (entry-line u) (entry-line t)
-    (sym (entry-lines u us) ∙ same ∙ entry-text t ts more) in
+    (sym (entry-lines u us) ∙ same ∙ entries-text t ts more) in
     let first : u ≡ t = lines_are_distinct u t (All-head IsEntry u us in_all) (All-head IsEntry t ts in_front) lines.0 in
     let behind = stands-in ts us more (All-tail IsEntry t ts in_front) (All-tail IsEntry u us in_all) lines.1 in
     record {

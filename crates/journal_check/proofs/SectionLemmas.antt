@@ -42,10 +42,6 @@ pub record IsBeside (due old : List ℕ) (before : ℕ) (rest more : List ℕ) (
   pub goes : (later : List ℕ) (f : ℕ) → FirstOther number (lines_of rest) (lines_of (more ++ later)) f
       → FirstOther before (lines_of old) (lines_of (due ++ later)) f
 
-pub beside-first : (due old : List ℕ) (before : ℕ) → IsWhole due → IsBeside due old before old due before
-beside-first due old before whole =
-    record { front = []; old_is = refl; due_is = refl; whole = whole; few = omega arith; goes = λ later f other. other }
-
 -- a text of other lines
 first_other : (line text : List ℕ) (ls : List Line) (n : ℕ) → IsLine line → ((more : List ℕ) → text ≡ (line ++ 10 ∷ []) ++ more → ⊥)
     → ((k : List ℕ) × IsLine k × ((r : List ℕ) × (text ≡ k ++ 10 ∷ r))) ⊎ IsLine text

@@ -1,19 +1,19 @@
 -- Opening a task changes the stack and not its tree: both sides compute to the same, but for the path and the lock mode.
-use Rattle.std.proofs.Common.{◌≡◌, ℕ, zero, suc, ◌+◌, ◌<◌, ◌==◌, ◌&&◌, Bool, true, false, cond, not, List, [], ◌∷◌, length, drop, Option, Some, None, refl, sym, ◌∙◌, ap, arith, ◌⊎◌, inl, inr}
-use Rattle.std.proofs.lemmas.List.{drop-drop, drop_more}
+use Rattle.std.proofs.Common.{◌≡◌, ℕ, zero, suc, ◌+◌, ◌==◌, ◌&&◌, Bool, true, false, cond, not, List, [], ◌∷◌, drop, Option, Some, None, refl, sym, ◌∙◌, ap, ◌⊎◌, inl, inr}
+use Rattle.std.proofs.lemmas.List.{drop-drop}
 use Rattle.std.proofs.Math.Path.{fun_ext}
 use Rattle.std.specs.List.{list_any}
 use Rattle.i2c_base.specs.declared.errno.Errno.{Errno}
 use Rattle.i2c_spec.specs.Tree.{Hop, locks_of}
-use Rattle.bus_spec.specs.Walk.{Job, Act, ActOutcome, JobOutcome, Good, Note, WalkTree, Ends, Look, Then, KeptOf, Go, goes, is_line, more_of}
+use Rattle.bus_spec.specs.Walk.{Job, ActOutcome, JobOutcome, Good, Note, WalkTree, Look, Then, KeptOf, is_line, more_of}
 use Rattle.bus_spec.specs.Walk as walk
 use Rattle.bus_spec.specs.Slots.{Slots, mark_in}
-use Rattle.bus_spec.specs.Grammar.{Doer, plain, over, by_go, locked, part, messages, at_bus, closing, left_behind, opened, chosen, keeps, crossed, behind, inner, seen, first_act, rest_of}
+use Rattle.bus_spec.specs.Grammar.{Doer, plain, over, locked, part, messages, at_bus, closing, left_behind, opened, chosen, keeps, crossed, behind, inner, seen, first_act, rest_of}
 use Rattle.mux_plan.specs.declared.task.Work.{Work}
 use Rattle.mux_plan.specs.declared.task.Work.TheVariants as work
 use Rattle.mux_plan.specs.declared.task.Task.{Task}
 use Rattle.mux_plan.specs.declared.task.Task.TheVariants.{Enter, Lock, Free, Rest, Line, Settle, AwaitClose, Pass, AwaitSelect, AwaitWork, AwaitDeselect}
-use Rattle.mux_plan.specs.Plans.{RouteView, no_hop, hop_at, job_of, note_of, on_bus, tree_of, part_task, SeenView, mark_on, kept_of, choice_of, switch_of, select_tasks, wait_tasks, work_tasks, first_lock, locks_on, is_deselect, slot_of, slots_of, crossed_tasks}
+use Rattle.mux_plan.specs.Plans.{RouteView, hop_at, job_of, note_of, on_bus, tree_of, part_task, SeenView, mark_on, kept_of, choice_of, switch_of, select_tasks, wait_tasks, work_tasks, first_lock, locks_on, is_deselect, slot_of, slots_of, crossed_tasks}
 use Rattle.mux_plan.specs.Rooms.{IsStep, IsReady}
 
 -- the mark that is told is the one that is seen
@@ -29,10 +29,6 @@ keeps_stays h (Some c) e = by h.stays refl e
     by : (t : Bool) → h.stays ≡ t → t && (c == h.channel) ≡ true → h.stays ≡ true
     by true is both = is
     by false is both = cc
-
--- the mux that a walk crosses is the one of its place
-pub hop_here : (c : RouteView) (k : ℕ) → k < length c.path → drop k c.path ≡ hop_at c k ∷ drop (k + 1) c.path
-hop_here c k within = drop_more c.path k no_hop within
 
 -- what comes first at a mux, and what waits for it, by what is told
 abbrev pub next_in : RouteView → SeenView → ℕ → Work → Work
@@ -215,14 +211,6 @@ pub messages-first : (left : ℕ) (job : Job) (note : Note) (k : JobOutcome → 
 messages-first zero job note k = refl
 messages-first (suc left) job note k = refl
 
-pub messages-more : (left less : ℕ) (job : Job) (note : Note) (k : JobOutcome → WalkTree) (out : ActOutcome) → left ≡ less + 1
-    → rest_of (messages left job note k) out ≡ by_go (goes job less out) (messages less job note k) (messages 0 job note k)
-    (over job left note k out)
-messages-more zero less job note k out e = absurd (omega (arith, e))
-messages-more (suc left) less job note k out e =
-    ap (λ (n : ℕ). by_go (goes job n out) (messages n job note k) (messages 0 job note k) (over job (suc left) note k out))
-    (let f : left ≡ less = omega (arith, e) in f)
-
 -- a task is on the way to the caller's messages where no deselect is under way
 pub note_of-forward : (c : RouteView) (ts : List Task) → (note_of c ts).forward ≡ not (list_any is_deselect ts)
 note_of-forward c [] = refl
@@ -316,14 +304,6 @@ tree_of-locked c m n w ts out out2 o more e =
     ap (λ (t : Bool). tree_of c (cond t (Lock (m + 1) n w) (Enter n w) ∷ Free (first_lock c.root (drop m c.path)) ∷ ts) out) (sym e)
     ∙ sym (ap (λ (x : WalkTree). rest_of x o) (tree_of-lock c m n w ts out2 out))
 
--- a message is followed by no other
-pub messages-over : (left less : ℕ) (job : Job) (note : Note) (k : JobOutcome → WalkTree) (out : ActOutcome) → left ≡ less + 1
-    → walk.Over ≡ goes job less out
-    → over job left note k out ≡ rest_of (messages left job note k) out
-messages-over left less job note k out e f =
-    ap (λ (g : Go). by_go g (messages less job note k) (messages 0 job note k) (over job left note k out)) f
-    ∙ sym (messages-more left less job note k out e)
-
 -- .. as the loop has it: what was so far is the whole
 module _ (s : SeenView) (c : RouteView) (k : ℕ) (w : Work) (ts : List Task)
     (out : JobOutcome) where
@@ -374,18 +354,3 @@ ready-step (Pass k w) ts ready other pass = pass k w refl
 ready-step (AwaitSelect k w) ts ready other pass = ready
 ready-step (AwaitWork k) ts ready other pass = ready
 ready-step (AwaitDeselect k was) ts ready other pass = ready
-
--- a step isn't waiting
-pub step-ready : (ts : List Task) → IsStep ts → IsReady ts
-step-ready [] step = tt
-step-ready (Enter n w ∷ ts) step = tt
-step-ready (Lock m n w ∷ ts) step = tt
-step-ready (Free l ∷ ts) step = tt
-step-ready (Rest left w ∷ ts) step = tt
-step-ready (Line w ∷ ts) step = tt
-step-ready (Settle v ∷ ts) step = tt
-step-ready (AwaitClose k m w ∷ ts) step = step
-step-ready (Pass k w ∷ ts) step = tt
-step-ready (AwaitSelect k w ∷ ts) step = step
-step-ready (AwaitWork k ∷ ts) step = step
-step-ready (AwaitDeselect k was ∷ ts) step = step

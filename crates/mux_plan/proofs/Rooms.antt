@@ -3,9 +3,9 @@ use Rattle.std.proofs.Common.{◌≡◌, ℕ, ◌+◌, ◌*◌, ◌<◌, ◌≤�
 use Rattle.bus_spec.specs.Walk.{JobOutcome}
 use Rattle.mux_plan.specs.declared.task.Work.{Work}
 use Rattle.mux_plan.specs.declared.task.Task.{Task}
-use Rattle.mux_plan.specs.declared.task.Task.TheVariants.{Enter, Lock, Pass, AwaitWork}
-use Rattle.mux_plan.specs.Plans.{RouteView, tree_of, part_task, select_tasks, wait_tasks, crossed_tasks, work_tasks}
-use Rattle.mux_plan.specs.Rooms.{IsPlacedWork, Fits, IsPlaced, IsPlanned}
+use Rattle.mux_plan.specs.declared.task.Task.TheVariants.{Enter, Lock, Pass}
+use Rattle.mux_plan.specs.Plans.{RouteView, tree_of, part_task, select_tasks, wait_tasks, crossed_tasks}
+use Rattle.mux_plan.specs.Rooms.{IsPlacedWork, IsPlaced, IsPlanned}
 
 -- a mux is crossed: the job that comes first there stands over what waits
 select_placed : (d : ℕ) (keep : Bool) (k : ℕ) (w : Work) (ts : List Task) → IsPlacedWork d w → k < d
@@ -19,11 +19,6 @@ wait_placed : (d : ℕ) (mark : Option ℕ) (keep : Bool) (k : ℕ) (w : Work) (
     → IsPlaced d (wait_tasks mark keep k w ts) × (length (wait_tasks mark keep k w ts) ≤ 6 * (k + 1))
 wait_placed d None keep k w ts own within room placed = select_placed d keep k w ts own within room placed
 wait_placed d (Some m) keep k w ts own within room placed = (((own, within, room), placed), omega (arith, room))
-
--- no more than one task waits
-pub select-few : (keep : Bool) (k : ℕ) (w : Work) (ts : List Task) → length (select_tasks keep k w ts) ≤ length ts + 1
-select-few true k w ts = omega arith
-select-few false k w ts = omega arith
 
 module _ (c c1 : RouteView) (k : ℕ) (w next : Work) (parent : Bool) (mark : Option ℕ) (keep : Bool) (ts new : List Task)
     (p : IsPlanned c (Enter k w ∷ ts))
@@ -75,34 +70,6 @@ module _ (c c1 : RouteView) (k : ℕ) (w next : Work) (keep : Bool) (ts new : Li
         narrow = p.narrow;
         placed = ((own, omega arith, omega (arith, p.placed.0.1), omega (arith, below.1)), below.0);
       }
-
--- work on the bus of a mux stands over what waits for it
-pub planned-part : (c c1 : RouteView) (parent : Bool) (k : ℕ) (w : Work) (t : Task) (ts new : List Task) → IsPlanned c ts
-    → IsPlacedWork (length c.path) w → k < length c.path → length ts + 1 ≤ 6 * (k + 1)
-    → Fits (length c.path) t (length ts) → c1 ≡ c → new ≡ part_task parent (k + 1) w ∷ t ∷ ts → IsPlanned c1 new
-planned-part c c1 true k w t ts new p own within room fits same stack =
-    subst (λ (x : RouteView). IsPlanned x new) (sym same) (subst (λ (x : List Task). IsPlanned c x) (sym stack)
-    (record { deep = p.deep; narrow = p.narrow; placed = ((own, omega (arith, within), omega (arith, room)), (fits, p.placed)) }))
-planned-part c c1 false k w t ts new p own within room fits same stack =
-    subst (λ (x : RouteView). IsPlanned x new) (sym same) (subst (λ (x : List Task). IsPlanned c x) (sym stack)
-    (record {
-      deep = p.deep;
-      narrow = p.narrow;
-      placed = ((own, omega arith, omega (arith, within), omega (arith, room)), (fits, p.placed));
-    }))
-
--- .. and over what waits for the work behind a mux
-pub planned-work : (c c1 : RouteView) (parent stays : Bool) (k : ℕ) (w : Work) (ts new : List Task) → IsPlanned c ts
-    → IsPlacedWork (length c.path) w → k < length c.path → length ts + 1 ≤ 6 * (k + 1)
-    → c1 ≡ c → new ≡ part_task parent (k + 1) w ∷ work_tasks stays k ts → IsPlanned c1 new
-planned-work c c1 parent false k w ts new p own within room same stack = planned-part c c1 parent k w
-    (AwaitWork k) ts new p own within room (within, room) same stack
-planned-work c c1 true true k w ts new p own within room same stack =
-    subst (λ (x : RouteView). IsPlanned x new) (sym same) (subst (λ (x : List Task). IsPlanned c x) (sym stack)
-    (record { deep = p.deep; narrow = p.narrow; placed = ((own, omega (arith, within), omega (arith, room)), p.placed) }))
-planned-work c c1 false true k w ts new p own within room same stack =
-    subst (λ (x : RouteView). IsPlanned x new) (sym same) (subst (λ (x : List Task). IsPlanned c x) (sym stack)
-    (record { deep = p.deep; narrow = p.narrow; placed = ((own, omega arith, omega (arith, within), omega (arith, room)), p.placed) }))
 
 -- the task on the top, which is dropped, stands over what is left
 module _ (c : RouteView) (stack left : List Task) (top task : Task) (on : stack ≡ top ∷ drop 1 stack) (is : top ≡ task)

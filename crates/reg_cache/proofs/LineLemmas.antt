@@ -10,7 +10,7 @@ use Rattle.dev_handle.specs.Handles.{HandlesView, handle_at, if_open, answer_by_
 use Rattle.dev_handle.specs.declared.handle.OpenHandle.{OpenHandle}
 use Rattle.tools.specs.Dialogues.{Dialogue}
 use Rattle.tools.specs.Gets as gets
-use Rattle.tools.specs.Gets.{get_run, run_by, register_run, mode_of_get, len_of}
+use Rattle.tools.specs.Gets.{run_by, register_run, mode_of_get, len_of}
 use Rattle.tools.specs.Sets as sets
 use Rattle.tools.specs.Sets.{set_op}
 use Rattle.tools.specs.Runs as forms

@@ -29,14 +29,7 @@ use Rattle.tools.specs.declared.command.driver.lm75.RegName.TheVariants.{Temp}
 use Rattle.caller_core.specs.Reach.{is_forced_in, addrs_of}
 use Rattle.reg_cache.specs.Cacheable.{Touches, Unforced, Forced, SensorRead, OtherDriver}
 use Rattle.reg_cache.proofs.DriverLemmas.{register_named, reads-are}
-
-and_left : (x y : Bool) → (x && y) ≡ true → x ≡ true
-and_left true y e = refl
-and_left false y e = e
-
-and_right : (x y : Bool) → (x && y) ≡ true → y ≡ true
-and_right true y e = e
-and_right false y e = absurd (let f : false ≡ true = e in cc)
+use Rattle.i2c_base.proofs.Booleans.{and_first, and_last}
 
 -- ---- SMBus calls: all messages go to the address of the call
 read_all : (addr : ℕ) (coded : Bool) (r : ReadShape) → AllByRecursion (λ (m : Msg). m.addr ≡ addr) (read_messages addr coded r)
@@ -108,14 +101,14 @@ module _ (b : BoardView) (text : List ℕ) where
       → (i : IsBound kinds bus addr) × (i.v ≡ v)
   bound_there kinds bus addr v e =
       let r = find_there (λ (d : DeviceView). is_bound_at bus addr d && kinds d.kind) b.devices v e in
-      let place = and_right v.bound (eqb v.bus bus && eqb v.addr addr) (and_left (is_bound_at bus addr v) (kinds v.kind) r.2) in (
+      let place = and_last v.bound (eqb v.bus bus && eqb v.addr addr) (and_first (is_bound_at bus addr v) (kinds v.kind) r.2) in (
         record {
           e = r.0;
           v = v;
           at = r.1;
-          bus_is = eqb-true v.bus bus (and_left (eqb v.bus bus) (eqb v.addr addr) place);
-          addr_is = eqb-true v.addr addr (and_right (eqb v.bus bus) (eqb v.addr addr) place);
-          kind_is = and_right (is_bound_at bus addr v) (kinds v.kind) r.2;
+          bus_is = eqb-true v.bus bus (and_first (eqb v.bus bus) (eqb v.addr addr) place);
+          addr_is = eqb-true v.addr addr (and_last (eqb v.bus bus) (eqb v.addr addr) place);
+          kind_is = and_last (is_bound_at bus addr v) (kinds v.kind) r.2;
         },
         refl,
       )

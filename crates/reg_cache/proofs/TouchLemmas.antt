@@ -1,7 +1,7 @@
 -- Who may touch: where each transfer is one that a text may ask for, all are harmless for what the rule lets callers keep. The
 -- inductions go over the texts and the devices.
 use Rattle.std.proofs.Common.{◌≡◌, ℕ, zero, suc, ◌+◌, ◌<◌, Bool, true, false, cond, not, ◌&&◌, ◌||◌, List, [], ◌∷◌, length, map, Option, Some, None, eqb, refl, sym, ◌∙◌, ap, subst, arith, zero-add}
-use Rattle.std.proofs.lemmas.Bool.{eqb-true}
+use Rattle.std.proofs.lemmas.Bool.{eqb-true, not-true}
 use Rattle.std.proofs.Math.Bool.{or-true}
 use Rattle.std.proofs.lemmas.List.FromFn.{length-range_with_len, get_or-range_with_len}
 use Rattle.std.proofs.lemmas.Option.{slice_get-get_or, slice_get_within}
@@ -24,36 +24,9 @@ use Rattle.cache_laws.proofs.Touch.{leaves-unforced, leaves-apart, leaves-other}
 use Rattle.reg_cache.specs.Cached.{cached_on}
 use Rattle.caller_core.specs.Reach.{is_forced_in, writes_in}
 use Rattle.reg_cache.specs.Cacheable.{Touches, Unforced, Forced, SensorRead, SensorWrite, OtherDriver, AsksTouch, another_writes, is_cacheable_device, is_cacheable, cacheable_devices, cached_texts, is_kept_by_some}
-
-and_left : (x y : Bool) → (x && y) ≡ true → x ≡ true
-and_left true y e = refl
-and_left false y e = e
-
-and_right : (x y : Bool) → (x && y) ≡ true → y ≡ true
-and_right true y e = e
-and_right false y e = absurd (let f : false ≡ true = e in cc)
-
-is_not : (x : Bool) → not x ≡ true → x ≡ false
-is_not true e = absurd (let f : false ≡ true = e in cc)
-is_not false e = refl
-
-any_found : {X : Type 0} (test : X → Bool) (xs : List X) → list_any test xs ≡ true → (i : ℕ) × (x : X) × (slice_get xs i ≡ Some x) × (test x ≡ true)
-any_found test [] e = absurd (let f : false ≡ true = e in cc)
-any_found {X} test (x ∷ xs) e = by (test x) refl (any_found test xs)
-  where
-    by : (z : Bool) → test x ≡ z → (list_any test xs ≡ true → (i : ℕ) × (y : X) × (slice_get xs i ≡ Some y) × (test y ≡ true))
-        → (i : ℕ) × (y : X) × (slice_get (x ∷ xs) i ≡ Some y) × (test y ≡ true)
-    by true f more = (0, x, refl, f)
-    by false f more =
-        let r = more (sym (ap (λ (z : Bool). z || list_any test xs) f) ∙ e) in
-        (suc r.0, r.1, r.2, r.3)
-
-any_here : {X : Type 0} (test : X → Bool) (xs : List X) (i : ℕ) (x : X) → slice_get xs i ≡ Some x → test x ≡ true → list_any test xs ≡ true
-any_here test [] i x at e = absurd (let f : None ≡ Some x = at in cc)
-any_here test (y ∷ ys) zero x at e =
-    let same : y ≡ x = (let f : Some y ≡ Some x = at in cc) in
-    ap (λ (z : Bool). z || list_any test ys) (ap test same ∙ e)
-any_here test (y ∷ ys) (suc i) x at e = ap (λ (z : Bool). test y || z) (any_here test ys i x at e) ∙ or-true (test y)
+use Rattle.i2c_base.proofs.Booleans.{and_first, and_last}
+use Rattle.std.proofs.lemmas.Map.Keys.{any_passes_from_place}
+use Rattle.i2c_base.proofs.ListLemmas.{any_found}
 
 number_there : (n c : ℕ) → c < n → slice_get (range_with_len 0 n) c ≡ Some c
 number_there n c low =
@@ -75,19 +48,19 @@ is_free b texts c d e = by (slice_get b.devices d) refl e
     by : (o : Option DeviceView) → slice_get b.devices d ≡ o → option_map_or (is_cacheable_device b texts c) o false ≡ true → IsFree b texts c d
     by None at f = absurd (let g : false ≡ true = f in cc)
     by (Some v) at f =
-        let first = and_left (v.bound && is_sensor v.kind)
+        let first = and_first (v.bound && is_sensor v.kind)
         (not (list_any (is_forced_in b v.addr) texts) && not (another_writes b v.bus v.addr c 0 texts)) f in
-        let second = and_right (v.bound && is_sensor v.kind)
+        let second = and_last (v.bound && is_sensor v.kind)
         (not (list_any (is_forced_in b v.addr) texts) && not (another_writes b v.bus v.addr c 0 texts)) f in
         record {
           v = v;
           at = at;
-          bound = and_left v.bound (is_sensor v.kind) first;
-          sensor = and_right v.bound (is_sensor v.kind) first;
-          free = is_not (list_any (is_forced_in b v.addr) texts)
-              (and_left (not (list_any (is_forced_in b v.addr) texts)) (not (another_writes b v.bus v.addr c 0 texts)) second);
-          alone = is_not (another_writes b v.bus v.addr c 0 texts)
-              (and_right (not (list_any (is_forced_in b v.addr) texts)) (not (another_writes b v.bus v.addr c 0 texts)) second);
+          bound = and_first v.bound (is_sensor v.kind) first;
+          sensor = and_last v.bound (is_sensor v.kind) first;
+          free = not-true (list_any (is_forced_in b v.addr) texts)
+              (and_first (not (list_any (is_forced_in b v.addr) texts)) (not (another_writes b v.bus v.addr c 0 texts)) second);
+          alone = not-true (another_writes b v.bus v.addr c 0 texts)
+              (and_last (not (list_any (is_forced_in b v.addr) texts)) (not (another_writes b v.bus v.addr c 0 texts)) second);
         }
 
 kept_free : (b : BoardView) (texts : List (List ℕ)) (d : ℕ) → is_kept_by_some b texts d ≡ true → (c : ℕ) × IsFree b texts c d
@@ -166,7 +139,7 @@ module _ (b : BoardView) (tree : IsTree b) (texts : List (List ℕ)) (c : ℕ) (
   leaves_others e w at ne forced bus addrs = Leaves (λ d is. leaves-other b tree t d e w at (ne d is) forced bus addrs)
 
   unforced : (a : ℕ) → list_any (is_forced_in b a) texts ≡ false → is_forced_in b a text ≡ true → ⊥
-  unforced a free is = (let f : true ≡ false = sym (any_here (is_forced_in b a) texts c text there is) ∙ free in absurd cc)
+  unforced a free is = (let f : true ≡ false = sym (any_passes_from_place (is_forced_in b a) texts c text there is) ∙ free in absurd cc)
 
   apart_all : (a : ℕ) → list_any (is_forced_in b a) texts ≡ false → (ms : List Msg)
       → AllByRecursion (λ (m : Msg). is_forced_in b m.addr text ≡ true) ms → AllByRecursion (λ (m : Msg). a ≡ m.addr → ⊥) ms
@@ -224,7 +197,7 @@ may-be-cached b tree texts touch =
             → AllByRecursion (λ (x : ℕ). is_kept_by_some b texts x ≡ true)
             (cond z (d ∷ filter (is_cacheable b texts c) ds) (filter (is_cacheable b texts c) ds))
         by true is more = (
-          any_here (λ (k : ℕ). is_cacheable b texts k d) (range_with_len 0 (length texts)) c c (number_there (length texts) c low) is,
+          any_passes_from_place (λ (k : ℕ). is_cacheable b texts k d) (range_with_len 0 (length texts)) c c (number_there (length texts) c low) is,
           more,
         )
         by false is more = more

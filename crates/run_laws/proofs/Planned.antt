@@ -17,6 +17,7 @@ use Rattle.i2c_gen.specs.declared.plan.Plan.{Plan}
 use Rattle.i2c_gen.proofs.ScriptLemmas.{command_at, lines_from, script_is_read}
 use Rattle.i2c_top.specs.Numbers.{is_numeral, number_named}
 use Rattle.i2c_top.specs.forms.Generations.{plan_by, plan_in}
+use Rattle.std.proofs.lemmas.Bool.{and_parts}
 
 -- SCRIPTS: one that is read as some commands is read as its own
 read_whole : (s : ScriptView) (cs : List CommandView) → script_read s ≡ Ok cs → script_read s ≡ Ok (commands_of s)
@@ -48,12 +49,6 @@ schedule-named p =
     below : (k : ℕ) → draw p.seed k MOST_CALLERS < MOST_CALLERS
     below k = mod-lt (number_behind p.seed (suc k) / 2 ^ 33) (omega arith)
 
--- THE PLAN: a number that a word names is from low to high
-both : (a b : Bool) → a && b ≡ true → (a ≡ true) × (b ≡ true)
-both true true is = (refl, refl)
-both true false is = cc
-both false b is = cc
-
 named_within : (low high : ℕ) (word : List ℕ) (n : ℕ) → number_named low high word ≡ Some n → (low ≤ n) × (n ≤ high)
 named_within low high word n named = by (is_numeral word) named
   where
@@ -63,7 +58,7 @@ named_within low high word n named = by (is_numeral word) named
     by_range : (t : Bool) → nat_le low v && nat_le v high ≡ t → (if t then Some v else None) ≡ Some n → (low ≤ n) × (n ≤ high)
     by_range true is e =
         let same : v ≡ n = cc in
-        let parts = both (nat_le low v) (nat_le v high) is in
+        let parts = and_parts (nat_le low v) (nat_le v high) is in
         subst (λ (k : ℕ). (low ≤ k) × (k ≤ high)) same (leb-true low v parts.0, leb-true v high parts.1)
     by_range false is e = absurd (let none : None ≡ Some n = e in cc)
 

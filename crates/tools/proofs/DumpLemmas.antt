@@ -17,7 +17,7 @@ use Rattle.smb_emul.specs.declared.call.SmbFail.TheVariants.{Errno}
 use Rattle.smb_emul.specs.declared.call.SmbOp.{SmbOp}
 use Rattle.smb_emul.specs.declared.call.SmbOp.TheVariants as op
 use Rattle.tools.specs.Commands.{IsInRange}
-use Rattle.tools.specs.Dialogues.{Dialogue, AreAlike, AreReplies, next_place}
+use Rattle.tools.specs.Dialogues.{Dialogue, AreReplies, next_place}
 use Rattle.tools.specs.DumpTables.{dump_places, dump_op, dump_call, is_refusal, register_read, is_dumped, byte_cell, byte_sign, dump_cell, dump_sign, byte_row, rows, byte_line, byte_table, word_cell, dump_word, word_row, table_by, told_alone, dump_lines, dumps}
 use Rattle.tools.specs.Dumps.{is_dash, range_with, range_of, range_word, dump_mode, dumped, range_or_all, dump_tail, dump_bus, unless, by_yes, dump_options, dump_words, IsWhole, IsDumpInRange}
 use Rattle.tools.specs.Grammars.{Grammar, word, class, read_at}
@@ -33,10 +33,11 @@ use Rattle.tools.specs.declared.command.dump.DumpMode.TheVariants as mode
 use Rattle.tools.specs.declared.command.dump.DumpOptions.{DumpOptions}
 use Rattle.tools.proofs.CallLemmas.{some_same}
 use Rattle.tools.proofs.GrammarLemmas.{AllEnds, EndsWithin, ends_within_most}
-use Rattle.tools.proofs.OptionLemmas.{IsBetween, bounded, both, if_named, mode_is, number_between}
+use Rattle.tools.proofs.OptionLemmas.{IsBetween, bounded, if_named, mode_is, number_between}
 use Rattle.tools.proofs.TableLemmas.{parts_line, row_section, rows_section}
 use Rattle.tools.proofs.TransferLemmas.{IsAsk, call_asks, short_byte}
 use Rattle.tools.proofs.ValueLemmas.{others, result_line}
+use Rattle.i2c_base.proofs.Booleans.{and_first}
 
 -- ---- its options are read one by one
 
@@ -122,7 +123,7 @@ mode_fits r w =
     (if_named (IsWholeOf r) (bytes_eq w (codes "wp")) (mode.Word, true) _ (λ e. tt)
     (if_named (IsWholeOf r) (bytes_eq w (codes "cp")) (mode.Receive, true) _ (λ e. tt)
     (if_named (IsWholeOf r) (not (is_some r) && bytes_eq w (codes "i")) (mode.I2cBlock, false) _
-    (λ e. all_whole r (both (not (is_some r)) (bytes_eq w (codes "i")) e)) tt))))))
+    (λ e. all_whole r (and_first (not (is_some r)) (bytes_eq w (codes "i")) e)) tt))))))
 
 unless_ends : (P : Cmd → Type 0) (given : Bool) (text : Word) (g h : Grammar Cmd) → AllEnds P g → AllEnds P h
     → AllEnds P (unless given text g h)
@@ -306,7 +307,7 @@ word_cell_line (Some w) =
 
 printable : (b : ℕ) (t u : Bool) → (nat_le 32 b && nat_le b 126) ≡ t → IsLine (cond t b (cond u 46 63) ∷ [])
 printable b true u e =
-    let low : 32 ≤ b = bounded 32 b (both (nat_le 32 b) (nat_le b 126) e) in
+    let low : 32 ≤ b = bounded 32 b (and_first (nat_le 32 b) (nat_le b 126) e) in
     let other : (b == 10) ≡ false = grind (arith, nat_tests) in
     rw other refl
 printable b false true e = refl
@@ -376,15 +377,3 @@ dump_section d rs = told_section (slice_get rs 0) (table_by d.mode d rs) (table_
 
 abbrev asked_by : Dump → DumpMode → ℕ → SmbCall
 asked_by d m k = record { bus = d.bus; addr = d.addr; force = d.force; pec = d.pec; op = dump_op m d.first k }
-
-calls_alike : (d : Dump) (m : DumpMode) (j k : ℕ) → (m ≡ mode.Receive → ((j == 0) ≡ false) × ((k == 0) ≡ false))
-    → AreAlike (messages_of_call (asked_by d m j)) (messages_of_call (asked_by d m k))
-calls_alike d mode.Byte j k h = record { bus = refl; msgs = refl }
-calls_alike d mode.Word j k h = record { bus = refl; msgs = refl }
-calls_alike d mode.Receive j k h = rw ((h refl).0, (h refl).1) record { bus = refl; msgs = refl }
-calls_alike d mode.I2cBlock j k h = record { bus = refl; msgs = refl }
-
-pub dumps_alike : (d : Dump) (k : ℕ) → 0 < k → (d.mode ≡ mode.Receive → 1 < k)
-    → AreAlike (messages_of_call (dump_call d (k - 1))) (messages_of_call (dump_call d k))
-dumps_alike d k some further =
-    calls_alike d d.mode (k - 1) k (λ e. let more = further e in (grind (arith, nat_tests, more), grind (arith, nat_tests, more)))

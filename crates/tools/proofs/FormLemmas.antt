@@ -111,7 +111,7 @@ says_nothing lines k within = absurd (omega arith)
 
 -- ---- its lines
 
-one_line : (line : List ℕ) → IsSectionLine line → All IsSectionLine (line ∷ [])
+pub one_line : (line : List ℕ) → IsSectionLine line → All IsSectionLine (line ∷ [])
 one_line line is = All-cons IsSectionLine line [] is (All-nil IsSectionLine)
 
 pub says_lines : (lines : List (List ℕ)) → All IsSectionLine lines → HasSectionLines (run.Says lines)

@@ -1,5 +1,5 @@
 -- What lines have in common: a number in a word is in its range, and the options are read before what follows them.
-use Rattle.std.proofs.Common.{◌≡◌, ℕ, suc, ◌+◌, ◌≤◌, ◌&&◌, nat_le, Bool, true, false, List, Option, Some, None, Result, Ok, Err, cond, codes, refl, subst, arith}
+use Rattle.std.proofs.Common.{◌≡◌, ℕ, suc, ◌+◌, ◌≤◌, nat_le, Bool, true, false, List, Option, Some, None, Result, Ok, Err, cond, codes, refl, subst, arith}
 use Rattle.std.specs.Prelude.{IfSome}
 use Rattle.std.proofs.lemmas.Bool.Decides.{nat_tests}
 use Rattle.tools.specs.Grammars.{Grammar, read_at}
@@ -11,10 +11,6 @@ use Rattle.tools.proofs.GrammarLemmas.{AllEnds, EndsWithin, ends_within_more}
 
 pub bounded : (a b : ℕ) → nat_le a b ≡ true → a ≤ b
 bounded a b h = grind (arith, nat_tests)
-
-pub both : (a b : Bool) → (a && b) ≡ true → a ≡ true
-both true b h = refl
-both false b h = absurd cc
 
 -- a mode that a test names, and the modes after it
 pub if_named : {M : Type 0} (Q : M → Type 0) (b : Bool) (m : M) (o : Option M) → (b ≡ true → Q m) → IfSome o Q

@@ -24,7 +24,7 @@ all_lines (l ∷ ls) h =
     ∙ ap (λ xs. l ∷ xs) (all_lines ls (All-tail IsLine l ls h))
 
 -- whatever the text, no line feed stands in its lines
-onto_lines : (b : ℕ) (ls : List (List ℕ)) → (b == 10) ≡ false → All IsLine ls → All IsLine (onto_first b ls)
+pub onto_lines : (b : ℕ) (ls : List (List ℕ)) → (b == 10) ≡ false → All IsLine ls → All IsLine (onto_first b ls)
 onto_lines b [] e h = All-cons IsLine (b ∷ []) [] (or_from _ _ e refl) (All-nil IsLine)
 onto_lines b (l ∷ ls) e h = All-cons IsLine (b ∷ l) ls (or_from _ _ e (All-head IsLine l ls h)) (All-tail IsLine l ls h)
 

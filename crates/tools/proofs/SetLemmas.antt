@@ -19,8 +19,9 @@ use Rattle.tools.specs.declared.command.set.SetMode.TheVariants as set_mode
 use Rattle.tools.specs.declared.command.set.SetPiece.{SetPiece}
 use Rattle.tools.specs.declared.command.set.SetPiece.TheVariants as piece
 use Rattle.tools.proofs.GrammarLemmas.{AllEnds, EndsWithin}
-use Rattle.tools.proofs.OptionLemmas.{bounded, both, if_named, mode_is, number_between, options_end, options_within}
+use Rattle.tools.proofs.OptionLemmas.{bounded, if_named, mode_is, number_between, options_end, options_within}
 use Rattle.tools.specs.Readers.{one_at}
+use Rattle.i2c_base.proofs.Booleans.{and_first}
 
 -- ---- its range
 
@@ -60,7 +61,7 @@ module _ (limit : ℕ) (h : SetHead) (on : h.bus < 2 ^ 16) (to : IsTargetAddress
       if_named _ (bytes_eq w (codes "s")) (set_mode.Block, false) _ (λ e. block)
       (if_named _ (bytes_eq w (codes "sp")) (set_mode.Block, true) _ (λ e. block)
       (if_named _ (short && bytes_eq w (codes "i")) (set_mode.I2cBlock, false) _
-      (λ e. (block.0, block.1, few (both short (bytes_eq w (codes "i")) e))) tt))
+      (λ e. (block.0, block.1, few (and_first short (bytes_eq w (codes "i")) e))) tt))
 
   byte_fits : (w : Word) (v : ℕ) → v < 256 → IfSome (byte_mode w) (λ m. HasValues limit (Some m.0) (v ∷ []))
   byte_fits w v is_byte =

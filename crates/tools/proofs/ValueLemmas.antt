@@ -1,5 +1,5 @@
 -- The text of a value is one line, and not the line `journal`; that of an error is short.
-use Rattle.std.proofs.Common.{◌≡◌, ℕ, ◌<◌, ◌≤◌, ◌/◌, ◌%◌, List, [], ◌∷◌, ◌++◌, codes, length, get_or, refl, ap, ◌∙◌, append_assoc, arith}
+use Rattle.std.proofs.Common.{◌≡◌, ℕ, ◌<◌, ◌≤◌, ◌/◌, ◌%◌, List, [], ◌∷◌, ◌++◌, codes, length, get_or, refl, ap, arith}
 use Rattle.std.specs.Prelude.{Result, Ok, Err}
 use Rattle.std.specs.List.{flat_map}
 use Rattle.bus_journal.specs.Reports.{IsLine, IsSectionLine}
@@ -28,7 +28,7 @@ others text c first low e = let h : get_or text 0 0 ≡ 106 = ap (λ xs. get_or 
 others_above : (text : List ℕ) (c : ℕ) → get_or text 0 0 ≡ c → (106 < c) → ¬ (text ≡ codes "journal")
 others_above text c first high e = let h : get_or text 0 0 ≡ 106 = ap (λ xs. get_or xs 0 0) e in omega (arith, h, first, high)
 
-errno : (e : Errno) → IsSectionLine (errno_text e)
+pub errno : (e : Errno) → IsSectionLine (errno_text e)
 errno Eio = record { one = refl; other = others (errno_text Eio) 69 refl (omega arith) }
 errno Enxio = record { one = refl; other = others (errno_text Enxio) 69 refl (omega arith) }
 errno Ebadf = record { one = refl; other = others (errno_text Ebadf) 69 refl (omega arith) }
@@ -81,7 +81,3 @@ errno_short Ebadmsg = omega arith
 errno_short Eopnotsupp = omega arith
 errno_short Etimedout = omega arith
 errno_short Eremoteio = omega arith
-
--- a text that is put together piece by piece
-pub four_pieces : (o a b c d : List ℕ) → (((o ++ a) ++ b) ++ c) ++ d ≡ o ++ (a ++ (b ++ (c ++ d)))
-four_pieces o a b c d = append_assoc ((o ++ a) ++ b) c d ∙ append_assoc (o ++ a) b (c ++ d) ∙ append_assoc o a (b ++ (c ++ d))

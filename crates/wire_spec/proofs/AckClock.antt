@@ -70,13 +70,13 @@ holds_one t byte r j a true e true x = refl
 holds_one t byte r j a true e false x = refl
 holds_one t byte r j a false e h x = refl
 
-pulls_one : {X : Type 0} (t : Table X) (byte r j : ℕ) (a : ℕ) (jd e h : Bool) (x : X)
+pub pulls_one : {X : Type 0} (t : Table X) (byte r j : ℕ) (a : ℕ) (jd e h : Bool) (x : X)
     → pulls_line t (waiting_if t byte r j (site_of a jd e x) jd h) ≡ acknowledges_if t byte (site_of a jd e x) jd h
 pulls_one t byte r j a true e true x = refl
 pulls_one t byte r j a true e false x = refl
 pulls_one t byte r j a false e h x = refl
 
-gone : (n : ℕ) → not (n == 0) ≡ false → n ≡ 0
+pub gone : (n : ℕ) → not (n == 0) ≡ false → n ≡ 0
 gone n h = grind (arith, nat_tests)
 
 fall_one : {X : Type 0} (t : Table X) (byte r j : ℕ) (a : ℕ) (jd e h : Bool) (x : X) → stays_if t byte j (site_of a jd e x) jd h ≡ false

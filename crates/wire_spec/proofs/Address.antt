@@ -32,7 +32,7 @@ pub call_last : {X : Type 0} (t : Table X) (v : ℕ) (h : Bool) (a : ℕ) (j e :
 call_last t v h a true e x = last_hit t (shifted v h) a e (is_named (shifted v h) (site_of a true e x)) x
 call_last t v h a false e x = refl
 
-call_quiet : {X : Type 0} (t : Table X) (n v a : ℕ) (j e : Bool) (x : X) → pulls_line t (calling n v (site_of a j e x)) ≡ false
+pub call_quiet : {X : Type 0} (t : Table X) (n v a : ℕ) (j e : Bool) (x : X) → pulls_line t (calling n v (site_of a j e x)) ≡ false
 call_quiet t n v a true e x = refl
 call_quiet t n v a false e x = refl
 

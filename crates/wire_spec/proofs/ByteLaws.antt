@@ -11,10 +11,11 @@ use Rattle.wire_spec.specs.Calls.{more_edges, last_low, within, within_address, 
 use Rattle.wire_spec.specs.Laws.{bits_above}
 use Rattle.wire_spec.proofs.ByteLemmas.{value_bits}
 use Rattle.wire_spec.proofs.Roots.{map_step, take_one, take_sda, give_sda, give_step}
-use Rattle.wire_spec.proofs.Calm.{IsCalm, bit_calm, not_not, edges_after}
+use Rattle.wire_spec.proofs.Calm.{IsCalm, bit_calm, edges_after}
 use Rattle.wire_spec.proofs.Rests.{take_calm, give_calm, put_bits, put_ack, get_bits, get_answer}
 use Rattle.wire_spec.proofs.Address.{call_one, call_sda}
 use Rattle.wire_spec.proofs.StartClocks.{call_calm}
+use mathlib.Core.Bool.{not-not}
 
 pub bits_are : (byte : ℕ) → byte < 256 → value 0 (bits 8 byte) ≡ byte
 bits_are byte lt = value_bits 8 byte 0 ∙ omega arith
@@ -58,7 +59,7 @@ gets_are_events {X} t mask ack low ss c =
     let before : Counts = edges_after (replicate 8 true) c in
     ap (λ (d : Came X). then_answer d (bit_step t mask 0 (not ack) d.bus)) (get_bits t mask low ss c)
     ∙ (ap (λ (d : Came X). record d { read = a }) (get_answer t mask ack 0 false ss before)
-    ∙ (ap (λ l. came_up a (after l (one_edge before))) (not_not ack) ∙ ap (λ k. came_up a (after ack k)) (nine_edges (replicate 8 true) c refl)))
+    ∙ (ap (λ l. came_up a (after l (one_edge before))) (not-not ack) ∙ ap (λ k. came_up a (after ack k)) (nine_edges (replicate 8 true) c refl)))
 
 -- ---- a byte that is cut: one bit after the other, of targets that shift bits in alike
 module _ {X : Type 0} (t : Table X) (mask : Mask X) (ss : List (Site X)) (f : ℕ → ℕ → Site X → Bit X)

@@ -9,6 +9,7 @@ use Rattle.wire_spec.specs.Roots.{some_one, sda, where_joined, clock_all, run, l
 use Rattle.wire_spec.specs.Bus.{Mask, Counts, one_edge, Bus, holds_line, scl_level, sda_level, each, rises, edge, pulled, looked, await, closed, bit_step, bit_steps, then_bits, bus_of, came_up}
 use Rattle.wire_spec.specs.Calls.{last_low}
 use Rattle.wire_spec.proofs.Roots.{map_step}
+use mathlib.Core.Bool.{not-not}
 
 -- in these clocks nobody holds SCL, and what is pulled stays while SCL is high
 pub record IsCalm {X : Type 0} (t : Table X) (ts : List (Bit X)) (h : Bool) : Type 0 where
@@ -19,10 +20,6 @@ pub record IsCalm {X : Type 0} (t : Table X) (ts : List (Bit X)) (h : Bool) : Ty
 abbrev pub Calm : {X : Type 0} → Table X → List (Bit X) → List Bool → Type 0
 Calm t ts [] = Unit {0}
 Calm t ts (h ∷ hs) = IsCalm t ts h × Calm t (clock_all t ts h) hs
-
-pub not_not : (b : Bool) → not (not b) ≡ b
-not_not true = refl
-not_not false = refl
 
 -- SCL is let go, and rises
 pub goes_up : {X : Type 0} (t : Table X) (mask : Mask X) (ts : List (Bit X)) (c : Counts) (low : Bool)
@@ -93,9 +90,9 @@ pub up_calm : {X : Type 0} (t : Table X) (v n : ℕ) (h : Bool) (ts : List (Bit 
     ≡ came_up (shifted v (sda t ts h)) (bus_of false (not h) (risen t ts h) (one_edge c))
 up_calm {X} t v n h ts c calm =
     let w : Bus X = bus_of false (not h) (risen t ts h) (one_edge c) in
-    ap (λ k. await t v (suc n) (bus_of false (not h) (risen t ts k) (one_edge c))) (not_not h)
+    ap (λ k. await t v (suc n) (bus_of false (not h) (risen t ts k) (one_edge c))) (not-not h)
     ∙ (looks_up t v n w (ap not calm.high)
-    ∙ ap (λ l. came_up (shifted v l) w) (ap (λ k. sda t (risen t ts h) k) (not_not h) ∙ calm.stays))
+    ∙ ap (λ l. came_up (shifted v l) w) (ap (λ k. sda t (risen t ts h) k) (not-not h) ∙ calm.stays))
 
 pub bit_calm : {X : Type 0} (t : Table X) (mask : Mask X) (v : ℕ) (h : Bool) (low : Bool) (ts : List (Bit X)) (c : Counts) → IsCalm t ts h
     → bit_step t mask v h (bus_of true low ts c)

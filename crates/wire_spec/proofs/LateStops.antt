@@ -12,8 +12,9 @@ use Rattle.wire_spec.proofs.Roots.{map_step, map_map, some_map, no_one}
 use Rattle.wire_spec.proofs.Calm.{looks_up}
 use Rattle.wire_spec.proofs.AckClock.{by_busy}
 use Rattle.wire_spec.proofs.SlowClock.{late_holds}
-use Rattle.wire_spec.proofs.StartClocks.{begin_run, call_low, call_free}
+use Rattle.wire_spec.proofs.StartClocks.{begin_run, call_low}
 use Rattle.wire_spec.proofs.Stops.{stop_run}
+use Rattle.wire_spec.proofs.Address.{call_quiet}
 
 -- released, with so much of a hold left before the looks, of which so many were made
 abbrev pub resting_if : {X : Type 0} → Site X → ℕ → ℕ → Bool → Bit X
@@ -30,17 +31,17 @@ held_if h j false = false
 abbrev pub held : {A X : Type 0} → (A → Site X) → (A → ℕ) → ℕ → A → Bool
 held g rest j a = held_if (rest a) j (g a).joined
 
-tick_r : {X : Type 0} (h j a : ℕ) (jd e : Bool) (x : X)
+pub tick_r : {X : Type 0} (h j a : ℕ) (jd e : Bool) (x : X)
     → where_joined tick (resting_if (site_of a jd e x) h j jd) ≡ resting_if (site_of a jd e x) h (suc j) jd
 tick_r h j a true e x = ap (λ n. stands (site_of a true e x) Out n) (omega arith)
 tick_r h j a false e x = refl
 
-rise_r : {X : Type 0} (t : Table X) (l : Bool) (h j a : ℕ) (jd e : Bool) (x : X)
+pub rise_r : {X : Type 0} (t : Table X) (l : Bool) (h j a : ℕ) (jd e : Bool) (x : X)
     → where_joined (λ b. rise t b l) (resting_if (site_of a jd e x) h j jd) ≡ resting_if (site_of a jd e x) h j jd
 rise_r t l h j a true e x = refl
 rise_r t l h j a false e x = refl
 
-holds_r : {X : Type 0} (h j a : ℕ) (jd e : Bool) (x : X) → holds_line (resting_if (site_of a jd e x) h j jd) ≡ held_if h j jd
+pub holds_r : {X : Type 0} (h j a : ℕ) (jd e : Bool) (x : X) → holds_line (resting_if (site_of a jd e x) h j jd) ≡ held_if h j jd
 holds_r h j a true e x = refl
 holds_r h j a false e x = refl
 
@@ -154,7 +155,7 @@ late_free t byte a true e true x = refl
 late_free t byte a true e false x = refl
 late_free t byte a false e h x = refl
 
-finish_call : {X : Type 0} (t : Table X) (a : ℕ) (jd e : Bool) (x : X)
+pub finish_call : {X : Type 0} (t : Table X) (a : ℕ) (jd e : Bool) (x : X)
     → where_joined (finish t) (calling 8 0 (site_of a jd e x)) ≡ released (stop_site t (site_of a jd e x))
 finish_call t a true e x = refl
 finish_call t a false e x = refl
@@ -211,7 +212,7 @@ risen_stop {X} t mask byte ss c free =
     (λ s. late_free t byte s.addr s.joined s.heard (is_named byte s) s.state))
     ∙ (ap (stopped t mask) (looks_up t 0 254 w (ap not low))
     ∙ (ap (λ (u : Bus X). (true, u)) (stop_run t mask (calling 8 0) (λ (s : Site X). s) gs (one_flip c)
-    (λ s. finish_call t s.addr s.joined s.heard s.state) low (λ s. call_free t 8 0 s.addr s.joined s.heard s.state))
+    (λ s. finish_call t s.addr s.joined s.heard s.state) low (λ s. call_quiet t 8 0 s.addr s.joined s.heard s.state))
     ∙ ap (λ xs. (true, stopped_bus t mask xs (one_flip (one_flip c)))) (map_map (started t byte) (λ (s : Site X). s) ss)))
 
 -- the stop after a slow start always goes through, and acts as a stop of what the start left

@@ -1,5 +1,5 @@
 -- A start from free lines, and a repeated one within a message: both come to an address that all that is joined shifts in. A stop.
-use Rattle.std.proofs.Common.{◌≡◌, ℕ, Bool, true, false, List, [], ◌∷◌, map, refl, ap, sym, ◌∙◌}
+use Rattle.std.proofs.Common.{◌≡◌, ℕ, Bool, true, false, List, map, refl, ap, sym, ◌∙◌}
 use Rattle.i2c_base.specs.Table.{Table}
 use Rattle.wire_spec.specs.declared.mode.Mode.{Mode}
 use Rattle.wire_spec.specs.declared.mode.Mode.TheVariants.{Out, In}
@@ -13,10 +13,7 @@ use Rattle.wire_spec.proofs.Calm.{IsCalm, risen, goes_up, sets_data, up_calm}
 use Rattle.wire_spec.proofs.Rests.{calm_by, take_calm, at_low}
 use Rattle.wire_spec.proofs.Stops.{stop_run}
 use Rattle.wire_spec.proofs.StartClocks.{begin_run, start_falls, free_begin}
-
-same_map : {A : Type 0} (xs : List A) → map (λ x. x) xs ≡ xs
-same_map [] = refl
-same_map (x ∷ xs) = ap (λ ys. x ∷ ys) (same_map xs)
+use mathlib.Core.List.{map-id}
 
 out_free : {X : Type 0} (t : Table X) (a : ℕ) (j e : Bool) (x : X) → pulls_line t (at Out (site_of a j e x)) ≡ false
 out_free t a true true x = refl
@@ -49,7 +46,7 @@ free_start {X} t mask ss c =
     some_map (at Out) holds_line (λ x. false) (λ s. at_low Out s.addr s.joined s.heard s.state) ss ∙ no_one ss in
     ap (λ u. pulled t mask u true true) (begin_run t mask (at Out) (λ (s : Site X). s) ss c (λ s. free_begin Out s.addr s.joined s.heard s.state) low
     (λ s. out_free t s.addr s.joined s.heard s.state))
-    ∙ (ap (λ xs. pulled t mask (bus_of false true (map (calling 8 0) xs) (one_flip c)) true true) (same_map ss)
+    ∙ (ap (λ xs. pulled t mask (bus_of false true (map (calling 8 0) xs) (one_flip c)) true true) (map-id ss)
     ∙ start_falls t mask ss (one_flip c))
 
 pub both_high : {X : Type 0} (t : Table X) (mask : Mask X) (m : Mode) (low : Bool) (ss : List (Site X)) (c : Counts) → IsCalm t (map (at m) ss) true
@@ -73,7 +70,7 @@ again_start {X} t mask m low ss c calm starts free =
     ∙ (ap (λ bs. (true, start_pulls t mask (bus_of false false bs (one_edge c)))) e
     ∙ (ap (λ (u : Bus X). (true, pulled t mask u true true)) (begin_run t mask g (λ (s : Site X). s) ss (one_edge c) (λ s. starts s l) high
     (λ s. free s l))
-    ∙ (ap (λ xs. (true, pulled t mask (bus_of false true (map (calling 8 0) xs) (one_flip (one_edge c))) true true)) (same_map ss)
+    ∙ (ap (λ xs. (true, pulled t mask (bus_of false true (map (calling 8 0) xs) (one_flip (one_edge c))) true true)) (map-id ss)
     ∙ ap (λ (u : Bus X). (true, u)) (start_falls t mask ss (one_flip (one_edge c))))))
 
 -- after a byte of a write, and where nobody is in the message any more
@@ -122,7 +119,7 @@ stop_by {X} t mask m low ss c calm ends free =
     ∙ (ap (stopped t mask) (up_calm t 0 254 false (map (at m) ss) c calm)
     ∙ (ap (λ bs. (true, pulled t mask (bus_of false true bs (one_edge c)) false false)) e
     ∙ (ap (λ (u : Bus X). (true, u)) (stop_run t mask g (λ (s : Site X). s) ss (one_edge c) (λ s. ends s l) high (λ s. free s l))
-    ∙ ap (λ xs. (true, bus_of false false (map released (rejoin mask (map (stop_site t) xs))) (one_flip (one_edge c)))) (same_map ss)))))
+    ∙ ap (λ xs. (true, bus_of false false (map released (rejoin mask (map (stop_site t) xs))) (one_flip (one_edge c)))) (map-id ss)))))
 
 take_finish : {X : Type 0} (t : Table X) (l : Bool) (a : ℕ) (j e : Bool) (x : X)
     → where_joined (finish t) (where_joined (λ b. rise t b l) (at (In false 8 0) (site_of a j e x))) ≡ released (stop_site t (site_of a j e x))

@@ -12,6 +12,7 @@ use Rattle.wire_spec.specs.Calls.{last_low}
 use Rattle.wire_spec.proofs.Roots.{map_step, some_map, no_one, take_one, answering, map_map, give_step, take_run, ack_one, ack_pulls, give_run, get_value, free_sda, give_quiet, answer_one}
 use Rattle.wire_spec.proofs.Calm.{IsCalm, Calm, bit_calm, bits_calm, edges_after}
 use Rattle.wire_spec.proofs.ByteLemmas.{value_bits}
+use Rattle.std.proofs.lemmas.Bool.{and_right}
 
 none : (m : Mode) → (not (is_due m) && false) ≡ false
 none Out = refl
@@ -20,10 +21,6 @@ none (Answered true acked next looks) = refl
 none (Answered false acked next looks) = refl
 none (Give left) = refl
 none (Gave more) = refl
-
-pub both : (j h : Bool) → h ≡ false → (j && h) ≡ false
-both true h is = is
-both false h is = refl
 
 -- a clock of targets that stand alike is calm
 pub calm_by : {A X : Type 0} (t : Table X) (f : A → Bit X) (xs : List A) (h : Bool)
@@ -46,7 +43,7 @@ calm_by {A} {X} t f xs h low high stays =
 
 -- ---- a byte comes in
 pub at_low : {X : Type 0} (m : Mode) (a : ℕ) (j e : Bool) (x : X) → holds_line (at m (site_of a j e x)) ≡ false
-at_low m a j e x = both j (holds (at m (site_of a j e x))) (none (cond (j && e) m Out))
+at_low m a j e x = and_right j (holds (at m (site_of a j e x))) (none (cond (j && e) m Out))
 
 in_high : {X : Type 0} (t : Table X) (n v : ℕ) (l : Bool) (a : ℕ) (j e : Bool) (x : X)
     → holds_line (where_joined (λ b. rise t b l) (at (In false (suc n) v) (site_of a j e x))) ≡ false

@@ -9,6 +9,7 @@ use Rattle.wire_spec.specs.declared.mode.Next.TheVariants.{Take}
 use Rattle.wire_spec.specs.Wires.{Site, Bit, bit, bits, shifted, value, clock, stands}
 use Rattle.wire_spec.specs.Roots.{some_one, pulls_line, sda, where_joined, clock_all, run, levels, and_all, hearing, put_site, acks, get_site, sent_by, at}
 use Rattle.wire_spec.proofs.ByteLemmas.{value_bits, bit_and_bit, bit_ones, and_all_byte}
+use mathlib.Core.Bool.{and-true}
 
 -- what is done to each is a map
 pub map_step : {A B : Type 0} (f g : A → B) (F : B → B) → ((a : A) → F (f a) ≡ g a) → (xs : List A) → map F (map f xs) ≡ map g xs
@@ -25,14 +26,10 @@ pub no_one : {A : Type 0} (xs : List A) → some_one (λ x. false) xs ≡ false
 no_one [] = refl
 no_one (x ∷ xs) = no_one xs
 
-alone : (h : Bool) → (h && true) ≡ h
-alone true = refl
-alone false = refl
-
 -- where no one pulls, SDA is the controller's
 pub free_sda : {A X : Type 0} (t : Table X) (f : A → Bit X) → ((a : A) → pulls_line t (f a) ≡ false) → (xs : List A) (h : Bool)
     → sda t (map f xs) h ≡ h
-free_sda t f quiet xs h = ap (λ y. h && not y) (some_map f (pulls_line t) (λ x. false) quiet xs ∙ no_one xs) ∙ alone h
+free_sda t f quiet xs h = ap (λ y. h && not y) (some_map f (pulls_line t) (λ x. false) quiet xs ∙ no_one xs) ∙ and-true h
 
 -- ---- a byte comes in
 pub take_one : {X : Type 0} (t : Table X) (n v : ℕ) (h : Bool) (a : ℕ) (j e : Bool) (x : X)

@@ -62,7 +62,7 @@ opens_same F keeps ch n [] = refl
 opens_same F keeps ch zero (c ∷ cs) = keeps c ch
 opens_same F keeps ch (suc n) (c ∷ cs) = opens_same F keeps ch n cs
 
-all_same : {A : Type 0} (p q : A → Bool) → ((a : A) → p a ≡ q a) → (xs : List A) → list_all p xs ≡ list_all q xs
+pub all_same : {A : Type 0} (p q : A → Bool) → ((a : A) → p a ≡ q a) → (xs : List A) → list_all p xs ≡ list_all q xs
 all_same p q is [] = refl
 all_same p q is (x ∷ xs) = ap (λ b. b && list_all p xs) (is x) ∙ ap (λ b. q x && b) (all_same p q is xs)
 

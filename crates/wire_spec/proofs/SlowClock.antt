@@ -10,6 +10,7 @@ use Rattle.wire_spec.specs.Bus.{Counts, one_edge, Bus, Came, holds_line, scl_lev
 use Rattle.wire_spec.specs.Started.{stays_if, stays, late_if, late, late_bus, rose}
 use Rattle.wire_spec.proofs.Roots.{map_step, some_map}
 use Rattle.wire_spec.proofs.AckClock.{by_busy, wait_bus, wait_level, goes_on, waiting_if, waiting}
+use Rattle.std.proofs.lemmas.Bool.{or_cases}
 
 late_one : {X : Type 0} (t : Table X) (byte j : ℕ) → j ≡ 64 → (a : ℕ) (jd e h : Bool) (x : X)
     → where_joined tick (waiting_if t byte 1 j (site_of a jd e x) jd h) ≡ late_if t byte (site_of a jd e x) jd h
@@ -66,10 +67,6 @@ longer t byte i j le s true true is = grind (arith, nat_tests)
 longer t byte i j le s true false is = is
 longer t byte i j le s false h is = is
 
-or_true : (a b : Bool) → (a || b) ≡ true → (a ≡ true) ⊎ (b ≡ true)
-or_true true b h = inl refl
-or_true false b h = inr h
-
 or_to : (a b : Bool) → (a ≡ true) ⊎ (b ≡ true) → (a || b) ≡ true
 or_to a b (inl h) = ap (λ x. x || b) h
 or_to true b (inr h) = refl
@@ -79,7 +76,7 @@ still : {X : Type 0} (t : Table X) (byte i j : ℕ) → i ≤ j → (ss : List (
     → some_one (stays t byte i) ss ≡ true
 still t byte i j le [] busy = busy
 still t byte i j le (s ∷ ss) busy =
-    or_to _ _ (elim (or_true (stays t byte j s) (some_one (stays t byte j) ss) busy) [
+    or_to _ _ (elim (or_cases (stays t byte j s) (some_one (stays t byte j) ss) busy) [
       | inl h ↦ inl (longer t byte i j le s s.joined (is_named byte s) h)
       | inr h ↦ inr (still t byte i j le ss h)
     ])

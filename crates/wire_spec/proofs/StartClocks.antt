@@ -11,11 +11,12 @@ use Rattle.wire_spec.specs.Started.{calling, stays, late, late_bus, rose}
 use Rattle.wire_spec.specs.Calls.{last_low}
 use Rattle.wire_spec.proofs.Roots.{map_step, some_map, no_one, map_map}
 use Rattle.wire_spec.proofs.Calm.{IsCalm, Calm, goes_down, sets_data, bits_calm, edges_after}
-use Rattle.wire_spec.proofs.Rests.{calm_by, both}
+use Rattle.wire_spec.proofs.Rests.{calm_by}
 use Rattle.wire_spec.proofs.ByteLemmas.{value_bits}
 use Rattle.wire_spec.proofs.AckClock.{Acked, wait_bus, let_go, ack_clock, waiting}
 use Rattle.wire_spec.proofs.SlowClock.{slow_clock}
 use Rattle.wire_spec.proofs.Address.{call_run, call_one}
+use Rattle.std.proofs.lemmas.Bool.{and_right}
 
 -- SDA goes down while SCL is high: whatever stood there, all that is joined shifts an address in
 pub begin_run : {A X : Type 0} (t : Table X) (mask : Mask X) (f : A → Bit X) (g : A → Site X) (xs : List A) (c : Counts)
@@ -36,10 +37,6 @@ begin_run {A} {X} t mask f g xs c starts low quiet =
 pub call_low : {X : Type 0} (n v a : ℕ) (j e : Bool) (x : X) → holds_line (calling n v (site_of a j e x)) ≡ false
 call_low n v a true e x = refl
 call_low n v a false e x = refl
-
-pub call_free : {X : Type 0} (t : Table X) (n v a : ℕ) (j e : Bool) (x : X) → pulls_line t (calling n v (site_of a j e x)) ≡ false
-call_free t n v a true e x = refl
-call_free t n v a false e x = refl
 
 call_fall : {X : Type 0} (n v a : ℕ) (j e : Bool) (x : X) → where_joined fall (calling n v (site_of a j e x)) ≡ calling n v (site_of a j e x)
 call_fall n v a true e x = refl
@@ -74,13 +71,13 @@ named_free t byte s false = refl
 
 call_high : {X : Type 0} (t : Table X) (n v : ℕ) (l : Bool) (a : ℕ) (j e : Bool) (x : X)
     → holds_line (where_joined (λ b. rise t b l) (calling (suc n) v (site_of a j e x))) ≡ false
-call_high t zero v l a true e x = both _ _ (named_low t (shifted v l) (site_of a true e x) (is_named (shifted v l) (site_of a true e x)))
+call_high t zero v l a true e x = and_right _ _ (named_low t (shifted v l) (site_of a true e x) (is_named (shifted v l) (site_of a true e x)))
 call_high t (suc n) v l a true e x = refl
 call_high t n v l a false e x = refl
 
 call_stays : {X : Type 0} (t : Table X) (n v : ℕ) (l : Bool) (a : ℕ) (j e : Bool) (x : X)
     → pulls_line t (where_joined (λ b. rise t b l) (calling (suc n) v (site_of a j e x))) ≡ pulls_line t (calling (suc n) v (site_of a j e x))
-call_stays t zero v l a true e x = both _ _ (named_free t (shifted v l) (site_of a true e x) (is_named (shifted v l) (site_of a true e x)))
+call_stays t zero v l a true e x = and_right _ _ (named_free t (shifted v l) (site_of a true e x) (is_named (shifted v l) (site_of a true e x)))
 call_stays t (suc n) v l a true e x = refl
 call_stays t n v l a false e x = refl
 

@@ -1,6 +1,6 @@
 -- A start with its address, and a stop, on the wires: what a controller's pulls and looks come to, for any fair table.
 use Rattle.std.proofs.Common.{◌≡◌, ℕ, ◌-◌, ◌/◌, ◌<◌, ◌≤◌, Bool, true, false, cond, List, [], ◌∷◌, map, refl, ap, ◌∙◌, arith, sym}
-use Rattle.std.specs.Prelude.{◌==◌, not, ◌||◌, ◌&&◌}
+use Rattle.std.specs.Prelude.{◌==◌, not, ◌&&◌}
 use Rattle.std.specs.List.{AllByRecursion}
 use Rattle.std.proofs.lemmas.Bool.Decides.{nat_tests}
 use Rattle.i2c_base.specs.Bytes.{IsByte}
@@ -24,6 +24,7 @@ use Rattle.wire_spec.proofs.Repeats.{start_after_write, start_after_out, stop_af
 use Rattle.wire_spec.proofs.LiveLemmas.{only_all, out_rises, out_falls, out_ticks, out_pulls, out_holds, quiet_last, quiet_stop}
 use Rattle.wire_spec.proofs.ByteLaws.{edges_more, nine_edges}
 use Rattle.wire_spec.proofs.Calm.{edges_after}
+use Rattle.std.proofs.lemmas.Bool.{or_from}
 
 -- ---- an address byte
 pub address_is_event : {X : Type 0} (t : Table X) → IsFairTable t → (mask : Mask X) (byte : ℕ) → byte < 256
@@ -63,13 +64,10 @@ short_one t byte s true true le = short_hold (has_heard (t.answer s.state (Start
 short_one t byte s true false le = refl
 short_one t byte s false named le = refl
 
-nobody : (a b : Bool) → a ≡ false → b ≡ false → (a || b) ≡ false
-nobody a b p q = ap (λ x. x || b) p ∙ q
-
 short_all : {X : Type 0} (t : Table X) (byte : ℕ) (ss : List (Site X)) → AllByRecursion (λ (s : Site X). t.hold s.state ≤ 64) ss
     → some_one (stays t byte 64) ss ≡ false
 short_all t byte [] all = refl
-short_all t byte (s ∷ ss) all = nobody (stays t byte 64 s) _ (short_one t byte s s.joined (is_named byte s) all.0) (short_all t byte ss all.1)
+short_all t byte (s ∷ ss) all = or_from (stays t byte 64 s) _ (short_one t byte s s.joined (is_named byte s) all.0) (short_all t byte ss all.1)
 
 pub held_comes_up : {X : Type 0} (t : Table X) → IsFairTable t → (mask : Mask X) (byte : ℕ) → byte < 256
     → (low : Bool) (ss : List (Site X)) (c : Counts)
@@ -118,7 +116,7 @@ rest_all : {X : Type 0} (t : Table X) (byte : ℕ) (ss : List (Site X)) → AllB
     → some_one (held (started t byte) (left_hold t byte) 254) ss ≡ false
 rest_all t byte [] all = refl
 rest_all t byte (s ∷ ss) all =
-    nobody (held (started t byte) (left_hold t byte) 254 s) _ (rest_one t byte s (started t byte s).joined all.0) (rest_all t byte ss all.1)
+    or_from (held (started t byte) (left_hold t byte) 254 s) _ (rest_one t byte s (started t byte s).joined all.0) (rest_all t byte ss all.1)
 
 pub slow_frees : {X : Type 0} (t : Table X) (mask : Mask X) (byte : ℕ) (ss : List (Site X)) (c : Counts)
     → AllByRecursion (λ (s : Site X). IsByte (t.hold s.state)) ss

@@ -23,6 +23,7 @@ use Rattle.wire_spec.specs.Started.{answers_so}
 use Rattle.wire_spec.specs.Sites.{NodeState, Chip, Device, node_table, site_with, both, chips_in, devices_in, names_of, states_of, world_by, Tells, AreSites}
 use Rattle.wire_spec.proofs.Roots.{map_map, some_map}
 use Rattle.wire_spec.proofs.ByteLemmas.{and_all_byte}
+use mathlib.Core.Bool.{and-false, and-true, or-false}
 
 -- ---- the chips and the devices of both are those
 pub chips_both : (cs : List (Site ChipView)) (ds : List (Site TargetState)) → chips_in (both cs ds) ≡ cs
@@ -75,7 +76,7 @@ head_name : (test : Node → Bool) (n : Node) (b : Bool) (ns : List Node)
 head_name test n true ns = refl
 head_name test n false ns = refl
 
-eq_self : (k : ℕ) → (k == k) ≡ true
+pub eq_self : (k : ℕ) → (k == k) ≡ true
 eq_self k = grind (arith, nat_tests)
 
 eq_other : (k j : ℕ) → k < j → (k == j) ≡ false
@@ -84,25 +85,13 @@ eq_other k j lt = grind (arith, nat_tests)
 eq_before : (k j : ℕ) → k < j → (j == k) ≡ false
 eq_before k j lt = grind (arith, nat_tests)
 
-and_one : (b : Bool) → (b && true) ≡ b
-and_one true = refl
-and_one false = refl
-
-and_none : (b : Bool) → (b && false) ≡ false
-and_none true = refl
-and_none false = refl
-
-or_none : (b : Bool) → (b || false) ≡ b
-or_none true = refl
-or_none false = refl
-
 other_names : {X : Type 0} (test : Node → Bool) (name : ℕ → Node) (k : ℕ) (ss : List (Site X)) → ((j : ℕ) → k ≤ j → test (name j) ≡ false)
     → list_any test (names_of name k ss) ≡ false
 other_names test name k [] apart = refl
 other_names test name k (s ∷ ss) apart =
     head_name test (name k) (hearing s) (names_of name (k + 1) ss)
     ∙ (ap (λ b. (hearing s && b) || list_any test (names_of name (k + 1) ss)) (apart k (omega arith))
-    ∙ (ap (λ b. b || list_any test (names_of name (k + 1) ss)) (and_none (hearing s))
+    ∙ (ap (λ b. b || list_any test (names_of name (k + 1) ss)) (and-false (hearing s))
     ∙ other_names test name (k + 1) ss (λ j le. apart j (omega (arith, le)))))
 
 pub hears_tell : {X : Type 0} (test : ℕ → Node → Bool) (name : ℕ → Node) → ((m k : ℕ) → test m (name k) ≡ (k == m))
@@ -114,12 +103,12 @@ hears_tell test name is h k (s ∷ ss) same = (
       ∙ (head_name (test k) (name k) (hearing s) (names_of name (k + 1) ss)
       ∙ (ap (λ b. (hearing s && b) || list_any (test k) (names_of name (k + 1) ss)) (is k k ∙ eq_self k)
       ∙ (ap (λ b. (hearing s && true) || b) (other_names (test k) name (k + 1) ss (λ j le. is k j ∙ eq_before k j (omega (arith, le))))
-      ∙ (or_none (hearing s && true) ∙ and_one (hearing s))))),
+      ∙ (or-false (hearing s && true) ∙ and-true (hearing s))))),
   hears_tell test name is h (k + 1) ss (λ m le.
       same m (omega (arith, le))
       ∙ (head_name (test m) (name k) (hearing s) (names_of name (k + 1) ss)
       ∙ (ap (λ b. (hearing s && b) || list_any (test m) (names_of name (k + 1) ss)) (is m k ∙ eq_other k m (omega (arith, le)))
-      ∙ ap (λ b. b || list_any (test m) (names_of name (k + 1) ss)) (and_none (hearing s))))),
+      ∙ ap (λ b. b || list_any (test m) (names_of name (k + 1) ss)) (and-false (hearing s))))),
 )
 
 tells_with : {X A B : Type 0} (F : A → B) (f : ℕ → A) (g : Site X → A) (k : ℕ) (ss : List (Site X)) → Tells f g k ss
@@ -175,7 +164,7 @@ pub chips_hear : (b : BoardView) (r : ℕ) (busy : Bool) (cs : List (Site ChipVi
 chips_hear b r busy cs ds =
     hears_tell is_chip node.Chip (λ m k. refl) (λ m. list_any (is_chip m) (world_by b r busy cs ds).hearing) 0 cs
     (λ m le. list_any-append (is_chip m) (names_of node.Chip 0 cs) (names_of node.Device 0 ds)
-    ∙ (ap (λ x. list_any (is_chip m) (names_of node.Chip 0 cs) || x) (other_names (is_chip m) node.Device 0 ds (λ j le. refl)) ∙ or_none _))
+    ∙ (ap (λ x. list_any (is_chip m) (names_of node.Chip 0 cs) || x) (other_names (is_chip m) node.Device 0 ds (λ j le. refl)) ∙ or-false _))
 
 pub devices_hear : (b : BoardView) (r : ℕ) (busy : Bool) (cs : List (Site ChipView)) (ds : List (Site TargetState))
     → Tells (λ m. list_any (is_device m) (world_by b r busy cs ds).hearing) hearing 0 ds
@@ -292,7 +281,7 @@ get_hears t ack a true true x = refl
 get_hears t ack a true false x = refl
 get_hears t ack a false e x = refl
 
-all_ones : (n : ℕ) → n < 256 → n ≡ bit_and 255 n
+pub all_ones : (n : ℕ) → n < 256 → n ≡ bit_and 255 n
 all_ones n small = grind (arith, common_steps)
 
 -- who sends nothing counts as all ones

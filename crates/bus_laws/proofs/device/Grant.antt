@@ -17,9 +17,12 @@ use Rattle.i2c_spec.specs.Grant.{has_address, some_chip, some_device, some_bound
 use Rattle.i2c_spec.specs.Flat.{granted_on}
 use Rattle.i2c_spec.specs.World.{World, opens_hop, is_joined, joins_device}
 use Rattle.bus_laws.specs.Alike.{LeadsTo}
-use Rattle.bus_laws.proofs.world.Reach.{and_left, and_right, aside_apart, address_is}
-use Rattle.bus_laws.proofs.world.Calls.{any_at, on_or_below, busy_below, busy_aside, no_chip}
+use Rattle.bus_laws.proofs.world.Reach.{aside_apart, address_is}
+use Rattle.bus_laws.proofs.world.Calls.{on_or_below, busy_below, busy_aside, no_chip}
 use Rattle.std.proofs.Math.Bool.{or-true}
+use Rattle.i2c_base.proofs.Booleans.{and_first, and_last}
+use Rattle.std.proofs.lemmas.Map.Keys.{any_passes_from_place}
+use Rattle.i2c_base.proofs.ListLemmas.{any_none}
 
 -- two buses over one bus lie along each other
 crossed_along : (b : BoardView) → IsTree b → (hs : List Hop) (s u v : ℕ) → hops b s ≡ hs → Crosses u hs → Crosses v hs → IsAlong b u v
@@ -67,18 +70,18 @@ joined_crossed : (w : World) → IsTree w.board → (hs : List Hop) (s u : ℕ) 
     → is_joined w u ≡ true
 joined_crossed w tree [] s u at joined c = absurd c
 joined_crossed w tree (h ∷ hs) s u at joined c =
-    let rooted : eqb (root_of w.board s) w.root ≡ true = and_left (eqb (root_of w.board s) w.root)
+    let rooted : eqb (root_of w.board s) w.root ≡ true = and_first (eqb (root_of w.board s) w.root)
     (list_all (opens_hop w.chips) (hops w.board s)) joined in
     let all : list_all (opens_hop w.chips) (h ∷ hs) ≡ true =
     ap (λ (xs : List Hop). list_all (opens_hop w.chips) xs) (sym at)
-    ∙ and_right (eqb (root_of w.board s) w.root) (list_all (opens_hop w.chips) (hops w.board s)) joined in
+    ∙ and_last (eqb (root_of w.board s) w.root) (list_all (opens_hop w.chips) (hops w.board s)) joined in
     let same : root_of w.board h.on ≡ root_of w.board s = tree.root_same s h
     (subst (λ (xs : List Hop). IsAmongHops h xs) (sym at) (inl refl)) in
     let above : is_joined w h.on ≡ true =
     and_from (eqb (root_of w.board h.on) w.root) (list_all (opens_hop w.chips) (hops w.board h.on)) (ap (λ (i : ℕ). eqb i w.root) same
     ∙ rooted)
     (ap (λ (xs : List Hop). list_all (opens_hop w.chips) xs) (tree.tail s h hs at)
-    ∙ and_right (opens_hop w.chips h) (list_all (opens_hop w.chips) hs) all) in
+    ∙ and_last (opens_hop w.chips h) (list_all (opens_hop w.chips) hs) all) in
     elim c [
       | inl e ↦ ap (λ (i : ℕ). is_joined w i) (sym e) ∙ above
       | inr more ↦ joined_crossed w tree hs h.on u (tree.tail s h hs at) above more
@@ -139,10 +142,10 @@ device_there None test e = absurd (let f : false ≡ true = e in cc)
 device_there (Some x) test e = (x, refl, e)
 
 -- what is said of a device that is there
-bus_at : (b : BoardView) (d : ℕ) (x : DeviceView) → slice_get b.devices d ≡ Some x → of_device (λ (y : DeviceView). y.bus) 0 b d ≡ x.bus
+pub bus_at : (b : BoardView) (d : ℕ) (x : DeviceView) → slice_get b.devices d ≡ Some x → of_device (λ (y : DeviceView). y.bus) 0 b d ≡ x.bus
 bus_at b d x at = ap (λ (o : Option DeviceView). unwrap_or (option_map (λ (y : DeviceView). y.bus) o) 0) at
 
-addr_at : (b : BoardView) (a d : ℕ) (x : DeviceView) → slice_get b.devices d ≡ Some x → eqb x.addr a ≡ true
+pub addr_at : (b : BoardView) (a d : ℕ) (x : DeviceView) → slice_get b.devices d ≡ Some x → eqb x.addr a ≡ true
     → addr_of b (node.Device d) ≡ Some a
 addr_at b a d x at e = ap (λ (o : Option DeviceView). unwrap_or (option_map (λ (y : DeviceView). Some y.addr) o) None) at
     ∙ ap Some (eqb-true x.addr a e)
@@ -173,13 +176,13 @@ module _ (w : World) (tree : IsTree w.board) (s : ℕ) (along : (u : ℕ) → is
   granted_joined d e =
       let r = granted_there d e in
       ap (λ (i : ℕ). is_joined w i) (bus_at w.board d r.0 r.1)
-      ∙ joined_over w tree s r.0.bus joined (path_over w.board s r.0.bus (and_right (eqb r.0.addr a) (is_on_path w.board s r.0.bus) r.2))
+      ∙ joined_over w tree s r.0.bus joined (path_over w.board s r.0.bus (and_last (eqb r.0.addr a) (is_on_path w.board s r.0.bus) r.2))
 
   granted_addressed : (d : ℕ) → granted_on w.board s force a ≡ Some d → of_device (λ (x : DeviceView). eqb x.addr a) false w.board d ≡ true
   granted_addressed d e =
       let r = granted_there d e in
       ap (λ (o : Option DeviceView). unwrap_or (option_map (λ (x : DeviceView). eqb x.addr a) o) false) r.1
-      ∙ and_left (eqb r.0.addr a) (is_on_path w.board s r.0.bus) r.2
+      ∙ and_first (eqb r.0.addr a) (is_on_path w.board s r.0.bus) r.2
 
   -- a device on the path with the address is the one that is granted
   path_granted : (d : ℕ) (x : DeviceView) → slice_get w.board.devices d ≡ Some x → eqb x.addr a ≡ true → is_on_path w.board s x.bus ≡ true
@@ -194,14 +197,14 @@ module _ (w : World) (tree : IsTree w.board) (s : ℕ) (along : (u : ℕ) → is
           let r = granted_there n e in
           let along_each : IsAlong w.board r.0.bus x.bus =
           over_along w.board tree s r.0.bus x.bus
-          (path_over w.board s r.0.bus (and_right (eqb r.0.addr a) (is_on_path w.board s r.0.bus) r.2))
+          (path_over w.board s r.0.bus (and_last (eqb r.0.addr a) (is_on_path w.board s r.0.bus) r.2))
           (path_over w.board s x.bus on) in
           let homes : IsAlong w.board (home_of w.board (node.Device n)) (home_of w.board (node.Device d)) =
           subst (λ (i : ℕ). IsAlong w.board i (home_of w.board (node.Device d))) (sym (bus_at w.board n r.0 r.1))
           (subst (λ (i : ℕ). IsAlong w.board r.0.bus i) (sym (bus_at w.board d x at)) along_each) in
           let same : node.Device n ≡ node.Device d =
           tree.addresses (node.Device n) (node.Device d) a
-          (addr_at w.board a n r.0 r.1 (and_left (eqb r.0.addr a) (is_on_path w.board s r.0.bus) r.2))
+          (addr_at w.board a n r.0 r.1 (and_first (eqb r.0.addr a) (is_on_path w.board s r.0.bus) r.2))
           (addr_at w.board a d x at addr) homes in
           e ∙ (let f : n ≡ d = cc in ap Some f)
 
@@ -215,13 +218,13 @@ module _ (w : World) (tree : IsTree w.board) (s : ℕ) (along : (u : ℕ) → is
           | inl on ↦ path_granted d r.0 r.1 r.2 (ap (λ (i : ℕ). is_on_path w.board s i) (sym bus) ∙ on)
           | inr below ↦ absurd (not_busy (busy_below w.board s a force
               (ap (λ (z : Bool). some_chip w.board a (λ u. is_below w.board u s) || z)
-              (any_at (λ (x : DeviceView). eqb x.addr a && is_below w.board x.bus s) w.board.devices d r.0 r.1
+              (any_passes_from_place (λ (x : DeviceView). eqb x.addr a && is_below w.board x.bus s) w.board.devices d r.0 r.1
               (and_from (eqb r.0.addr a) (is_below w.board r.0.bus s) r.2 (ap (λ (i : ℕ). is_below w.board i s) (sym bus) ∙ below)))
               ∙ or-true (some_chip w.board a (λ u. is_below w.board u s)))))
         ]
         | inr aside ↦ absurd (not_busy (busy_aside w.board s a force
             (ap (λ (z : Bool). some_chip w.board a (is_aside w.board s) || z)
-            (any_at (λ (x : DeviceView). eqb x.addr a && is_aside w.board s x.bus) w.board.devices d r.0 r.1
+            (any_passes_from_place (λ (x : DeviceView). eqb x.addr a && is_aside w.board s x.bus) w.board.devices d r.0 r.1
             (and_from (eqb r.0.addr a) (is_aside w.board s r.0.bus) r.2 (ap (λ (i : ℕ). is_aside w.board s i) (sym bus) ∙ aside)))
             ∙ or-true (some_chip w.board a (is_aside w.board s)))))
       ]
@@ -244,16 +247,6 @@ granted-leads b w s a force board =
     → (grant_of x s a force ≡ grant.Busy → ⊥) → LeadsTo w a (granted_on x s force a))
     board (λ tree along joined free. granted_leads w tree s along joined a force free)
 
--- A KEPT CHANNEL beside the path
-any_none : {X : Type 0} (test : X → Bool) (xs : List X) → ((i : ℕ) (x : X) → slice_get xs i ≡ Some x → test x ≡ true → ⊥)
-    → list_any test xs ≡ false
-any_none test [] none = refl
-any_none {X} test (y ∷ ys) none = by (test y) refl (any_none test ys (λ i x at. none (suc i) x at))
-  where
-    by : (t : Bool) → test y ≡ t → list_any test ys ≡ false → (t || list_any test ys) ≡ false
-    by true e rest = absurd (none 0 y refl e)
-    by false e rest = rest
-
 pub none-aside : (b : BoardView) → IsTree b → (s d : ℕ) (x : DeviceView) → slice_get b.devices d ≡ Some x → is_on_path b s x.bus ≡ true
     → (some_chip b x.addr (is_aside b s) || some_device b x.addr (is_aside b s)) ≡ false
 none-aside b tree s d x at on =
@@ -261,12 +254,12 @@ none-aside b tree s d x at on =
     (any_none (λ (m : MuxSpec). has_address x.addr m.addr && is_aside b s m.bus) b.muxes
     (λ i m there e. apart (node.Chip i) m.bus (ap (λ (o : Option MuxSpec). unwrap_or (option_map (λ (y : MuxSpec). y.bus) o) 0) there)
     (ap (λ (o : Option MuxSpec). unwrap_or (option_map (λ (y : MuxSpec). y.addr) o) None) there
-    ∙ address_is x.addr m.addr (and_left (has_address x.addr m.addr) (is_aside b s m.bus) e))
-    (and_right (has_address x.addr m.addr) (is_aside b s m.bus) e)))
+    ∙ address_is x.addr m.addr (and_first (has_address x.addr m.addr) (is_aside b s m.bus) e))
+    (and_last (has_address x.addr m.addr) (is_aside b s m.bus) e)))
     ∙ any_none (λ (y : DeviceView). eqb y.addr x.addr && is_aside b s y.bus) b.devices
     (λ i y there e. apart (node.Device i) y.bus (bus_at b i y there)
-    (addr_at b x.addr i y there (and_left (eqb y.addr x.addr) (is_aside b s y.bus) e))
-    (and_right (eqb y.addr x.addr) (is_aside b s y.bus) e))
+    (addr_at b x.addr i y there (and_first (eqb y.addr x.addr) (is_aside b s y.bus) e))
+    (and_last (eqb y.addr x.addr) (is_aside b s y.bus) e))
   where
     apart : (n : Node) (u : ℕ) → home_of b n ≡ u → addr_of b n ≡ Some x.addr → is_aside b s u ≡ true → ⊥
     apart n u home addr aside =

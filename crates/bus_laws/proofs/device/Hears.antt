@@ -8,6 +8,7 @@ use Rattle.i2c_base.specs.declared.ids.Node.{Node}
 use Rattle.i2c_base.specs.Table.{Table}
 use Rattle.i2c_spec.specs.World.{given, feed, answers, answer_with, has_heard, heard_of, some_answer}
 use Rattle.bus_laws.proofs.world.Feed.{hears, feed-get, answers-one, heard-none, heard-one, some_answer-at, GivesOne}
+use Rattle.i2c_spec.specs.Targets.{TargetState, state_table}
 
 -- a target of the list, after its event
 pub fed-at : {X : Type 0} (t : Table X) (f : ℕ → Option Event) (xs : List X) (i : ℕ)
@@ -109,3 +110,10 @@ module _ {X : Type 0} (t : Table X) (f : ℕ → Option Event) (xs : List X) (m 
       by false v =
           some_answer-none t test f 0 xs (λ i y ey. ap (λ (j : ℕ). passes t test (f j) y) (zero-add i)
           ∙ quiet v i y ey (hears t (f i) y) refl)
+
+pub fed_alike : (x y : ℕ → Option Event) (xs ys : List TargetState) (d : ℕ) → slice_get xs d ≡ slice_get ys d → x d ≡ y d
+    → slice_get (feed state_table x 0 xs) d ≡ slice_get (feed state_table y 0 ys) d
+fed_alike x y xs ys d same events =
+    fed-at state_table x xs d ∙ ap (λ (o : Option TargetState). option_map (λ (z : TargetState). given state_table (x d) z) o) same
+    ∙ ap (λ (e : Option Event). option_map (λ (z : TargetState). given state_table e z) (slice_get ys d)) events
+    ∙ sym (fed-at state_table y ys d)

@@ -3,7 +3,7 @@ use Rattle.std.proofs.Common.{◌≡◌, ℕ, ◌+◌, Bool, true, false, cond, 
 use Rattle.std.specs.Prelude.{bit_and, slice_get}
 use Rattle.std.specs.List.{list_any, list_all}
 use Rattle.std.specs.Option.{option_map}
-use Rattle.std.proofs.lemmas.Bool.{eqb-true}
+use Rattle.std.proofs.lemmas.Bool.{eqb-true, ne_eqb}
 use Rattle.std.proofs.lemmas.Grind.{and_numeral}
 use Rattle.std.proofs.lemmas.List.Elements.{recursion_from_All}
 use Rattle.i2c_base.specs.declared.event.Event.{Event}
@@ -25,9 +25,7 @@ use Rattle.i2c_spec.specs.World.{World, opens_hop, joins_device, given, feed, an
 use Rattle.i2c_spec.specs.Flat.{FlatListener, is_member, put_named, flat_start, to_current, to_named, answer_of, acknowledged, flat_after, flat_listener}
 use Rattle.i2c_spec.specs.Conversation.{world_listener, talk}
 use Rattle.bus_laws.specs.Alike.{IsOf, listening, Same, LeadsTo, ToldAlike}
-use Rattle.bus_laws.proofs.tree.Slots.{eqb-apart}
 use Rattle.bus_laws.proofs.world.Feed.{feed-same, unheard, some_answer-append}
-use Rattle.bus_laws.proofs.world.Reach.{and_left}
 use Rattle.bus_laws.proofs.world.Control.{started-chips}
 use Rattle.bus_laws.proofs.device.Talk.{talk-alike}
 use Rattle.i2c_spec.proofs.StateLemmas.{stopped-quiet, after-bytes, sends-byte}
@@ -38,6 +36,7 @@ use Rattle.i2c_spec.proofs.MessageLemmas.{is_it-some, is_it-at}
 use Rattle.std.proofs.Math.Bool.{or-false}
 use Rattle.bus_laws.proofs.world.Hears.{slow_is_heard, ack_is_heard}
 use Rattle.bus_laws.proofs.device.Leads.{answer_at, starts_at, only_hears, devices_heard}
+use Rattle.i2c_base.proofs.Booleans.{and_first}
 
 -- ANSWERS
 -- the AND of a byte and the idle wires
@@ -56,7 +55,7 @@ pub joined_of : (b : BoardView) (r : ℕ) (w : World) → w.board ≡ b → w.ro
 joined_of b r w board root d e =
     let u : ℕ = of_device (λ (x : DeviceView). x.bus) 0 w.board d in
     ap (λ (x : BoardView). root_of x (of_device (λ (y : DeviceView). y.bus) 0 x d)) (sym board)
-    ∙ eqb-true (root_of w.board u) w.root (and_left (eqb (root_of w.board u) w.root) (list_all (opens_hop w.chips) (hops w.board u)) e)
+    ∙ eqb-true (root_of w.board u) w.root (and_first (eqb (root_of w.board u) w.root) (list_all (opens_hop w.chips) (hops w.board u)) e)
     ∙ root
 
 -- what is joined depends on the chips alone
@@ -274,7 +273,7 @@ module _ (b : BoardView) (r : ℕ) (w : World) (f : FlatListener) (s : Same b r 
           (record {
             at = to_devices-is e k ∙ ap (λ (t : Bool). cond t (Some e) None) (is_it-at f.current k here);
             else = λ j apart. to_devices-is e j ∙ ap (λ (c : Option ℕ). to_current c e j) here
-                ∙ ap (λ (t : Bool). cond t (Some e) None) (eqb-apart k j (λ same. apart (sym same)));
+                ∙ ap (λ (t : Bool). cond t (Some e) None) (ne_eqb k j (λ same. apart (sym same)));
           })
           (slice_get w.devices k) refl
           ∙ ap (λ (y : Option TargetState). one_answer state_table k e y) (s.states k (current_own k here))

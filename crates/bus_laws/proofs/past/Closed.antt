@@ -29,6 +29,7 @@ use Rattle.bus_laws.proofs.tree.Slots.{turned-same, turned-other}
 use Rattle.bus_laws.proofs.world.Slots.{kept_own, kept_other, set_marks-only}
 use Rattle.bus_laws.proofs.past.StandsStep.{lock_tells}
 use Rattle.bus_laws.proofs.past.Laws.{sent_holder, lined_holder, holder-told, past-stands, cur, sends, shifts}
+use Rattle.std.proofs.lemmas.Bool.{eqb-true}
 
 -- a mux is the mark of its bus, or it isn't
 marked_or : (s : MuxSlot) (m : ℕ) → (s ≡ Marked m) ⊎ (s ≡ Marked m → ⊥)
@@ -41,9 +42,6 @@ marked_or (Found h) m = inr (λ e. let f : Found h ≡ Marked m = e in cc)
 apart_of : (k m : ℕ) → eqb k m ≡ false → m ≡ k → ⊥
 apart_of k m off same =
     elim (eqb_tells k m) [ inl h ↦ (let f : true ≡ false = sym h.0 ∙ off in cc) | inr h ↦ h.1 (sym same) ]
-
-same_of : (k m : ℕ) → eqb k m ≡ true → k ≡ m
-same_of k m on = elim (eqb_tells k m) [ inl h ↦ h.1 | inr h ↦ absurd (let f : false ≡ true = sym h.0 ∙ on in cc) ]
 
 -- ONE STEP of another mux opens no channel of this one
 module _ (m c : ℕ) (v : Slots) (p : ℕ) where
@@ -107,13 +105,13 @@ module _ (b : BoardView) (tree : IsTree b) (m : ℕ) (held : List LockId) (marks
   sent_lock : (whose : TransferView) (job : Job) (left : ℕ) → MaySend b whose job left marks held v → switches m (job_purpose job) ≡ true
       → HasIts
   sent_lock whose (Call bus ms) left may on = absurd (let f : false ≡ true = on in cc)
-  sent_lock whose (Select h) left may on = its_lock h.mux h.on (tree.hop h.bus h may.finds.1).home (same_of h.mux m on) may.owns.0
-  sent_lock whose (SwitchOff off) left may on = its_lock (off_mux off) (off_bus off) may.finds.1 (same_of (off_mux off) m on) may.owns.0
+  sent_lock whose (Select h) left may on = its_lock h.mux h.on (tree.hop h.bus h may.finds.1).home (eqb-true h.mux m on) may.owns.0
+  sent_lock whose (SwitchOff off) left may on = its_lock (off_mux off) (off_bus off) may.finds.1 (eqb-true (off_mux off) m on) may.owns.0
 
   lined_lock : (job : Job) → MayShift b job marks held v → eqb (line_mux job) m ≡ true → HasIts
   lined_lock (Call bus ms) may on = absurd (let f : false ≡ true = may.by_line in cc)
-  lined_lock (Select h) may on = its_lock h.mux h.on (tree.hop h.bus h may.finds.1).home (same_of h.mux m on) may.owns.0
-  lined_lock (SwitchOff off) may on = its_lock (off_mux off) (off_bus off) may.finds.1 (same_of (off_mux off) m on) may.owns.0
+  lined_lock (Select h) may on = its_lock h.mux h.on (tree.hop h.bus h may.finds.1).home (eqb-true h.mux m on) may.owns.0
+  lined_lock (SwitchOff off) may on = its_lock (off_mux off) (off_bus off) may.finds.1 (eqb-true (off_mux off) m on) may.owns.0
 
 module _ (b : BoardView) (tree : IsTree b) (plain : IsPlainBoard b) (lines : LinesAreLocked b) (asks : Asks) (some : AsksForMessages asks)
     (callers : ℕ) where

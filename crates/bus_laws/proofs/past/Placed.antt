@@ -1,7 +1,7 @@
 -- Each settle stands directly after the message or line step that decides it, and tells that entry's cut. The
 -- inductions go over the entries.
 use Rattle.std.proofs.Common.{◌≡◌, ℕ, zero, suc, ◌<◌, Bool, true, false, cond, List, [], ◌∷◌, Option, Some, None, eqb, refl, sym, ◌∙◌, ap, subst, ◌⊎◌, inl, inr}
-use Rattle.std.proofs.lemmas.Bool.{eq-eqb}
+use Rattle.std.proofs.lemmas.Bool.{eq-eqb, ne_eqb}
 use Rattle.std.proofs.lemmas.Bool.Decides.{eqb_tells}
 use Rattle.i2c_base.specs.declared.errno.Errno.{Errno}
 use Rattle.i2c_base.specs.declared.entry.Entry.{Entry}
@@ -22,7 +22,6 @@ use Rattle.bus_spec.specs.Legal.{is_stepping, IsDirectlyBehind, IsPlaced, Settle
 use Rattle.bus_laws.specs.Reach.{AsksForMessages}
 use Rattle.bus_laws.specs.Settles.{NoSettle, IsDecided, GoesOn, Settles}
 use Rattle.bus_laws.specs.Calls.{IsAsked}
-use Rattle.bus_laws.proofs.tree.Slots.{eqb-apart}
 use Rattle.bus_laws.proofs.past.StandsStep.{at_same, at_other}
 use Rattle.bus_laws.proofs.past.StandsEntries.{first_is}
 use Rattle.bus_laws.proofs.walk.SettleLaw.{walk-starts}
@@ -172,7 +171,7 @@ module _ (b : BoardView) (asks : Asks) where
         | inl h ↦ ap (λ (t : Bool). cond t cut ((now b asks past).cut c)) h.0
             ∙ sym (ap (λ (t : Bool). cond t cut (last_cut past c)) (eq-eqb d c (sym h.1)))
         | inr h ↦ ap (λ (t : Bool). cond t cut ((now b asks past).cut c)) h.0 ∙ before
-            ∙ sym (ap (λ (t : Bool). cond t cut (last_cut past c)) (eqb-apart d c (λ f. h.1 (sym f))))
+            ∙ sym (ap (λ (t : Bool). cond t cut (last_cut past c)) (ne_eqb d c (λ f. h.1 (sym f))))
       ]
 
   pub cut-told : (past : List Entry) (c : ℕ) → (now b asks past).cut c ≡ last_cut past c

@@ -44,7 +44,7 @@ held_by-other : (f : LockId → Option ℕ) (l : LockId) (who : Option ℕ) (k :
 held_by-other f l who k ne =
     elim (lock_tells l k) [ inl h ↦ absurd (ne h.1) | inr h ↦ ap (λ (t : Bool). cond t who (f k)) h.0 ]
 
-without-head : (l : LockId) (ls : List LockId) → without l (l ∷ ls) ≡ ls
+pub without-head : (l : LockId) (ls : List LockId) → without l (l ∷ ls) ≡ ls
 without-head l ls =
     elim (lock_tells l l) [ inl h ↦ ap (λ (t : Bool). cond t ls (l ∷ without l ls)) h.0 | inr h ↦ absurd (h.1 refl) ]
 

@@ -2,7 +2,7 @@
 -- root's lock and sends next. The inductions go over the entries.
 use Rattle.std.proofs.Common.{◌≡◌, ℕ, zero, suc, Bool, true, false, cond, ◌&&◌, List, [], ◌∷◌, ◌++◌, Option, Some, None, eqb, refl, sym, ◌∙◌, ap, subst, ◌⊎◌, inl, inr, arith}
 use Rattle.std.specs.List.{list_any, AllByRecursion}
-use Rattle.std.proofs.lemmas.Bool.{eqb-true, eq-eqb}
+use Rattle.std.proofs.lemmas.Bool.{eqb-true, eq-eqb, ne_eqb}
 use Rattle.std.proofs.lemmas.Bool.Decides.{eqb_tells}
 use Rattle.i2c_base.specs.declared.ids.LockId.{LockId}
 use Rattle.i2c_base.specs.declared.ids.LockId.TheVariants as lock
@@ -30,7 +30,6 @@ use Rattle.bus_laws.specs.Stands.{CallerStands, Stands}
 use Rattle.bus_laws.specs.Reach.{AsksForMessages}
 use Rattle.bus_laws.specs.Settles.{Settles, CallGoesOn}
 use Rattle.bus_laws.specs.Calls.{IsAsked}
-use Rattle.bus_laws.proofs.tree.Slots.{eqb-apart}
 use Rattle.bus_laws.proofs.past.StandsFacts.{current-stands}
 use Rattle.bus_laws.proofs.past.StandsStep.{at_same, at_other}
 use Rattle.bus_laws.proofs.past.StandsEntries.{first_is}
@@ -73,7 +72,7 @@ pub more_follow : (bus : ℕ) (ms : List MessageView) (left : ℕ) (out : ActOut
     → inside_after (Call bus ms) (suc left) out d old ≡ cond (is_on (goes (Call bus ms) (suc left) out)) (Some d) None
 more_follow bus ms left out d old =
     ap (λ (t : Bool). cond t None (cond (is_on (goes (Call bus ms) (suc left) out)) (Some d) None))
-    (eqb-apart (suc left) 0 (λ e. absurd (omega (arith, e))))
+    (ne_eqb (suc left) 0 (λ e. absurd (omega (arith, e))))
 
 module _ (b : BoardView) (tree : IsTree b) (plain : IsPlainBoard b) (lines : LinesAreLocked b) (asks : Asks) (some : AsksForMessages asks)
     (callers : ℕ)

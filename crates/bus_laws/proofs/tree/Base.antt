@@ -1,6 +1,6 @@
 -- A job on the bus itself: one line step, or its messages. The induction goes over the messages that may follow.
 use Rattle.std.proofs.Common.{◌≡◌, ℕ, zero, suc, ◌<◌, Bool, true, false, cond, ◌&&◌, List, [], ◌∷◌, Option, Some, None, eqb, refl, sym, ◌∙◌, ap, subst, inl, inr, arith}
-use Rattle.std.proofs.lemmas.Bool.{eqb-false, eq-eqb}
+use Rattle.std.proofs.lemmas.Bool.{eqb-false, eq-eqb, ne_eqb}
 use Rattle.std.proofs.lemmas.Bool.Decides.{eqb_tells}
 use Rattle.i2c_spec.specs.History.{changed_at}
 use Rattle.std.proofs.Math.Path.{fun_ext}
@@ -19,8 +19,9 @@ use Rattle.bus_spec.specs.Slots.{Slots, At, MuxSlot, Clean, Marked, Polled, Foun
 use Rattle.bus_spec.specs.Grammar.{settled, over, by_go, messages}
 use Rattle.bus_laws.specs.Runs.{IsOpenOn, InLocks, answers, CanSend, CanSelect, FindsSelect, CanGoThrough, HeadsMarks, IsUnmarked, IsOfMux, MayFail, Owns, MaySend, Runs}
 use Rattle.bus_laws.proofs.world.BoardFacts.{absent_silent, held_silent}
-use Rattle.bus_laws.proofs.tree.Slots.{eqb-apart, turned-same, turned-other, set_marks-along}
+use Rattle.bus_laws.proofs.tree.Slots.{turned-same, turned-other, set_marks-along}
 use Rattle.bus_laws.proofs.tree.Doers.{After, CanJob, job_after}
+use Rattle.bus_laws.proofs.world.Reach.{crosses_of}
 
 -- a settle in between changes nothing
 pub settled-runs : (b : BoardView) (whose : TransferView) (held : List LockId) (v : Slots) (t : Bool) (e : Option Errno) (w : WalkTree)
@@ -55,13 +56,9 @@ crosses_below b tree (h ∷ hs) s p e c =
       | inr more ↦ let below : p < h.on = crosses_below b tree hs h.on p (tree.tail s h hs e) more in omega arith
     ]
 
-pub among_crosses : (g : Hop) (hs : List Hop) → IsAmongHops g hs → Crosses g.on hs
-among_crosses g [] a = absurd a
-among_crosses g (h ∷ hs) a = elim a [ inl e ↦ inl (ap (λ (x : Hop). x.on) (sym e)) | inr more ↦ inr (among_crosses g hs more) ]
-
 pub own_apart : (b : BoardView) → IsTree b → (s : ℕ) (g : Hop) → IsAmongHops g (hops b s) → g.on ≡ s → ⊥
 own_apart b tree s g a e =
-    let below : g.on < s = crosses_below b tree (hops b s) s g.on refl (among_crosses g (hops b s) a) in
+    let below : g.on < s = crosses_below b tree (hops b s) s g.on refl (crosses_of g (hops b s) a) in
     omega arith
 
 -- CALLS
@@ -139,7 +136,7 @@ fail_own b held on mux v w (m ∷ ms) same heads own fail = (
   fail_along b held on mux v w ms same heads.2 fail.1,
 )
 
-abbrev at_with : MuxSlot → (ℕ → Option ℕ) → At
+abbrev pub at_with : MuxSlot → (ℕ → Option ℕ) → At
 at_with s k = record { slot = s; kept = k }
 
 changed_alike : (f g : ℕ → Option ℕ) (m : ℕ) (c : Option ℕ) → ((n : ℕ) → (n ≡ m → ⊥) → f n ≡ g n) → (n : ℕ)
@@ -185,7 +182,7 @@ same_after on mux v w s same =
     record {
       off = λ p ne. turned-other v on mux p s None ne ∙ same.off p ne;
       kept = λ n ne. ap (λ (x : At). x.kept n) (turned-same v on mux s None)
-          ∙ ap (λ (t : Bool). cond t None ((v on).kept n)) (eqb-apart n mux ne) ∙ same.kept n ne;
+          ∙ ap (λ (t : Bool). cond t None ((v on).kept n)) (ne_eqb n mux ne) ∙ same.kept n ne;
     }
 
 none_at : (v : Slots) (on mux : ℕ) (s : MuxSlot) → (turned v on mux s None on).kept mux ≡ None

@@ -15,31 +15,25 @@ use Rattle.i2c_spec.specs.Tree.{Hop, hops, buses, root_of, locks_of, home_of_mux
 use Rattle.i2c_spec.specs.TreeFacts.{IsTree, IsHop}
 use Rattle.i2c_spec.specs.Tree.{is_left_open}
 use Rattle.i2c_spec.specs.History.{changed_at}
-use Rattle.std.proofs.lemmas.Bool.{eq-eqb, eqb-true}
+use Rattle.std.proofs.lemmas.Bool.{eqb-true}
 use Rattle.std.proofs.lemmas.Bool.Decides.{eqb_tells}
-use Rattle.bus_laws.proofs.world.Reach.{and_left, and_right}
 use Rattle.bus_spec.specs.Walk.{Look, KeptOf, Mark, Job, Select, SwitchOff, Deselect, Close, JobOutcome, Good, Refused, Unsent, Failed, Note, WalkTree, job_bus, is_line, is_gpio, is_arbitrator}
 use Rattle.bus_spec.specs.Slots.{Slots, At, MuxSlot, Clean, Marked, mark_in, turned, turned_at, set_marks}
 use Rattle.bus_spec.specs.Grammar.{Doer, aside, with_mark, if_sent, if_good, kind_of, closing, left_behind, opened, chosen, crossed, behind}
 use Rattle.bus_laws.specs.Runs.{answers, IsOpenOn, OthersKept, IsKept, InLocks, IsShut, IsRest, IsMuxOf, IsUnmarked, IsOfMux, MayFail, Owns, IsGranted, Runs}
 use Rattle.bus_laws.specs.Lines.{LinesAreLocked}
-use Rattle.bus_laws.proofs.tree.Slots.{changed-other, eqb-apart, turned-same, turned-other, set_marks-along, set_marks-head, shut_clean, marked_slot}
+use Rattle.bus_laws.proofs.tree.Slots.{changed-other, turned-same, turned-other, set_marks-along, set_marks-head, shut_clean, marked_slot}
 use Rattle.bus_laws.proofs.tree.Doers.{Responds, AllRespond, CanJob, job_after, OwnsOff, FindsFirst, CallUnmarked, IsPassed, Before, After, DoerRuns}
 use Rattle.bus_laws.proofs.tree.Base.{crosses_below}
 use Rattle.bus_laws.proofs.tree.Path.{job_after-off, job_after-along, job_after-unsent, job_after-failed, finds_along, fail_along, unmarked_off, marks_tail, owns_off_tail, own_crosses, can_more, bus_among, sub_locks}
+use Rattle.i2c_base.proofs.Booleans.{and_first, and_last}
+use Rattle.bus_laws.proofs.world.Slots.{kept_other, kept_own}
 
 -- the kind that a board tells of a mux
 told_kind : (o : Option MuxSpec) (k : MuxKind) → unwrap_or (option_map (λ (m : MuxSpec). Some m.kind) o) None ≡ Some k
     → unwrap_or (option_map (λ (m : MuxSpec). m.kind) o) Pca9548 ≡ k
 told_kind None k e = (let f : None ≡ Some k = e in cc)
 told_kind (Some x) k e = (let f : Some x.kind ≡ Some k = e in cc)
-
--- the channels of the muxes on a bus, of which one is changed
-kept_other : (f : ℕ → Option ℕ) (m n : ℕ) (c : Option ℕ) → (n ≡ m → ⊥) → changed_at f m c n ≡ f n
-kept_other f m n c ne = ap (λ (t : Bool). cond t c (f n)) (eqb-apart n m ne)
-
-kept_own : (f : ℕ → Option ℕ) (m n : ℕ) (c : Option ℕ) → n ≡ m → changed_at f m c n ≡ c
-kept_own f m n c e = ap (λ (t : Bool). cond t c (f n)) (eq-eqb n m e)
 
 others_stay : (b : BoardView) (p m : ℕ) (x : At) → OthersKept b p m x → (n c : ℕ) → changed_at x.kept m None n ≡ Some c → IsKept b p n
 others_stay b p m x others n c e =
@@ -418,11 +412,11 @@ module _ (b : BoardView) (whose : TransferView) (tree : IsTree b) (lines : Lines
           opened-runs u like
           (record {
             clean = clean;
-            kept = e ∙ ap Some (eqb-true c h.channel (and_right h.stays (eqb c h.channel) f));
+            kept = e ∙ ap Some (eqb-true c h.channel (and_last h.stays (eqb c h.channel) f));
             others = others_rest b h.on h.mux (u h.on) rest;
           })
           (subst (λ (kind : MuxKind). (is_gpio kind ≡ true) ⊎ (answers b h.mux ≡ true)) own_kind own.2)
-          (λ n. absurd (let g : true ≡ false = sym (and_left h.stays (eqb c h.channel) f) ∙ n in cc))
+          (λ n. absurd (let g : true ≡ false = sym (and_first h.stays (eqb c h.channel) f) ∙ n in cc))
 
   look-runs : (u : Slots) → Like u → IsRest b h.on (u h.on) → (u h.on).slot ≡ Clean
       → Runs b whose held u (Look (KeptOf h.on h.mux) (crossed h on job note k))

@@ -1,27 +1,23 @@
 -- What a change at one bus leaves at the others. The inductions go over a list of marks.
-use Rattle.std.proofs.Common.{◌≡◌, ℕ, false, cond, List, [], ◌∷◌, Option, Some, None, eqb, refl, sym, ◌∙◌, ap, inl, inr}
-use Rattle.std.proofs.lemmas.Bool.{eq-eqb}
+use Rattle.std.proofs.Common.{◌≡◌, ℕ, cond, List, [], ◌∷◌, Option, Some, None, refl, sym, ◌∙◌, ap, inl, inr}
+use Rattle.std.proofs.lemmas.Bool.{eq-eqb, ne_eqb}
 use Rattle.std.proofs.lemmas.Bool.Decides.{eqb_tells}
 use Rattle.i2c_spec.specs.History.{changed_at}
 use Rattle.bus_spec.specs.Walk.{Mark}
 use Rattle.bus_spec.specs.Slots.{Slots, At, MuxSlot, Clean, Marked, Polled, Found, turned, turned_at, set_marks, mark_in}
 use Rattle.bus_laws.specs.Runs.{IsShut, IsUnmarked}
 
--- two different numbers fail the test
-pub eqb-apart : (a b : ℕ) → (a ≡ b → ⊥) → eqb a b ≡ false
-eqb-apart a b ne = elim (eqb_tells a b) [ inl h ↦ absurd (ne h.1) | inr h ↦ h.0 ]
-
 pub changed-same : (v : Slots) (p : ℕ) (x : At) → changed_at v p x p ≡ x
 changed-same v p x = ap (λ t. cond t x (v p)) (eq-eqb p p refl)
 
 pub changed-other : (v : Slots) (p q : ℕ) (x : At) → (q ≡ p → ⊥) → changed_at v p x q ≡ v q
-changed-other v p q x ne = ap (λ t. cond t x (v q)) (eqb-apart q p ne)
+changed-other v p q x ne = ap (λ t. cond t x (v q)) (ne_eqb q p ne)
 
 pub turned-same : (v : Slots) (p m : ℕ) (s : MuxSlot) (c : Option ℕ) → turned v p m s c p ≡ turned_at (v p) m s c
 turned-same v p m s c = ap (λ t. cond t (turned_at (v p) m s c) (v p)) (eq-eqb p p refl)
 
 pub turned-other : (v : Slots) (p m q : ℕ) (s : MuxSlot) (c : Option ℕ) → (q ≡ p → ⊥) → turned v p m s c q ≡ v q
-turned-other v p m q s c ne = ap (λ t. cond t (turned_at (v p) m s c) (v q)) (eqb-apart q p ne)
+turned-other v p m q s c ne = ap (λ t. cond t (turned_at (v p) m s c) (v q)) (ne_eqb q p ne)
 
 -- equal knowledge stays equal through a change
 pub turned-along : (v w : Slots) (p m q : ℕ) (s : MuxSlot) (c : Option ℕ) → v q ≡ w q → turned v p m s c q ≡ turned w p m s c q

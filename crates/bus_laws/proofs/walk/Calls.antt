@@ -15,7 +15,7 @@ use Rattle.bus_laws.proofs.walk.Keeps.{GoesOver, GoesOverHop, walk-keeps}
 abbrev IsOwn : BoardView → TransferView → Job → Note → Type 0
 IsOwn b t job note = IsGranted b t job × IsOnWay b t note job
 
-abbrev AnyLock : LockId → Type 0
+abbrev pub AnyLock : LockId → Type 0
 AnyLock l = Unit {0}
 
 steps : (b : BoardView) (t : TransferView) → GoesOver (λ n. CallsOf b t) (IsOwn b t) AnyLock

@@ -9,7 +9,6 @@ use Rattle.i2c_base.specs.declared.ids.LockId.{LockId}
 use Rattle.i2c_base.specs.declared.board.MuxSpec.{MuxSpec}
 use Rattle.i2c_base.specs.declared.errno.Errno.{Errno}
 use Rattle.i2c_base.specs.declared.board.MuxKind.{MuxKind}
-use Rattle.i2c_base.specs.Muxes.{facts_of}
 use Rattle.i2c_base.specs.Board.{BoardView}
 use Rattle.i2c_base.proofs.MuxLemmas.{arbitrator_row}
 use Rattle.i2c_base.specs.declared.transfer.Msg.{Msg}
@@ -31,6 +30,7 @@ use Rattle.bus_laws.proofs.world.LineFacts.{wanted}
 use Rattle.bus_laws.proofs.walk.MessageFacts.{nth-next}
 use Rattle.i2c_spec.proofs.MessageLemmas.{length-messages}
 use Rattle.std.proofs.lemmas.Option.{same_Some}
+use Rattle.i2c_spec.proofs.CostLemmas.{inner_more}
 
 -- more is enough where less is
 pub within_more : (b : BoardView) (w : WalkTree) (n m : ℕ) → n ≤ m → IsWithin b w n → IsWithin b w m
@@ -197,28 +197,6 @@ module _ (b : BoardView) (h : Hop) (on : Doer) (cost : Job → ℕ) (sub : DoerW
   pub behind_within : IsWithin b (behind b h on job note k) (close_cost + (select_cost + job_total))
   behind_within = closing_within
 
--- WHAT THE COST COUNTS: the job's own steps beside what the way takes
-behind_beside : (kind : MuxKind) (control job x : ℕ) → behind_cost kind control (job + x) ≡ behind_cost kind control job + x
-behind_beside kind control job x = by_facts (facts_of kind).by_line (facts_of kind).asks
-  where
-    by_facts : (by_line asks : Bool) → behind_by by_line asks control (job + x) ≡ behind_by by_line asks control job + x
-    by_facts true asks = omega arith
-    by_facts false true = omega arith
-    by_facts false false = omega arith
-
-inner_beside : (hs : List Hop) (x : ℕ) → inner_cost hs x ≡ inner_cost hs 0 + x
-inner_beside [] x = omega arith
-inner_beside (h ∷ hs) x = by_lock (inner_beside hs x) h.parent
-  where
-    by_lock : inner_cost hs x ≡ inner_cost hs 0 + x → (t : Bool)
-        → cond t (behind_cost h.kind (inner_cost hs 2) (inner_cost hs x))
-        (3 * (lock_steps hs + inner_cost hs 2) + (lock_steps hs + inner_cost hs x))
-        ≡ cond t (behind_cost h.kind (inner_cost hs 2) (inner_cost hs 0))
-        (3 * (lock_steps hs + inner_cost hs 2) + (lock_steps hs + inner_cost hs 0)) + x
-    by_lock before true = ap (λ (y : ℕ). behind_cost h.kind (inner_cost hs 2) y) before
-        ∙ behind_beside h.kind (inner_cost hs 2) (inner_cost hs 0) x
-    by_lock before false = omega (arith, before)
-
 same_locks : (root : ℕ) (hs : List Hop) → length (locks_of root hs) ≡ length (locks_of 0 hs)
 same_locks root [] = refl
 same_locks root (h ∷ hs) = ap suc (by_lock h.parent (same_locks root hs))
@@ -251,14 +229,14 @@ off_fits : (hs : List Hop) (kind : MuxKind) → off_cost hs kind ≤ inner_cost 
 off_fits hs kind = by_line (is_gpio kind)
   where
     by_line : (t : Bool) → cond t 1 (inner_cost hs 2) ≤ inner_cost hs 2
-    by_line true = omega (arith, inner_beside hs 2)
+    by_line true = omega (arith, inner_more hs 2)
     by_line false = omega arith
 
 select_fits : (hs : List Hop) (kind : MuxKind) → is_arbitrator kind ≡ false → select_of hs kind ≤ inner_cost hs 2
 select_fits hs kind e = by_facts (is_gpio kind) (is_arbitrator kind) e
   where
     by_facts : (by_line asks : Bool) → asks ≡ false → cond by_line 1 (inner_cost hs (2 * (1 + cond asks POLLS 0))) ≤ inner_cost hs 2
-    by_facts true asks e = omega (arith, inner_beside hs 2)
+    by_facts true asks e = omega (arith, inner_more hs 2)
     by_facts false false e = omega arith
     by_facts false true e = absurd (let f : true ≡ false = e in cc)
 
@@ -270,7 +248,7 @@ parent_fits hs kind own = by_facts (is_gpio kind) (is_arbitrator kind)
         → inner_cost hs 2 + (cond by_line 1 (inner_cost hs (2 * (1 + cond asks POLLS 0))) + (own + cond by_line 1 (inner_cost hs 2))) ≤
         behind_by by_line asks (inner_cost hs 2) own
     by_facts true asks = omega arith
-    by_facts false true = omega (arith, inner_beside hs 2, inner_beside hs 18)
+    by_facts false true = omega (arith, inner_more hs 2, inner_more hs 18)
     by_facts false false = omega arith
 
 abbrev part_cost : BoardView → Bool → ℕ → List Hop → Job → ℕ
@@ -418,9 +396,9 @@ walk-within b tree rules t some = by_refusal (refusal b t) refl
         (omega (
           arith,
           same_locks (root_of b t.bus) (hops b t.bus),
-          inner_beside (hops b t.bus)
+          inner_more (hops b t.bus)
               (job_weight b (Call t.bus (messages_of t))),
-          inner_beside (hops b t.bus) (steps_of b t),
+          inner_more (hops b t.bus) (steps_of b t),
           all,
           fewer,
         ))

@@ -12,6 +12,7 @@ use Rattle.i2c_spec.specs.Flat.{refusal}
 use Rattle.bus_spec.specs.Walk.{Job, Call, Select, SwitchOff, Deselect, Close, Free, Send, Shift, Settle, ActOutcome, Sent, Lined, JobOutcome, Good, Refused, Unsent, Failed, Note, WalkTree, Ends, Then, Go, On, Last, Over, goes, job_outcome, verdict_of, decides, is_line, more_of, KeptOf, Look}
 use Rattle.bus_spec.specs.Grammar.{Doer, plain, settled, over, by_go, messages, at_bus, locked, part, with_mark, aside, if_sent, if_good, kind_of, closing, left_behind, opened, chosen, keeps, crossed, behind, inner, walk_by, walk_for, first_act}
 use Rattle.bus_laws.specs.Settles.{EndsJob, IsDecided, NoSettle, IsBefore, GoesOn, Settles}
+use Rattle.i2c_base.proofs.Booleans.{and_first}
 
 -- a job on the way to the caller's messages has settled their transfer, where it decides their reply or its way was lost
 abbrev is_settled : Job → JobOutcome → Bool
@@ -58,10 +59,6 @@ decided : (x done : Bool) (verdict : Option Errno) (w : WalkTree) → (x ≡ tru
 decided true done verdict w before starts h = (before refl, starts, h)
 decided false done verdict w before starts h = h
 
-and_forward : (forward x : Bool) → (forward && x) ≡ true → forward ≡ true
-and_forward true x e = refl
-and_forward false x e = e
-
 -- an end on the bus itself decides exactly where it settles
 sent_decides : (job : Job) (left : ℕ) (e : End) (bytes : List ℕ)
     → decides job (job_outcome job left (Sent e bytes)) ≡ is_settled job (job_outcome job left (Sent e bytes))
@@ -96,7 +93,7 @@ module _ (job : Job) (note : Note) (k : JobOutcome → WalkTree) (done : Bool) (
       → Settles done (over job left note k out)
   over_settles left out same =
       decided (note.forward && decides job (job_outcome job left out)) done (verdict_of job left out) (k (job_outcome job left out))
-      (λ e. before (and_forward note.forward (decides job (job_outcome job left out)) e)) (starts (job_outcome job left out))
+      (λ e. before (and_first note.forward (decides job (job_outcome job left out)) e)) (starts (job_outcome job left out))
       (subst (λ (t : Bool). Settles t (k (job_outcome job left out)))
       (sym (at_end note.forward (decides job (job_outcome job left out)) (is_settled job (job_outcome job left out)) done before same))
       (goes_on (job_outcome job left out)))

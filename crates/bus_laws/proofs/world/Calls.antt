@@ -1,5 +1,5 @@
 -- A caller's message leaves the chips alone: no chip along its bus has its address. The inductions go over lists.
-use Rattle.std.proofs.Common.{◌≡◌, ℕ, zero, suc, ◌+◌, Bool, true, false, cond, ◌&&◌, ◌||◌, List, [], ◌∷◌, ◌++◌, Option, Some, None, eqb, refl, sym, ◌∙◌, ap, ◌⊎◌, inl, inr}
+use Rattle.std.proofs.Common.{◌≡◌, ℕ, ◌+◌, Bool, true, false, cond, ◌&&◌, ◌||◌, List, [], ◌∷◌, ◌++◌, Option, Some, None, eqb, refl, sym, ◌∙◌, ap, ◌⊎◌, inl, inr}
 use Rattle.std.specs.Prelude.{slice_get, unwrap_or}
 use Rattle.std.specs.List.{list_any}
 use Rattle.std.specs.Option.{option_map}
@@ -29,14 +29,7 @@ use Rattle.bus_laws.proofs.world.Hears.{chip_along}
 use Rattle.bus_laws.proofs.world.Control.{NoneWaits, stop_quiet, started-chips}
 use Rattle.i2c_spec.proofs.MessageLemmas.{IsLater}
 use Rattle.std.proofs.Math.Bool.{or-true}
-
--- GRANTS: facts as tests
-pub any_at : {X : Type 0} (test : X → Bool) (xs : List X) (i : ℕ) (x : X) → slice_get xs i ≡ Some x → test x ≡ true
-    → list_any test xs ≡ true
-any_at test [] i x e t = absurd (let f : None ≡ Some x = e in cc)
-any_at test (y ∷ ys) zero x e t = ap (λ (b : Bool). b || list_any test ys) (ap test (let f : Some y ≡ Some x = e in let g : y ≡ x = cc in g)
-    ∙ t)
-any_at test (y ∷ ys) (suc i) x e t = ap (λ (b : Bool). test y || b) (any_at test ys i x e t) ∙ or-true (test y)
+use Rattle.std.proofs.lemmas.Map.Keys.{any_passes_from_place}
 
 pub crosses_any : (u : ℕ) (hs : List Hop) → Crosses u hs → list_any (λ (h : Hop). eqb h.on u) hs ≡ true
 crosses_any u [] c = absurd c
@@ -99,16 +92,16 @@ busy_chip b s a force n addr may =
     elim may [
       | inl along ↦ elim (on_or_below b s (home_of_mux b n) along) [
         | inl on ↦ busy_path b s a force
-            (any_at (λ (x : MuxSpec). has_address a x.addr && is_on_path b s x.bus) b.muxes n m.0 m.1
+            (any_passes_from_place (λ (x : MuxSpec). has_address a x.addr && is_on_path b s x.bus) b.muxes n m.0 m.1
             (chip_test a m.0 (is_on_path b s) m.2 (ap (is_on_path b s) (sym bus) ∙ on)))
         | inr below ↦ busy_below b s a force
             (ap (λ (t : Bool). t || some_device b a (λ u. is_below b u s))
-            (any_at (λ (x : MuxSpec). has_address a x.addr && is_below b x.bus s) b.muxes n m.0 m.1
+            (any_passes_from_place (λ (x : MuxSpec). has_address a x.addr && is_below b x.bus s) b.muxes n m.0 m.1
             (chip_test a m.0 (λ u. is_below b u s) m.2 (ap (λ u. is_below b u s) (sym bus) ∙ below))))
       ]
       | inr aside ↦ busy_aside b s a force
           (ap (λ (t : Bool). t || some_device b a (is_aside b s))
-          (any_at (λ (x : MuxSpec). has_address a x.addr && is_aside b s x.bus) b.muxes n m.0 m.1
+          (any_passes_from_place (λ (x : MuxSpec). has_address a x.addr && is_aside b s x.bus) b.muxes n m.0 m.1
           (chip_test a m.0 (is_aside b s) m.2 (ap (is_aside b s) (sym bus) ∙ aside))))
     ]
 

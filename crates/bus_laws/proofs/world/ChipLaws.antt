@@ -1,6 +1,6 @@
 -- What the chips do with the bytes that muxes are switched by: a select opens its channel alone, a close opens none.
 use Rattle.std.proofs.Common.{◌≡◌, ℕ, zero, suc, ◌+◌, ◌-◌, ◌*◌, ◌/◌, ◌%◌, ◌^◌, ◌<◌, ◌≤◌, Bool, true, false, cond, not, ◌&&◌, Option, Some, None, eqb, refl, sym, ◌∙◌, ap, subst, inl, inr, arith}
-use Rattle.std.proofs.lemmas.Bool.{eqb-true, eq-eqb, cases_lt}
+use Rattle.std.proofs.lemmas.Bool.{eqb-true, eq-eqb, cases_lt, ne_eqb}
 use Rattle.std.proofs.lemmas.Nat.{pow_pos, pow-add, shl-shr, shr-shr, one_shl}
 use Rattle.std.proofs.Math.Nat.{zero-div, zero-mod, div_self, pow-suc, one-mul}
 use Rattle.i2c_base.specs.declared.board.MuxKind.{MuxKind}
@@ -11,8 +11,7 @@ use Rattle.i2c_base.proofs.MuxLemmas.{FitsCode, facts_fit}
 use Rattle.i2c_spec.specs.Chips.{ChipView, bit_of, opens_by, opens, is_open, is_free, arbitrated, taken, looked, select_by, select_value, close_value, at_level}
 use Rattle.bus_spec.specs.Walk.{is_gpio, is_arbitrator}
 use Rattle.bus_laws.proofs.world.Control.{put_byte, on_look}
-use Rattle.bus_laws.proofs.tree.Slots.{eqb-apart}
-use Rattle.bus_laws.proofs.world.Reach.{and_right}
+use Rattle.i2c_base.proofs.Booleans.{and_last}
 
 -- a power of two has one bit
 power_above : (c d : ℕ) → 2 ^ (d + c) / 2 ^ c ≡ 2 ^ d
@@ -126,7 +125,7 @@ module _ (k : MuxKind) (x : ChipView) (channel : ℕ) (kind : x.kind ≡ k) wher
         opened = opens_at (Number n) at control channel
             ∙ ap (λ (t : Bool). t && eqb (control % 2 ^ n) channel) bits.0 ∙ eq-eqb (control % 2 ^ n) channel bits.1;
         only = λ c e. sym bits.1 ∙ eqb-true (control % 2 ^ n) c
-            (and_right (bit_of control n) (eqb (control % 2 ^ n) c) (sym (opens_at (Number n) at control c) ∙ e));
+            (and_last (bit_of control n) (eqb (control % 2 ^ n) c) (sym (opens_at (Number n) at control c) ∙ e));
       })
   select_by_code Alone at fits line has free =
       let y : ChipView = record x { control = 1; waiting = None } in
@@ -184,7 +183,7 @@ value_opens k channel has = by_code (facts_of k).code refl (facts_fit k)
               ∙ ap (λ (t : Bool). t && eqb (value % 2 ^ n) channel) (ap (λ (i : ℕ). bit_of i n) (sym whole) ∙ bits.0)
               ∙ eq-eqb (value % 2 ^ n) channel number;
           only = λ c e. sym number ∙ eqb-true (value % 2 ^ n) c
-              (and_right (bit_of value n) (eqb (value % 2 ^ n) c) (sym (opens_at k (at_value k 0) channel refl (Number n) at value c) ∙ e));
+              (and_last (bit_of value n) (eqb (value % 2 ^ n) c) (sym (opens_at k (at_value k 0) channel refl (Number n) at value c) ∙ e));
         })
     by_code Alone at fits =
         let only_one : channel ≡ 0 = (let l : channel < 1 = below k (at_value k 0) channel refl 1 fits.0 has in omega arith) in
@@ -202,7 +201,7 @@ pub shut_at_zero : (code : ChannelCode) (c : ℕ) → opens_by code 0 c ≡ fals
 shut_at_zero Bits c = bit_zero c
 shut_at_zero (Number n) c = ap (λ (t : Bool). t && eqb (0 % 2 ^ n) c) (bit_zero n)
 shut_at_zero Alone c = refl
-shut_at_zero Level c = eqb-apart 0 (c + 1) (λ e. absurd (omega arith))
+shut_at_zero Level c = ne_eqb 0 (c + 1) (λ e. absurd (omega arith))
 
 pub close_opens : (k : MuxKind) (x : ChipView) (c : ℕ) → is_gpio k ≡ false
     → is_open (taken k (put_byte close_value x) close_value) c ≡ false

@@ -1,6 +1,6 @@
 -- Who hears a start: a control message its own chip alone, and a caller's message no chip. No induction; the lists are
 -- those of `WorldFeed`.
-use Rattle.std.proofs.Common.{◌≡◌, ℕ, ◌+◌, Bool, true, false, cond, ◌&&◌, ◌||◌, List, [], ◌∷◌, ◌++◌, Option, Some, None, eqb, refl, sym, ◌∙◌, ap, subst, inl, inr, zero-add}
+use Rattle.std.proofs.Common.{◌≡◌, ℕ, ◌+◌, Bool, true, false, cond, ◌&&◌, ◌||◌, List, [], ◌∷◌, ◌++◌, Option, Some, None, eqb, refl, sym, ◌∙◌, ap, subst, zero-add}
 use Rattle.std.specs.Prelude.{slice_get, unwrap_or}
 use Rattle.std.specs.Option.{option_map}
 use Rattle.std.proofs.lemmas.Bool.{eqb-true, eq-eqb}
@@ -11,7 +11,7 @@ use Rattle.i2c_base.specs.declared.event.Answer.TheVariants as answer
 use Rattle.i2c_base.specs.declared.ids.Node.{Node}
 use Rattle.i2c_base.specs.declared.ids.Node.TheVariants as node
 use Rattle.i2c_base.specs.Board.{BoardView, DeviceView}
-use Rattle.i2c_spec.specs.Tree.{home_of_mux, addr_of_mux, of_device, IsAlong}
+use Rattle.i2c_spec.specs.Tree.{home_of_mux, addr_of_mux, of_device}
 use Rattle.i2c_spec.specs.TreeFacts.{IsTree, home_of, addr_of}
 use Rattle.i2c_spec.specs.Grant.{has_address}
 use Rattle.i2c_spec.specs.Tree.{MayJoin}
@@ -19,11 +19,9 @@ use Rattle.i2c_spec.specs.Chips.{ChipView, chip_table, chip_answer}
 use Rattle.i2c_spec.specs.Targets.{TargetState, state_table}
 use Rattle.i2c_spec.specs.World.{World, is_joined, has_chip, joins_chip, joins_device, start_event, chip_start, device_start, start_chips, start_devices, answers, answer_with, is_ack, is_slow, has_heard, heard_of, hearers, some_answer, answer as world_answer}
 use Rattle.bus_laws.proofs.world.Feed.{hears, heard-none, heard-one, unheard, some_answer-append, some_answer-at}
-use Rattle.bus_laws.proofs.world.Reach.{world_of, control_alone, and_right, start_heard, other_state, address_is}
+use Rattle.bus_laws.proofs.world.Reach.{world_of, control_alone, start_heard, other_state, address_is}
 use Rattle.std.proofs.Math.Bool.{or-false}
-
-pub swap_along : (b : BoardView) (s t : ℕ) → IsAlong b s t → IsAlong b t s
-swap_along b s t a = elim a [ inl x ↦ inr x | inr x ↦ inl x ]
+use Rattle.i2c_base.proofs.Booleans.{and_last}
 
 pub device_address : (a : ℕ) (o : Option DeviceView) → unwrap_or (option_map (λ (d : DeviceView). eqb d.addr a) o) false ≡ true
     → unwrap_or (option_map (λ (d : DeviceView). Some d.addr) o) None ≡ Some a
@@ -69,7 +67,7 @@ module _ (b : BoardView) (tree : IsTree b) (r s : ℕ) (cs : List ChipView) (ds 
   chip_along a n reading x h =
       let w : World = world_of b r cs ds hs busy in
       let f = start_heard chip_table x (joins_chip w n) (has_address a (addr_of_mux b n)) reading refl h in
-      (address_is a (addr_of_mux b n) f.1, along (home_of_mux b n) (and_right (has_chip b n) (is_joined w (home_of_mux b n)) f.0))
+      (address_is a (addr_of_mux b n) f.1, along (home_of_mux b n) (and_last (has_chip b n) (is_joined w (home_of_mux b n)) f.0))
 
   pub device_along : (a n : ℕ) (reading : Bool) (x : TargetState)
       → hears state_table (device_start (world_of b r cs ds hs busy) a reading n) x ≡ true

@@ -30,6 +30,7 @@ use Rattle.bus_laws.proofs.world.ChipLaws.{HasChannel, OpensOne, select_opens, c
 use Rattle.bus_laws.proofs.world.Slots.{set_marks-only, told-marks, MuxTold, told-turned}
 use Rattle.bus_laws.proofs.world.BoardFacts.{mux_at, get_same_length, has_address_of, has_chip-is, not_held, foreign_few, held-is, foreign-is, answers-is}
 use Rattle.bus_laws.proofs.world.Law.{world-is, along_here, joined_here, talk_framed, replaced-chip, same_changes, still_none, world_replaced}
+use Rattle.bus_laws.proofs.tree.Base.{at_with}
 
 -- a channel that is told twice
 changed_twice : (f : ℕ → Option ℕ) (m : ℕ) (c d : Option ℕ) → (n : ℕ) → changed_at (changed_at f m c) m d n ≡ changed_at f m d n
@@ -38,9 +39,6 @@ changed_twice f m c d n = by (eqb n m)
     by : (t : Bool) → cond t d (cond t c (f n)) ≡ cond t d (f n)
     by true = refl
     by false = refl
-
-at_with : MuxSlot → (ℕ → Option ℕ) → At
-at_with s k = record { slot = s; kept = k }
 
 turned_twice : (x : At) (m : ℕ) (s t : MuxSlot) (c d : Option ℕ) → turned_at x m t d ≡ turned_at (turned_at x m s c) m t d
 unfolding at_with

@@ -23,25 +23,18 @@ use Rattle.bus_spec.specs.Slots.{Slots, Clean, Marked}
 use Rattle.bus_laws.specs.Runs.{IsOpenOn}
 use Rattle.bus_laws.specs.Told.{Explains}
 use Rattle.bus_laws.proofs.world.Feed.{hears}
+use Rattle.i2c_base.proofs.Booleans.{and_first, and_last}
 
 -- a world by its parts
 abbrev pub world_of : BoardView → ℕ → List ChipView → List TargetState → List Node → Bool → World
 world_of b r cs ds hs busy = record { board = b; root = r; chips = cs; devices = ds; hearing = hs; busy = busy }
 
-pub and_left : (x y : Bool) → (x && y) ≡ true → x ≡ true
-and_left true y e = refl
-and_left false y e = e
-
-pub and_right : (x y : Bool) → (x && y) ≡ true → y ≡ true
-and_right true y e = e
-and_right false y e = (let f : false ≡ true = e in cc)
-
 pub all_among : (test : Hop → Bool) (hs : List Hop) (h : Hop) → list_all test hs ≡ true → IsAmongHops h hs → test h ≡ true
 all_among test [] h e a = absurd a
 all_among test (g ∷ gs) h e a =
     elim a [
-      | inl same ↦ ap test same ∙ and_left (test g) (list_all test gs) e
-      | inr more ↦ all_among test gs h (and_right (test g) (list_all test gs) e) more
+      | inl same ↦ ap test same ∙ and_first (test g) (list_all test gs) e
+      | inr more ↦ all_among test gs h (and_last (test g) (list_all test gs) e) more
     ]
 
 pub all_of : (test : Hop → Bool) (hs : List Hop) → ((h : Hop) → IsAmongHops h hs → test h ≡ true) → list_all test hs ≡ true
@@ -79,7 +72,7 @@ over_more b s u h hs at tail over =
     ]))
 
 -- on different buses: two hops of one path on one bus are one
-crosses_of : (g : Hop) (hs : List Hop) → IsAmongHops g hs → Crosses g.on hs
+pub crosses_of : (g : Hop) (hs : List Hop) → IsAmongHops g hs → Crosses g.on hs
 crosses_of g [] a = absurd a
 crosses_of g (h ∷ hs) a = elim a [ inl e ↦ inl (ap (λ (x : Hop). x.on) (sym e)) | inr more ↦ inr (crosses_of g hs more) ]
 
@@ -200,9 +193,9 @@ module _ (b : BoardView) (tree : IsTree b) (v : Slots) (r s : ℕ) (cs : List Ch
   pub joined_may : (ds : List TargetState) (hs : List Node) (busy : Bool) (u : ℕ) → is_joined (world_of b r cs ds hs busy) u ≡ true
       → MayJoin b s u
   joined_may ds hs busy u e =
-      let root_u : root_of b u ≡ r = eqb-true (root_of b u) r (and_left (eqb (root_of b u) r) (list_all (opens_hop cs) (hops b u)) e) in
+      let root_u : root_of b u ≡ r = eqb-true (root_of b u) r (and_first (eqb (root_of b u) r) (list_all (opens_hop cs) (hops b u)) e) in
       elim (joins (hops b u) u refl root_u
-      (λ h a. all_among (opens_hop cs) (hops b u) h (and_right (eqb (root_of b u) r) (list_all (opens_hop cs) (hops b u)) e) a)) [
+      (λ h a. all_among (opens_hop cs) (hops b u) h (and_last (eqb (root_of b u) r) (list_all (opens_hop cs) (hops b u)) e) a)) [
         | inl along ↦ inl along
         | inr kept ↦ inr (ap (λ (t : Bool). t && list_any (is_kept_hop b s) (hops b u))
             (eq-eqb (root_of b u) (root_of b s) (root_u ∙ sym rooted)) ∙ kept)
@@ -224,8 +217,8 @@ kept_hop b s (h ∷ hs) e = by (is_kept_hop b s h) refl (kept_hop b s hs)
     by true f rest = (
       h,
       inl refl,
-      and_left h.stays (not (crosses_mux h.mux (hops b s))) f,
-      not_false (crosses_mux h.mux (hops b s)) (and_right h.stays (not (crosses_mux h.mux (hops b s))) f),
+      and_first h.stays (not (crosses_mux h.mux (hops b s))) f,
+      not_false (crosses_mux h.mux (hops b s)) (and_last h.stays (not (crosses_mux h.mux (hops b s))) f),
     )
     by false f rest = (let r = rest (sym (ap (λ (t : Bool). t || list_any (is_kept_hop b s) hs) f) ∙ e) in (r.0, inr r.1, r.2, r.3))
 
@@ -260,7 +253,7 @@ off_path b tree m s t over off = by (crosses_mux m (hops b t)) refl
         ]
     by false e = refl
 
-root_over : (b : BoardView) → IsTree b → (s t : ℕ) → IsOver b t s → root_of b t ≡ root_of b s
+pub root_over : (b : BoardView) → IsTree b → (s t : ℕ) → IsOver b t s → root_of b t ≡ root_of b s
 root_over b tree s t over =
     elim over [
       | inl here ↦ ap (λ (i : ℕ). root_of b i) here
@@ -273,9 +266,9 @@ pub aside_apart : (b : BoardView) → IsTree b → (s a : ℕ) (x y : Node) → 
 aside_apart b tree s a x y of_x of_y aside over =
     let root : root_of b (home_of b x) ≡ root_of b s =
     eqb-true (root_of b (home_of b x)) (root_of b s)
-    (and_left (eqb (root_of b (home_of b x)) (root_of b s)) (list_any (is_kept_hop b s) (hops b (home_of b x))) aside) in
+    (and_first (eqb (root_of b (home_of b x)) (root_of b s)) (list_any (is_kept_hop b s) (hops b (home_of b x))) aside) in
     let g = kept_hop b s (hops b (home_of b x))
-    (and_right (eqb (root_of b (home_of b x)) (root_of b s)) (list_any (is_kept_hop b s) (hops b (home_of b x))) aside) in
+    (and_last (eqb (root_of b (home_of b x)) (root_of b s)) (list_any (is_kept_hop b s) (hops b (home_of b x))) aside) in
     tree.aside g.0.mux x y a ((tree.hop (home_of b x) g.0 g.1).stays ∙ g.2) of_x of_y (root ∙ sym (root_over b tree s (home_of b y) over))
     (among_is g.0 (hops b (home_of b x)) g.1) (off_path b tree g.0.mux s (home_of b y) over g.3)
 

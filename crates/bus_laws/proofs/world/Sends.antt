@@ -25,12 +25,12 @@ use Rattle.bus_laws.specs.Told.{chip_in}
 use Rattle.bus_laws.specs.Told.{WorldTold}
 use Rattle.bus_laws.proofs.world.BoardFacts.{mux_at, get_same_length, not_held, held-is, foreign-is, has_channel}
 use Rattle.bus_laws.proofs.tree.Law.{refusal-none}
-use Rattle.bus_laws.proofs.world.Reach.{and_left}
 use Rattle.bus_laws.proofs.world.Law.{world-is, along_here, talk_framed, world_replaced}
 use Rattle.bus_laws.proofs.world.Jobs.{told_equal, close-told, select-told, poll-told}
 use Rattle.bus_laws.proofs.world.Calls.{call-chips}
 use Rattle.i2c_spec.proofs.MessageLemmas.{length-messages}
 use Rattle.std.proofs.lemmas.Bool.{or_parts}
+use Rattle.i2c_base.proofs.Booleans.{and_first}
 
 busy_is : (g : Grant) → g ≡ grant.Busy → is_busy g ≡ true
 busy_is g e = ap is_busy e
@@ -82,7 +82,7 @@ own_open (Deselect h) s f = subst (λ (x : MuxSlot). IsOfMux h.mux x) (sym f) tt
 own_open (Close on mux kind) s f = subst (λ (x : MuxSlot). IsOfMux mux x) (sym f) refl
 
 free_not_held : (x : ChipView) → is_free x ≡ true → eqb x.foreign 8 ≡ false
-free_not_held x e = flip (eqb x.foreign 8) (and_left (not (eqb x.foreign 8)) (eqb x.left 0) e)
+free_not_held x e = flip (eqb x.foreign 8) (and_first (not (eqb x.foreign 8)) (eqb x.left 0) e)
   where
     flip : (t : Bool) → not t ≡ true → t ≡ false
     flip false e = refl

@@ -1,7 +1,7 @@
 -- How what is known of the chips moves along one step: marks alone, or one chip.
 use Rattle.std.proofs.Common.{◌≡◌, ℕ, ◌≤◌, Bool, true, false, cond, List, [], ◌∷◌, Option, Some, None, eqb, refl, sym, ◌∙◌, ap, subst, ◌⊎◌, inl, inr}
 use Rattle.std.specs.Option.{option_map}
-use Rattle.std.proofs.lemmas.Bool.{eq-eqb}
+use Rattle.std.proofs.lemmas.Bool.{eq-eqb, ne_eqb}
 use Rattle.std.proofs.lemmas.Bool.Decides.{eqb_tells}
 use Rattle.i2c_base.specs.Board.{BoardView}
 use Rattle.i2c_base.specs.declared.ids.LockId.{LockId}
@@ -12,13 +12,13 @@ use Rattle.bus_spec.specs.Walk.{Mark}
 use Rattle.bus_spec.specs.Slots.{Slots, At, MuxSlot, Marked, Polled, Found, turned_at, set_marks}
 use Rattle.bus_laws.specs.Runs.{IsOfMux, MayFail}
 use Rattle.bus_laws.specs.Told.{Explains, ChipsTold}
-use Rattle.bus_laws.proofs.tree.Slots.{eqb-apart, changed-other}
+use Rattle.bus_laws.proofs.tree.Slots.{changed-other}
 use Rattle.bus_laws.specs.Told.{IsChipOf}
 use Rattle.bus_laws.proofs.world.ChipLaws.{SameSort}
 
 -- one mux's channel is changed
 pub kept_other : (f : ℕ → Option ℕ) (m n : ℕ) (c : Option ℕ) → (n ≡ m → ⊥) → changed_at f m c n ≡ f n
-kept_other f m n c ne = ap (λ (t : Bool). cond t c (f n)) (eqb-apart n m ne)
+kept_other f m n c ne = ap (λ (t : Bool). cond t c (f n)) (ne_eqb n m ne)
 
 pub kept_own : (f : ℕ → Option ℕ) (m n : ℕ) (c : Option ℕ) → n ≡ m → changed_at f m c n ≡ c
 kept_own f m n c e = ap (λ (t : Bool). cond t c (f n)) (eq-eqb n m e)

@@ -32,7 +32,6 @@ use Rattle.bus_laws.specs.Lines.{LinesAreLocked}
 use Rattle.bus_laws.specs.Reach.{AsksForMessages, AsksWithinLimits}
 use Rattle.bus_laws.specs.Settles.{CallGoesOn}
 use Rattle.bus_laws.specs.Alike.{IsOf, Same, LeadsTo, EndsTransfer}
-use Rattle.bus_laws.proofs.tree.Slots.{eqb-apart}
 use Rattle.bus_laws.proofs.past.StandsStep.{at_same, at_other}
 use Rattle.bus_laws.proofs.past.Known.{message_entry}
 use Rattle.i2c_spec.proofs.MessageLemmas.{length-messages}
@@ -45,6 +44,7 @@ use Rattle.flat_laws.proofs.device.Flat.{flat-elsewhere}
 use Rattle.flat_laws.proofs.device.Said.{IsSaid, reply-is, said-more, left_states, said-whole, same-whole}
 use Rattle.flat_laws.proofs.device.Stand.{IsDueWith, IsInsideWith, DevicesStand, inside_stays}
 use Rattle.std.proofs.lemmas.Option.{same_Some}
+use Rattle.std.proofs.lemmas.Bool.{ne_eqb}
 
 -- a message of a caller's is followed by the next where it went through
 goes_good : (bus : ℕ) (ms : List MessageView) (left : ℕ) (e : End) (bytes : List ℕ)
@@ -218,7 +218,7 @@ module _ (b : BoardView) (tree : IsTree b) (plain : IsPlainBoard b) (lines : Lin
         inside_here =
             at_same n.inside root (inside_after job left (Sent e bytes) d (n.inside root))
             ∙ ap (λ (z : Bool). cond z None (cond (is_on (goes job left (Sent e bytes))) (Some d) None))
-            (eqb-apart left 0 (λ f. absurd (omega (arith, f, is))))
+            (ne_eqb left 0 (λ f. absurd (omega (arith, f, is))))
             ∙ ap (λ (z : Bool). cond z (Some d) None) (goes_good t.bus (messages_of t) left e bytes ∙ good)
 
         sends : first_act (m.walk d) ≡ Some (Send job l)
@@ -273,7 +273,7 @@ module _ (b : BoardView) (tree : IsTree b) (plain : IsPlainBoard b) (lines : Lin
           by zero goes_on ends = goes_on
           by (suc l) goes_on ends =
               elim ends [
-                | inl last ↦ absurd (let f : false ≡ true = sym (eqb-apart (suc l) 0 (λ f. absurd (omega (arith, f)))) ∙ last in cc)
+                | inl last ↦ absurd (let f : false ≡ true = sym (ne_eqb (suc l) 0 (λ f. absurd (omega (arith, f)))) ∙ last in cc)
                 | inr bad ↦ goes_on ∙ ap (λ (z : Bool). Some (cond z (Send job l) (Settle (verdict_of job (suc l) (Sent e bytes)))))
                     (goes_good t.bus (messages_of t) l e bytes ∙ bad)
               ]

@@ -1,6 +1,6 @@
 -- A transfer in the flat world has to do with the devices of its own root alone. The inductions go over hops, and over
 -- the messages.
-use Rattle.std.proofs.Common.{◌≡◌, ℕ, ◌+◌, Bool, true, false, cond, not, ◌&&◌, ◌||◌, List, [], ◌∷◌, ◌++◌, Option, Some, None, eqb, refl, sym, ◌∙◌, ap, subst, inl, inr, zero-add}
+use Rattle.std.proofs.Common.{◌≡◌, ℕ, ◌+◌, Bool, true, false, cond, not, ◌&&◌, ◌||◌, List, [], ◌∷◌, ◌++◌, Option, Some, None, eqb, refl, sym, ◌∙◌, ap, zero-add}
 use Rattle.std.specs.Prelude.{slice_get, unwrap_or}
 use Rattle.std.specs.List.{AllByRecursion, position_from}
 use Rattle.std.specs.Option.{option_map, option_map_or}
@@ -15,40 +15,26 @@ use Rattle.i2c_base.specs.declared.reply.Cut.{Cut}
 use Rattle.i2c_base.specs.declared.tree.Grant.TheVariants as grant
 use Rattle.i2c_base.specs.Board.{BoardView, DeviceView}
 use Rattle.i2c_base.specs.Transfer.{TransferView}
-use Rattle.i2c_spec.specs.Tree.{Hop, hops, root_of, is_below, is_on_path, Crosses, IsAmongHops, IsOver, is_aside}
+use Rattle.i2c_spec.specs.Tree.{root_of, is_below, is_on_path, is_aside}
 use Rattle.i2c_spec.specs.TreeFacts.{IsTree}
 use Rattle.i2c_spec.specs.Grant.{some_chip, some_device, some_bound, named_by, named_of}
 use Rattle.i2c_spec.specs.Targets.{TargetState, state_table, state_answer}
 use Rattle.i2c_spec.specs.Messages.{MessageView, messages_of}
 use Rattle.i2c_base.specs.Table.{byte_of}
-use Rattle.i2c_spec.specs.World.{World, given, feed, has_heard, is_ack}
+use Rattle.i2c_spec.specs.World.{World, feed, has_heard, is_ack}
 use Rattle.i2c_spec.specs.Flat.{FlatListener, idle, is_member, put_named, flat_start, to_current, to_named, answer_of, acknowledged, flat_after, flat_listener, granted_on, block_limit, cut_in, errno_of, or_done, barred, flat_by, flat_messages, flat}
 use Rattle.i2c_spec.specs.Conversation.{TalkTold, AllTold, talk, talk_all, is_empty, is_good, with_read}
 use Rattle.bus_laws.specs.Alike.{IsOf, listening, Same, ToldAlike, IsUnnamed}
 use Rattle.flat_laws.specs.Parts.{talk_part, FlatSame}
-use Rattle.bus_laws.proofs.world.Reach.{and_right}
 use Rattle.bus_laws.proofs.device.Talk.{talk-alike}
-use Rattle.bus_laws.proofs.device.Hears.{fed-at}
+use Rattle.bus_laws.proofs.device.Hears.{fed_alike}
 use Rattle.bus_laws.proofs.device.Grant.{path_over, position_at}
 use Rattle.i2c_spec.proofs.MessageLemmas.{is_it-some}
 use Rattle.bus_laws.proofs.device.Stay.{talk-unnamed}
 use Rattle.i2c_spec.proofs.MessageLemmas.{IsFollowing}
 use Rattle.i2c_spec.specs.Conversation.{is_it}
-
--- WHOSE DEVICES
--- a bus over another has its root
-root_crossed : (b : BoardView) → IsTree b → (hs : List Hop) (s u : ℕ) → hops b s ≡ hs → Crosses u hs → root_of b u ≡ root_of b s
-root_crossed b tree [] s u at c = absurd c
-root_crossed b tree (h ∷ hs) s u at c =
-    let same : root_of b h.on ≡ root_of b s = tree.root_same s h (subst (λ (xs : List Hop). IsAmongHops h xs) (sym at) (inl refl)) in
-    elim c [
-      | inl e ↦ ap (λ (i : ℕ). root_of b i) (sym e) ∙ same
-      | inr more ↦ root_crossed b tree hs h.on u (tree.tail s h hs at) more ∙ same
-    ]
-
-pub over-root : (b : BoardView) → IsTree b → (s u : ℕ) → IsOver b u s → root_of b u ≡ root_of b s
-over-root b tree s u over =
-    elim over [ inl e ↦ ap (λ (i : ℕ). root_of b i) e | inr c ↦ root_crossed b tree (hops b s) s u refl c ]
+use Rattle.i2c_base.proofs.Booleans.{and_last}
+use Rattle.bus_laws.proofs.world.Reach.{root_over}
 
 names_passed : (p q y z : Bool) (o : Option ℕ) (d : ℕ)
     → named_of (cond p grant.Busy (cond q grant.Busy (cond y grant.Busy (cond z grant.Busy (named_by o))))) ≡ Some d → o ≡ Some d
@@ -70,7 +56,7 @@ granted-own b tree s a force d e =
     let r = position_at (λ (x : DeviceView). eqb x.addr a && is_on_path b s x.bus) 0 b.devices d first in
     let at : slice_get b.devices d ≡ Some r.1 = ap (λ (i : ℕ). slice_get b.devices i) (r.2 ∙ zero-add r.0) ∙ r.3 in
     ap (λ (o : Option DeviceView). root_of b (unwrap_or (option_map (λ (x : DeviceView). x.bus) o) 0)) at
-    ∙ over-root b tree s r.1.bus (path_over b s r.1.bus (and_right (eqb r.1.addr a) (is_on_path b s r.1.bus) r.4))
+    ∙ root_over b tree s r.1.bus (path_over b s r.1.bus (and_last (eqb r.1.addr a) (is_on_path b s r.1.bus) r.4))
 
 -- TWO FLAT WORLDS
 -- they have the same devices of a root, and name the same
@@ -93,13 +79,6 @@ same-alike b r w f g s alike =
       joined = λ d e. s.joined d (ap (λ (ds : List ℕ). is_member d ds) alike.named ∙ e);
       current = λ d e. ap (λ (ds : List ℕ). is_member d ds) (sym alike.named) ∙ s.current d (alike.current ∙ e);
     }
-
-fed_alike : (x y : ℕ → Option Event) (xs ys : List TargetState) (d : ℕ) → slice_get xs d ≡ slice_get ys d → x d ≡ y d
-    → slice_get (feed state_table x 0 xs) d ≡ slice_get (feed state_table y 0 ys) d
-fed_alike x y xs ys d same events =
-    fed-at state_table x xs d ∙ ap (λ (o : Option TargetState). option_map (λ (z : TargetState). given state_table (x d) z) o) same
-    ∙ ap (λ (e : Option Event). option_map (λ (z : TargetState). given state_table e z) (slice_get ys d)) events
-    ∙ sym (fed-at state_table y ys d)
 
 module _ (b : BoardView) (r : ℕ) (granted : ℕ → Option ℕ) (granted_own : (a d : ℕ) → granted a ≡ Some d → IsOf b r d) where
   answer_alike : (f g : FlatListener) (o : Option ℕ) (e : Event) → ((d : ℕ) → IsOf b r d → slice_get f.states d ≡ slice_get g.states d)

@@ -1,7 +1,7 @@
 -- A transfer under way: what is said of it in the flat world, and one message more.
 use Rattle.std.proofs.Common.{◌≡◌, ℕ, suc, ◌+◌, ◌-◌, ◌<◌, Bool, true, false, cond, List, [], ◌∷◌, ◌++◌, length, Option, Some, None, eqb, refl, sym, ◌∙◌, ap, subst, arith, zero-add}
 use Rattle.std.specs.Prelude.{slice_get}
-use Rattle.std.proofs.lemmas.Bool.{eq-eqb}
+use Rattle.std.proofs.lemmas.Bool.{eq-eqb, ne_eqb}
 use Rattle.std.proofs.lemmas.List.{append_assoc}
 use Rattle.i2c_base.specs.declared.entry.End.{End}
 use Rattle.i2c_base.specs.declared.entry.End.TheVariants as end
@@ -25,7 +25,6 @@ use Rattle.bus_spec.specs.Stepwise.{reply_by}
 use Rattle.bus_laws.specs.Alike.{IsOf, Same, LeadsTo, EndsTransfer}
 use Rattle.flat_laws.specs.Parts.{talk_part, GrowsAlike}
 use Rattle.flat_laws.specs.Left.{said_so_far}
-use Rattle.bus_laws.proofs.tree.Slots.{eqb-apart}
 use Rattle.flat_laws.proofs.device.Parts.{part-cuts, part-grows, part-idle, part-whole}
 use Rattle.flat_laws.proofs.device.Flat.{granted-own, flat_part-alike, same-alike}
 
@@ -74,7 +73,7 @@ cuts_before end.Slow part n j at below = refl
 cuts_before end.Refused part n j at below = refl
 cuts_before end.Proto part n j at below = refl
 cuts_before (end.Cut q) part n j at below = ap (λ (x : Bool). cond x (Some q) None)
-    (eqb-apart (part - 1) j (λ f. absurd (omega (arith, f, at, below))))
+    (ne_eqb (part - 1) j (λ f. absurd (omega (arith, f, at, below))))
 
 cuts_good : (e : End) (part j : ℕ) → is_good e ≡ true → None ≡ cut_in (message_cut purpose.Call part e) j
 cuts_good end.Ok part j good = refl
@@ -86,7 +85,7 @@ cuts_good (end.Cut q) part j good = absurd (let f : false ≡ true = good in cc)
 
 is_last-is : (left : ℕ) (rest : List MessageView) → left ≡ length rest → eqb left 0 ≡ is_empty rest
 is_last-is left [] at = eq-eqb left 0 at
-is_last-is left (y ∷ ys) at = eqb-apart left 0 (λ f. absurd (omega (arith, f, at)))
+is_last-is left (y ∷ ys) at = ne_eqb left 0 (λ f. absurd (omega (arith, f, at)))
 
 -- the reply of a whole transfer
 pub reply-is : (t : TransferView) (bus : ℕ) (ms : List MessageView) (left : ℕ) (e : End) (bytes got : List ℕ)
@@ -156,7 +155,7 @@ module _ (b : BoardView) (ahead : List TargetState) (t : TransferView) (w : Worl
       same_more : said_so_far b t ahead more ≡ with_cut more (eqb left 0)
       same_more =
           part-cuts flats (block_limit b) (λ i. None) (cut_in cut) (idle ahead) more false 0 [] (λ j below. cuts_good e part (0 + j) good)
-          ∙ ap (λ (x : Bool). with_cut more x) (sym (eqb-apart left 0 (λ f. absurd (omega (arith, f, is)))))
+          ∙ ap (λ (x : Bool). with_cut more x) (sym (ne_eqb left 0 (λ f. absurd (omega (arith, f, is)))))
 
       by : (rest : List MessageView) → s.rest ≡ rest → IsSaid b ahead t told.now now_got l
       by [] at = absurd (let f : left ≡ 0 = s.so_many ∙ ap (λ (xs : List MessageView). length xs) at in omega (arith, f, is))

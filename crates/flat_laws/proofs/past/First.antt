@@ -1,7 +1,7 @@
 -- A caller whose messages come next is inside already, or sends its first one, and has read nothing yet; and how many of
 -- them stand before. The induction goes over the entries.
 use Rattle.std.proofs.Common.{◌≡◌, ℕ, zero, suc, ◌+◌, ◌-◌, ◌<◌, Bool, true, false, cond, ◌&&◌, List, [], ◌∷◌, length, Option, Some, None, eqb, refl, sym, ◌∙◌, ap, subst, ◌⊎◌, inl, inr, arith}
-use Rattle.std.proofs.lemmas.Bool.{eq-eqb}
+use Rattle.std.proofs.lemmas.Bool.{eq-eqb, ne_eqb}
 use Rattle.std.proofs.lemmas.Bool.Decides.{eqb_tells}
 use Rattle.i2c_base.specs.declared.ids.LockId.TheVariants as lock
 use Rattle.i2c_base.specs.declared.entry.End.{End}
@@ -25,7 +25,6 @@ use Rattle.bus_laws.specs.Reach.{AsksForMessages}
 use Rattle.bus_laws.specs.Settles.{Settles}
 use Rattle.bus_laws.specs.Calls.{FirstCalls, CallsOf, IsAsked}
 use Rattle.flat_laws.specs.Left.{calls_behind}
-use Rattle.bus_laws.proofs.tree.Slots.{eqb-apart}
 use Rattle.bus_laws.proofs.past.StandsStep.{at_same, at_other}
 use Rattle.bus_laws.proofs.past.StandsEntries.{first_is}
 use Rattle.i2c_spec.proofs.MessageLemmas.{length-messages}
@@ -46,7 +45,7 @@ Stage n k c = ((r : ℕ) × (n.inside r ≡ Some c) × Counts (n.walk c) k)
 
 -- a message more is counted for the caller whose it is
 count_other : (d c k : ℕ) (z : Bool) → (c ≡ d → ⊥) → cond (eqb d c && z) (suc k) k ≡ k
-count_other d c k z ne = ap (λ (t : Bool). cond (t && z) (suc k) k) (eqb-apart d c (λ e. ne (sym e)))
+count_other d c k z ne = ap (λ (t : Bool). cond (t && z) (suc k) k) (ne_eqb d c (λ e. ne (sym e)))
 
 count_control : (d k : ℕ) (z : Bool) → z ≡ false → cond (eqb d d && z) (suc k) k ≡ k
 count_control d k z no_call = ap (λ (t : Bool). cond (eqb d d && t) (suc k) k) no_call ∙ by (eqb d d)
@@ -60,7 +59,7 @@ count_call d k z call = ap (λ (t : Bool). cond (eqb d d && t) (suc k) k) call
     ∙ ap (λ (t : Bool). cond (t && true) (suc k) k) (eq-eqb d d refl)
 
 count_settle : (d c k : ℕ) → (c ≡ d → ⊥) → cond (eqb d c) 0 k ≡ k
-count_settle d c k ne = ap (λ (t : Bool). cond t 0 k) (eqb-apart d c (λ e. ne (sym e)))
+count_settle d c k ne = ap (λ (t : Bool). cond t 0 k) (ne_eqb d c (λ e. ne (sym e)))
 
 -- after a settle no message is sent
 settle_first : (w : WalkTree) (done : Bool) (verdict : _) → Settles done w → first_act w ≡ Some (Settle verdict) → FirstCalls w

@@ -1,6 +1,6 @@
 -- A caller that holds no lock has no walk under way, so a journal is complete where its callers are through. The induction goes over
 -- the entries.
-use Rattle.std.proofs.Common.{◌≡◌, ℕ, zero, Bool, cond, List, [], ◌∷◌, length, Option, Some, None, refl, sym, ◌∙◌, ap, subst, inl, inr}
+use Rattle.std.proofs.Common.{◌≡◌, ℕ, zero, Bool, List, [], ◌∷◌, length, Option, Some, None, refl, sym, ◌∙◌, ap, subst, inl, inr}
 use Rattle.std.proofs.lemmas.Bool.Decides.{eqb_tells}
 use Rattle.i2c_base.specs.declared.ids.LockId.{LockId}
 use Rattle.i2c_base.specs.declared.entry.End.{End}
@@ -22,8 +22,8 @@ use Rattle.bus_laws.specs.Lines.{LinesAreLocked}
 use Rattle.bus_laws.specs.Stands.{CallerStands, Stands}
 use Rattle.bus_laws.specs.Reach.{AsksForMessages}
 use Rattle.bus_laws.proofs.past.StandsFacts.{current-stands}
-use Rattle.bus_laws.proofs.past.StandsStep.{lock_tells, at_same, at_other}
-use Rattle.bus_laws.proofs.past.StandsEntries.{first_is}
+use Rattle.bus_laws.proofs.past.StandsStep.{at_same, at_other}
+use Rattle.bus_laws.proofs.past.StandsEntries.{first_is, without-head}
 use Rattle.bus_laws.proofs.past.Laws.{past-stands, holder-told}
 use Rattle.flat_laws.proofs.walk.HoldsOn.{locks_behind, HoldsOn, next-holds}
 
@@ -44,10 +44,6 @@ lined_held b n (Some (Free l)) note failed = refl
 lined_held b n (Some (Send job left)) note failed = refl
 lined_held b n (Some (Shift job)) note failed = refl
 lined_held b n (Some (Settle verdict)) note failed = refl
-
-without_first : (l : LockId) (ls : List LockId) → without l (l ∷ ls) ≡ ls
-without_first l ls =
-    elim (lock_tells l l) [ inl h ↦ ap (λ (t : Bool). cond t ls (l ∷ without l ls)) h.0 | inr h ↦ absurd (h.1 refl) ]
 
 -- each caller's walk holds on, as many locks as it holds
 abbrev AllHoldOn : (ℕ → List LockId) → (ℕ → WalkTree) → Type 0
@@ -86,7 +82,7 @@ module _ (b : BoardView) (tree : IsTree b) (lines : LinesAreLocked b) (asks : As
       let runs : (rest : List LockId) × (n.held d ≡ l ∷ rest) × LeavesShut b l cur.view × Runs b cur.whose rest cur.view (at.1 Passed) =
       subst (λ (w : WalkTree). Runs b cur.whose (n.held d) cur.view w) at.2 cur.runs in
       ap (λ (ls : List LockId). locks_behind (Free l) (length ls)) runs.1
-      ∙ ap (λ (ls : List LockId). length ls) (sym (without_first l runs.0))
+      ∙ ap (λ (ls : List LockId). length ls) (sym (without-head l runs.0))
       ∙ ap (λ (ls : List LockId). length (without l ls)) (sym runs.1)
 
   step_holds : (e : Entry) → May b callers asks n e → AllHoldOn (step b asks n e).held (step b asks n e).walk

@@ -1,7 +1,7 @@
 -- The entries of each caller, in order, are its transfers' walks one after the other. The inductions go over the steps
 -- of a walk, and over the entries.
 use Rattle.std.proofs.Common.{◌≡◌, ℕ, Bool, true, false, cond, List, [], ◌∷◌, ◌++◌, Option, Some, None, refl, sym, ◌∙◌, ap, subst, ◌⊎◌, inl, inr, append_assoc, append-nil}
-use Rattle.std.proofs.lemmas.Bool.{eq-eqb}
+use Rattle.std.proofs.lemmas.Bool.{eq-eqb, ne_eqb}
 use Rattle.std.proofs.lemmas.Bool.Decides.{eqb_tells}
 use Rattle.i2c_base.specs.declared.entry.Entry.{Entry}
 use Rattle.i2c_base.specs.declared.entry.Entry.TheVariants as entry
@@ -21,7 +21,6 @@ use Rattle.bus_spec.specs.ByTree.{Step, deed_next, step_next, replies_in, steps_
 use Rattle.flat_laws.specs.Led.{Leads, AreWalks, none, whole, front, AreAllWalks}
 use Rattle.bus_laws.specs.Reach.{AsksForMessages}
 use Rattle.bus_laws.specs.Settles.{NoSettle, Settles}
-use Rattle.bus_laws.proofs.tree.Slots.{eqb-apart}
 use Rattle.bus_laws.proofs.past.StandsStep.{at_same, at_other}
 use Rattle.bus_laws.proofs.past.StandsEntries.{first_is}
 use Rattle.bus_laws.proofs.walk.SettleLaw.{walk-settles}
@@ -294,7 +293,7 @@ module _ (b : BoardView) (asks : Asks) (callers : ℕ) (c : ℕ) where
     other_step e walk2 settled2 theirs walk settled =
         subst (λ (t : Bool). Walked b asks c
         (cond t (steps_in b asks c past ++ step_next n (current b asks n c) e ∷ []) (steps_in b asks c past)) (walk2 c) (settled2 c))
-        (sym (eqb-apart (caller_of e) c theirs))
+        (sym (ne_eqb (caller_of e) c theirs))
         (subst (λ (w : WalkTree). Walked b asks c (steps_in b asks c past) w (settled2 c)) (sym walk)
         (subst (λ (rs : List Reply). Walked b asks c (steps_in b asks c past) (n.walk c) rs) (sym settled) walked))
 

@@ -1,6 +1,5 @@
 -- A walk that has begun holds a lock until it ends. The induction goes over the looks in front of its next step.
 use Rattle.std.proofs.Common.{◌≡◌, ℕ, zero, suc, cond, List, [], ◌∷◌, Option, Some, None, refl, subst}
-use Rattle.i2c_base.specs.declared.ids.LockId.{LockId}
 use Rattle.i2c_base.specs.declared.ids.LockId.TheVariants as lock
 use Rattle.i2c_base.specs.declared.errno.Errno.{Errno}
 use Rattle.i2c_base.specs.Board.{BoardView}
@@ -13,6 +12,7 @@ use Rattle.bus_spec.specs.Slots.{Slots, answer_to}
 use Rattle.bus_spec.specs.Grammar.{locked, inner, walk_by, walk_for, plain, seen, is_over, first_act, rest_of}
 use Rattle.bus_spec.specs.Past.{begun}
 use Rattle.bus_laws.proofs.walk.Keeps.{GoesOver, GoesOverHop, DoerKeeps, locked-keeps, path-locks, inner-keeps}
+use Rattle.bus_laws.proofs.walk.Calls.{AnyLock}
 
 -- how many locks are held after a step
 abbrev pub locks_behind : Act → ℕ → ℕ
@@ -36,9 +36,6 @@ HeldBeside n w = HoldsOn (suc n) w
 
 abbrev AnyJob : Job → Note → Type 0
 AnyJob job note = Unit {0}
-
-abbrev AnyLock : LockId → Type 0
-AnyLock l = Unit {0}
 
 steps_on : GoesOver HeldBeside AnyJob AnyLock
 steps_on = record {

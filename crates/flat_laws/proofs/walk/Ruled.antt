@@ -1,7 +1,7 @@
 -- A journal that keeps the rules where they are told by the walk tree keeps them where they are told without it. The inductions go
 -- over the steps and the entries.
 use Rattle.std.proofs.Common.{◌≡◌, ℕ, Bool, cond, List, [], ◌∷◌, ◌++◌, map, reverse, Option, refl, sym, ◌∙◌, ap, subst, inl, inr}
-use Rattle.std.proofs.lemmas.Bool.{eq-eqb}
+use Rattle.std.proofs.lemmas.Bool.{eq-eqb, ne_eqb}
 use Rattle.std.proofs.lemmas.Bool.Decides.{eqb_tells}
 use Rattle.std.proofs.lemmas.List.{map-append, map_push}
 use Rattle.std.proofs.lemmas.Option.{same_Some}
@@ -16,14 +16,13 @@ use Rattle.i2c_spec.specs.History.{Asks}
 use Rattle.bus_spec.specs.Walk.{Act, Take, Free, Send, Shift, Settle, WalkTree, Ends, Look, Then}
 use Rattle.bus_spec.specs.Grammar.{first_act, first_note}
 use Rattle.bus_spec.specs.Readings.{OfMessage, caller_of}
-use Rattle.bus_spec.specs.Past.{Now, current, step, now, world_at, calls_of, sent_by, lined_by}
+use Rattle.bus_spec.specs.Past.{Now, current, step, now, calls_of, sent_by, lined_by}
 use Rattle.bus_spec.specs.Places.{transfer_at}
 use Rattle.bus_spec.specs.WalkRule.{Deed, PathStep, Saw, Did}
 use Rattle.bus_spec.specs.ByTree.{Step, deed_next, step_next, replies_in, TellsAct, AreTold, AreTransfers, no_more, one_more, under_way, steps_in}
 use Rattle.bus_spec.specs.Stand.{Stand, stand_behind, stand, message_done, line_done, calls_by}
 use Rattle.bus_spec.specs.Legal.{IsReached, is_forced, Reaches, IsLegal}
 use Rattle.bus_spec.specs.Ruled.{SaysAct, Doing, doings_in, replies_said, AreSaid, AreDone, nothing, transfer, begun, ReachesBy, IsRuled}
-use Rattle.bus_laws.proofs.tree.Slots.{eqb-apart}
 
 abbrev pub stand_of : Now → Stand
 stand_of n = record { slot = n.slot; worlds = n.worlds; calls = n.calls }
@@ -159,11 +158,11 @@ module _ (b : BoardView) (asks : Asks) (c : ℕ) where
       other : Alike past → (caller_of e ≡ c → ⊥) → Alike (e ∷ past)
       other same isnt =
           ap (λ (t : Bool). map doing_of (cond t (steps_in b asks c past ++ last c ∷ []) (steps_in b asks c past)))
-          (eqb-apart (caller_of e) c isnt)
+          (ne_eqb (caller_of e) c isnt)
           ∙ same
           ∙ sym (ap (λ (t : Bool). cond t (doings_in b c (deeds_of b asks past) past
           ++ said (deed_next (current b asks (now b asks past) (caller_of e))) ∷ []) (doings_in b c (deeds_of b asks past) past))
-          (eqb-apart (caller_of e) c isnt))
+          (ne_eqb (caller_of e) c isnt))
 
 -- EACH MESSAGE
 reaches-by : (b : BoardView) (asks : Asks) (past : List Entry) → Reaches b asks past → ReachesBy b asks (deeds_of b asks past) past
@@ -189,11 +188,6 @@ ruled b callers asks past legal =
       replies_kept = legal.replies_kept;
       settles = legal.settles;
     }
-
--- and the worlds and the calls of the ports are the same by what the entries do
-pub worlds-same : (b : BoardView) (asks : Asks) (past : List Entry) (r : ℕ)
-    → world_at b asks past r ≡ (stand b (deeds_of b asks past) past).worlds r
-worlds-same b asks past r = ap (λ (s : Stand). s.worlds r) (past-stands b asks past)
 
 pub calls-same : (b : BoardView) (asks : Asks) (past : List Entry) (r : ℕ)
     → calls_of b asks past r ≡ calls_by b (deeds_of b asks past) past r

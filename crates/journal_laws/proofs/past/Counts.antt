@@ -1,7 +1,7 @@
 -- The failed entries of a root are as many as the calls of its port that failed. The induction goes over the entries.
 use Rattle.std.proofs.Common.{◌≡◌, ℕ, ◌+◌, Bool, true, false, cond, ◌&&◌, eqb, List, [], ◌∷◌, ◌++◌, reverse, Option, refl, sym, ◌∙◌, ap, subst, inl, inr, arith}
 use Rattle.std.proofs.lemmas.List.{reverse-append}
-use Rattle.std.proofs.lemmas.Bool.{eq-eqb}
+use Rattle.std.proofs.lemmas.Bool.{eq-eqb, ne_eqb}
 use Rattle.std.proofs.lemmas.Bool.Decides.{eqb_tells}
 use Rattle.i2c_base.specs.declared.port.PortCall.{PortCall}
 use Rattle.i2c_base.specs.declared.port.PortCall.TheVariants as call
@@ -25,7 +25,6 @@ use Rattle.bus_spec.specs.Places.{is_cut}
 use Rattle.bus_spec.specs.Stepwise.{IsStepwise}
 use Rattle.bus_laws.specs.Lines.{LinesAreLocked}
 use Rattle.bus_laws.specs.Reach.{AsksForMessages}
-use Rattle.bus_laws.proofs.tree.Slots.{eqb-apart}
 use Rattle.bus_laws.proofs.world.TalkLaws.{IsMade, IsOwnEnd, talk-ends}
 use Rattle.bus_laws.proofs.past.Whole.{line_root}
 use Rattle.bus_spec.specs.Faults.{count_if, faults_in}
@@ -75,7 +74,7 @@ more_at calls s more r k failed own before =
           omega (arith, at, sum, own, there, told))
       | inr h ↦ (let at : faults_in (changed_at calls s (more ++ calls s) r) ≡ faults_in (calls r) = ap
           (λ (t : Bool). faults_in (cond t (more ++ calls s) (calls r))) h.0 in
-          let told : count_if (eqb s r && failed) ≡ 0 = ap (λ (t : Bool). count_if (t && failed)) (eqb-apart s r (λ f. h.1 (sym f))) in
+          let told : count_if (eqb s r && failed) ≡ 0 = ap (λ (t : Bool). count_if (t && failed)) (ne_eqb s r (λ f. h.1 (sym f))) in
           omega (arith, at, before, told))
     ]
 

@@ -2,7 +2,7 @@
 -- induction goes over the entries.
 use Rattle.std.proofs.Common.{◌≡◌, ℕ, zero, suc, nat_lt, Bool, true, false, not, ◌&&◌, ◌||◌, cond, eqb, List, [], ◌∷◌, Option, Some, None, refl, sym, ◌∙◌, ap, subst, ◌⊎◌, inl, inr}
 use Rattle.std.proofs.Math.Bool.{or-true}
-use Rattle.std.proofs.lemmas.Bool.{and_parts, eq-eqb, or_cases}
+use Rattle.std.proofs.lemmas.Bool.{and_parts, eq-eqb, or_cases, ne_eqb}
 use Rattle.std.proofs.lemmas.Bool.Decides.{eqb_tells}
 use Rattle.std.specs.List.{list_any}
 use Rattle.i2c_base.specs.declared.ids.LockId.{LockId}
@@ -37,7 +37,6 @@ use Rattle.bus_laws.specs.Lines.{LinesAreLocked}
 use Rattle.bus_laws.specs.Reach.{AsksForMessages}
 use Rattle.bus_laws.specs.Settles.{NoSettle, IsDecided, GoesOn, Settles}
 use Rattle.bus_laws.specs.Calls.{IsAsked}
-use Rattle.bus_laws.proofs.tree.Slots.{eqb-apart}
 use Rattle.bus_laws.proofs.past.StandsEntries.{first_is}
 use Rattle.bus_laws.proofs.past.Asked.{settles_seen, current-asked, past-asked}
 use Rattle.bus_laws.proofs.past.Placed.{starts_seen, no_settle, past-due, cut-told}
@@ -181,7 +180,7 @@ module _ (b : BoardView) (asks : Asks) where
       past c)) walk
       ∙ ap (λ (t : Bool). not (is_over ((now b asks past).walk c)) &&
       ((t && (is_failed e && is_on_way (first_note (current b asks (now b asks past) c)) e)) || failed_on_way b asks past c))
-      (eqb-apart (caller_of e) c other)
+      (ne_eqb (caller_of e) c other)
       ∙ by (is_over ((now b asks past).walk c)) refl
     where
       by : (t : Bool) → is_over ((now b asks past).walk c) ≡ t → (not t && failed_on_way b asks past c) ≡ failed_on_way b asks past c
@@ -416,12 +415,12 @@ module _ (b : BoardView) (tree : IsTree b) (plain : IsPlainBoard b) (lines : Lin
     other_walk c other =
         walk-left b asks (e ∷ past) c
         ∙ ap (λ (t : Bool). cond t (rest_of (current b asks (now b asks past) c) (outcome_of e)) (walk_left b asks past c))
-        (eqb-apart c d (λ f. other (sym f)))
+        (ne_eqb c d (λ f. other (sym f)))
         ∙ sym (walk-left b asks past c)
 
     other_cut : (c : ℕ) → (d ≡ c → ⊥) → (now b asks (e ∷ past)).cut c ≡ (now b asks past).cut c
     other_cut c other =
-        cut-told b asks (e ∷ past) c ∙ ap (λ (t : Bool). cond t (cut_told e) (last_cut past c)) (eqb-apart d c other)
+        cut-told b asks (e ∷ past) c ∙ ap (λ (t : Bool). cond t (cut_told e) (last_cut past c)) (ne_eqb d c other)
         ∙ sym (cut-told b asks past c)
 
     own_cut : (now b asks (e ∷ past)).cut d ≡ cut_told e

@@ -21,7 +21,6 @@ use Rattle.bus_laws.specs.Reach.{AsksForMessages}
 use Rattle.bus_laws.specs.Runs.{IsGranted}
 use Rattle.bus_laws.specs.Settles.{GoesOn, Settles}
 use Rattle.bus_laws.specs.Calls.{CallsOf, IsOnWay, IsAsked}
-use Rattle.bus_laws.proofs.tree.Slots.{eqb-apart}
 use Rattle.bus_laws.proofs.past.StandsStep.{at_same}
 use Rattle.bus_laws.proofs.past.StandsEntries.{first_is}
 use Rattle.bus_laws.proofs.past.Asked.{current-asked, past-asked, settled-told}
@@ -30,6 +29,7 @@ use Rattle.flat_laws.proofs.past.First.{due_settles}
 use Rattle.journal_laws.proofs.past.Layers.{other_replies}
 use Rattle.journal_laws.proofs.past.Places.{walk-left}
 use Rattle.bus_laws.proofs.device.Past.{settles_next}
+use Rattle.std.proofs.lemmas.Bool.{ne_eqb}
 
 -- what a settle that is due is of
 pub record IsDue (b : BoardView) (asks : Asks) (past : List Entry) (c : ℕ) : Type 0 where
@@ -181,7 +181,7 @@ module _ (b : BoardView) (asks : Asks) where
         verdict = h.verdict;
         next = ap first_act (walk-left b asks (e ∷ past) c
             ∙ ap (λ (t : Bool). cond t (rest_of (current b asks (now b asks past) c) (outcome_of e)) (walk_left b asks past c))
-            (eqb-apart c (caller_of e) (λ f. other (sym f)))
+            (ne_eqb c (caller_of e) (λ f. other (sym f)))
             ∙ sym (walk-left b asks past c)) ∙ h.next;
         transfer = h.transfer;
         asked = ap (λ (rs : List Reply). asks c rs) (other_replies b asks past c e other) ∙ h.asked;

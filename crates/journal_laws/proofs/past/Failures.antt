@@ -8,14 +8,10 @@ use Rattle.std.proofs.lemmas.List.{reverse-append, length-reverse}
 use Rattle.i2c_base.specs.declared.port.PortCall.{PortCall}
 use Rattle.i2c_base.specs.declared.port.PortCall.TheVariants as call
 use Rattle.journal_laws.proofs.past.CutTalks.{Went}
+use Rattle.i2c_base.proofs.ListLemmas.{get_front}
 
 abbrev pub number_of : List PortCall → ℕ → Option PortCall
 number_of calls n = slice_get (reverse calls) n
-
-get_front : {X : Type 0} (xs ys : List X) (n : ℕ) → n < length xs → slice_get (xs ++ ys) n ≡ slice_get xs n
-get_front [] ys n low = absurd (omega (arith, low))
-get_front (x ∷ xs) ys zero low = refl
-get_front (x ∷ xs) ys (suc n) low = get_front xs ys n (omega (arith, low))
 
 get_behind : {X : Type 0} (xs ys : List X) (x : X) (n : ℕ) → n ≡ length xs → slice_get (xs ++ x ∷ ys) n ≡ Some x
 get_behind [] ys x zero e = refl

@@ -44,7 +44,7 @@ hears_own w addr reading heard end.Refused own h = h
 hears_own w addr reading heard end.Proto own h = h
 hears_own w addr reading heard (end.Cut q) own h = absurd own
 
-own_cut : (e : End) → IsOwnEnd e → cut_of e ≡ None
+pub own_cut : (e : End) → IsOwnEnd e → cut_of e ≡ None
 own_cut end.Ok own = refl
 own_cut end.Nack own = refl
 own_cut end.Slow own = refl

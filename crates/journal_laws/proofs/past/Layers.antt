@@ -1,7 +1,7 @@
 -- A legal past is stepwise: each rule over the whole of it tells of each entry what it takes to come where it does. The
 -- inductions go over the steps of a caller, and over the entries.
 use Rattle.std.proofs.Common.{◌≡◌, ℕ, Bool, false, cond, List, [], ◌∷◌, ◌++◌, Option, refl, sym, ◌∙◌, ap, subst, inl, inr, append_assoc, append-nil}
-use Rattle.std.proofs.lemmas.Bool.{eq-eqb}
+use Rattle.std.proofs.lemmas.Bool.{eq-eqb, ne_eqb}
 use Rattle.std.proofs.lemmas.Bool.Decides.{eqb_tells}
 use Rattle.i2c_base.specs.declared.entry.Entry.{Entry}
 use Rattle.i2c_base.specs.declared.entry.Entry.TheVariants as entry
@@ -18,7 +18,6 @@ use Rattle.bus_spec.specs.Stepwise.{TellsNext}
 use Rattle.bus_spec.specs.Places.{outcome_of, walk_left}
 use Rattle.bus_spec.specs.ByTree.{Step, deed_next, step_next, replies_in, steps_in}
 use Rattle.flat_laws.specs.Led.{Leads, AreWalks, none, whole, front, AreAllWalks}
-use Rattle.bus_laws.proofs.tree.Slots.{eqb-apart}
 use Rattle.bus_laws.proofs.past.Asked.{settled-told}
 use Rattle.flat_laws.proofs.past.Walks.{reply_at, replies_first, replies_more}
 use Rattle.journal_laws.proofs.past.Follow.{at_hand, Follow, under-way, begins, walks-follow}
@@ -123,7 +122,7 @@ module _ (b : BoardView) (asks : Asks) where
   other_steps : (past : List Entry) (c : ℕ) (e : Entry) → (caller_of e ≡ c → ⊥) → steps_in b asks c (e ∷ past) ≡ steps_in b asks c past
   other_steps past c e other =
       ap (λ (t : Bool). cond t (steps_in b asks c past ++ as_next past c e ∷ []) (steps_in b asks c past))
-      (eqb-apart (caller_of e) c other)
+      (ne_eqb (caller_of e) c other)
 
   -- the replies of a caller, after an entry of its own and one of another's
   pub own_replies : (past : List Entry) (c : ℕ) (e : Entry) → caller_of e ≡ c → replies (e ∷ past) c ≡ replies past c ++ reply_at e
@@ -139,7 +138,7 @@ module _ (b : BoardView) (asks : Asks) where
   other_replies past c (entry.Message d bus purpose part parts addr reading bytes heard e) other = refl
   other_replies past c (entry.Line d mux level failed) other = refl
   other_replies past c (entry.Settle d r cut) other = ap (λ (t : Bool). cond t (replies past c ++ r ∷ []) (replies past c))
-      (eqb-apart d c other)
+      (ne_eqb d c other)
 
   -- a caller's replies are those of its steps
   replies_steps : (past : List Entry) (c : ℕ) → replies_in (steps_in b asks c past) ≡ replies past c

@@ -1,6 +1,6 @@
 -- One call that fails makes at most one reply EREMOTEIO. The induction goes over the entries.
 use Rattle.std.proofs.Common.{◌≡◌, ◌≢◌, ℕ, zero, suc, ◌+◌, ◌≤◌, ◌<◌, ◌&&◌, eqb, length, Bool, true, false, cond, List, [], ◌∷◌, Some, None, refl, sym, ◌∙◌, ap, subst, ◌⊎◌, inl, inr, arith}
-use Rattle.std.proofs.lemmas.Bool.{eq-eqb}
+use Rattle.std.proofs.lemmas.Bool.{eq-eqb, ne_eqb}
 use Rattle.std.proofs.lemmas.Bool.Decides.{eqb_tells}
 use Rattle.std.proofs.lemmas.List.Sums.{sum_by-cons}
 use Rattle.std.specs.List.{sum_by, range_with_len}
@@ -24,7 +24,6 @@ use Rattle.bus_spec.specs.Places.{is_cut}
 use Rattle.bus_spec.specs.Stepwise.{IsNext, IsStepwise}
 use Rattle.bus_laws.specs.Lines.{LinesAreLocked}
 use Rattle.bus_laws.specs.Reach.{AsksForMessages}
-use Rattle.bus_laws.proofs.tree.Slots.{eqb-apart}
 use Rattle.bus_laws.proofs.past.Marks.{home_there}
 use Rattle.bus_laws.proofs.past.Next.{call-reaches}
 use Rattle.bus_laws.proofs.past.Placed.{cut-told}
@@ -143,7 +142,7 @@ sum_off k t from zero off = refl
 sum_off k t from (suc n) off =
     let h : sum_by (λ r. count_if (eqb k r && t)) (range_with_len (from + 1) n) ≡ 0 = sum_off k t (from + 1) n (omega (arith, off)) in
     let here : count_if (eqb k from && t) ≡ 0 = ap (λ (x : Bool). count_if (x && t))
-    (eqb-apart k from (λ e. absurd (omega (arith, off, e)))) in
+    (ne_eqb k from (λ e. absurd (omega (arith, off, e)))) in
     omega (arith, h, here, sum_by-cons (λ r. count_if (eqb k r && t)) from (range_with_len (from + 1) n))
 
 sum_one : (k : ℕ) (t : Bool) (from n : ℕ) → from ≤ k → k < from + n

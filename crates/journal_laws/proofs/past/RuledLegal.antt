@@ -1,7 +1,7 @@
 -- A journal that keeps the rules where they are told without a walk tree keeps them where they are told by it: what each entry is
 -- said to do is the next step of its caller's walk. The inductions go over the steps and the entries.
 use Rattle.std.proofs.Common.{◌≡◌, ℕ, Bool, true, false, cond, List, [], ◌∷◌, ◌++◌, map, reverse, Option, Some, refl, sym, ◌∙◌, ap, subst, inl, inr, append_assoc, append-nil}
-use Rattle.std.proofs.lemmas.Bool.{eq-eqb}
+use Rattle.std.proofs.lemmas.Bool.{eq-eqb, ne_eqb}
 use Rattle.std.proofs.lemmas.Bool.Decides.{eqb_tells}
 use Rattle.std.proofs.lemmas.List.{map_push}
 use Rattle.i2c_base.specs.declared.entry.Entry.{Entry}
@@ -26,7 +26,6 @@ use Rattle.flat_laws.specs.Paths.{IsPath}
 use Rattle.flat_laws.proofs.past.Walks.{reply_at}
 use Rattle.flat_laws.proofs.walk.Rule.{walk-path, front-path}
 use Rattle.flat_laws.proofs.walk.Ruled.{stand_of, doing_of, step-stands, replies-said}
-use Rattle.bus_laws.proofs.tree.Slots.{eqb-apart}
 use Rattle.journal_laws.proofs.past.Follow.{at_hand, begins}
 use Rattle.journal_laws.proofs.past.Layers.{walk_behind, hand_behind, replies_shift, hand, walk_steps}
 
@@ -154,7 +153,7 @@ module _ (b : BoardView) (asks : Asks) where
 
     other_said : (c : ℕ) → (caller_of e ≡ c → ⊥) → doings_in b c (d ∷ deeds) (e ∷ past) ≡ doings_in b c deeds past
     other_said c isnt = ap (λ (t : Bool). cond t (doings_in b c deeds past ++ said ∷ []) (doings_in b c deeds past))
-        (eqb-apart (caller_of e) c isnt)
+        (ne_eqb (caller_of e) c isnt)
 
     fronts : AllGo (d ∷ deeds) (e ∷ past) → AllGo deeds past
     fronts go c = elim (eqb_tells (caller_of e) c) [
@@ -198,7 +197,7 @@ module _ (b : BoardView) (asks : Asks) where
                   ∙ ap (map doing_of) (sym (own_steps_is c h.1))
               | inr h ↦ other_said c h.1 ∙ same.doings c
                   ∙ ap (map doing_of) (sym (ap (λ (t : Bool). cond t (steps_in b asks c past ++ last c ∷ []) (steps_in b asks c past))
-                  (eqb-apart (caller_of e) c h.1)))
+                  (ne_eqb (caller_of e) c h.1)))
             ];
           }
 

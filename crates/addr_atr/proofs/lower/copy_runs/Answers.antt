@@ -1,11 +1,8 @@
-use Rattle.std.proofs.Common.{◌≡◌, ◌∙◌, List, [], ◌∷◌, refl, ap, map, arith}
+use Rattle.std.proofs.Common.{◌∙◌, arith}
 use Rattle.std.proofs.lemmas.List.{take_all}
 use Rattle.i2c_base.proofs.ListLemmas.{one-made}
 use Rattle.addr_atr.proofs.lower.copy_runs.Goals as goal
-
-map_same : {X : Type 0} (xs : List X) → map (λ x. x) xs ≡ xs
-map_same [] = refl
-map_same (x ∷ xs) = ap (λ ys. x ∷ ys) (map_same xs)
+use mathlib.Core.List.{map-id}
 
 pub push_reserved-requires : goal.push_reserved-requires
 push_reserved-requires c = omega (arith, c.loop-run.invariant.count, c.loop-run.invariant.room, c.loop-run-test.true)
@@ -18,4 +15,4 @@ loop-run-preserved c =
 pub returns : goal.returns
 returns c =
     let runs = c.args.runs.now in
-    c.loop-run.invariant.made ∙ map_same _ ∙ take_all c.loop-run.run-index runs (omega (arith, c.loop-run-test.false))
+    c.loop-run.invariant.made ∙ map-id _ ∙ take_all c.loop-run.run-index runs (omega (arith, c.loop-run-test.false))

@@ -8,8 +8,9 @@ use Rattle.bus_laws.specs.Following.{GoesOnBy}
 use Rattle.bus_core.specs.Kept.{asks_in, HasCome}
 use Rattle.bus_core.specs.Ready.{HasPlace}
 use Rattle.bus_core.specs.Runs.{KeepsSchedule}
-use Rattle.bus_core.proofs.Loops.{come-refl, come-then, stepped-or-waited, drop-next, drop-all}
+use Rattle.bus_core.proofs.Loops.{come-refl, come-then, stepped-or-waited, drop-next}
 use Rattle.bus_core.proofs.running.follow.Goals as goal
+use Rattle.i2c_base.proofs.ListLemmas.{drop_all}
 
 pub loop-place-init : goal.loop-place-init
 loop-place-init g c =
@@ -62,7 +63,7 @@ returns g c =
       come = come-then g.P.Port g.C.Caller c.args.parts.now x c.finish.new.parts was.come c.finish.ensures.come;
       through = c.finish.ensures.through;
       follows = λ tell.
-          let left : drop c.loop-place.place c.args.words.now ≡ [] = drop-all c.args.words.now c.loop-place.place
+          let left : drop c.loop-place.place c.args.words.now ≡ [] = drop_all c.args.words.now c.loop-place.place
           (omega (arith, was.end_is, c.loop-place-test.false)) in
           let first = c.args.parts.now in
           let past : List Entry = reverse first.journal.entries in

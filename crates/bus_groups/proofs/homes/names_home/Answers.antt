@@ -1,8 +1,9 @@
 use Rattle.std.proofs.Common.{◌≡◌, ℕ, Bool, false, sym, ◌∙◌, ap, ap₂, length, get_or, ◌==◌, ◌&&◌, eq-eqb}
 use Rattle.bus_groups.specs.Homes.{names}
-use Rattle.bus_groups.proofs.HomeLemmas.{some-range, none-range, not-same}
+use Rattle.bus_groups.proofs.HomeLemmas.{some-range, none-range}
 use Rattle.bus_groups.proofs.homes.names_home.Goals as goal
 use Rattle.bus_groups.proofs.homes.names_home.Goals.{else-names-via-then-names+else-homes-root, else-names-via-else-names}
+use Rattle.std.proofs.lemmas.Bool.{ne_eqb}
 
 pub returns-then-homes-root : goal.returns-then-homes-root
 returns-then-homes-root c =
@@ -20,7 +21,7 @@ loop-root-preserved c =
     let isnt : p r ≡ false =
     elim c.else-names.branch [
       | else-names-via-then-names+else-homes-root w ↦ ap₂ (λ (x y : Bool). x && y) (sym c.names.ensures ∙ w.if-names.true)
-          (not-same (get_or homes r 0) c.args.home w.if-homes-root.false)
+          (ne_eqb (get_or homes r 0) c.args.home w.if-homes-root.false)
       | else-names-via-else-names w ↦ ap (λ (x : Bool). x && (get_or homes r 0 == c.args.home)) (sym c.names.ensures ∙ w.if-names.false)
     ] in
     none-range p r c.loop-root.invariant isnt

@@ -1,10 +1,11 @@
 use Rattle.std.proofs.Common.{◌+◌, ◌≡◌, ◌<◌, [], ◌∷◌, ◌++◌, List, length, map, set, get_or, take, drop, vec_len, vec_capacity, sym, ◌∙◌, ap, subst, arith, eqb-true}
 use Rattle.std.proofs.lemmas.List.{length-append, append_assoc, length-set, get_or-map}
 use Rattle.bus_groups.specs.Shares.{joined_by}
-use Rattle.bus_groups.proofs.ShareLemmas.{next-joined, first-of, map-set-at, some-left, nil-by-length}
+use Rattle.bus_groups.proofs.ShareLemmas.{next-joined, first-of, map-set-at, some-left}
 use Rattle.bus_groups.proofs.shares.rejoined.Goals as goal
 use Rattle.bus_groups.proofs.shares.rejoined.Goals.{then-not-is_empty, else-not-is_empty}
 use Rattle.std.proofs.lemmas.List.Elements.{All-get_or}
+use Rattle.i2c_base.proofs.ListLemmas.{nil_by_length}
 
 pub loop-home-preserved : goal.loop-home-preserved
 loop-home-preserved g c =
@@ -50,7 +51,7 @@ loop-home-preserved g c =
             room = omega (arith, wide, room);
           }
       | else-not-is_empty w ↦
-          let none : v.items ≡ [] = nil-by-length v.items (let k = eqb-true (vec_len v) 0 (sym c.is_empty.ensures ∙ w.if-not-is_empty.false) in omega
+          let none : v.items ≡ [] = nil_by_length v.items (let k = eqb-true (vec_len v) 0 (sym c.is_empty.ensures ∙ w.if-not-is_empty.false) in omega
           (arith, k, len)) in
           let set_parts = ap (λ p. p.items) w.parts-is in
           let same = ap (λ a. length a.items) w.all-is in

@@ -7,9 +7,10 @@ use Rattle.i2c_spec.specs.Plain.{IsPlainBoard}
 use Rattle.bus_groups.specs.Homes.{homes_of, caller_home}
 use Rattle.bus_groups.specs.Shares.{of_home, cost_of_home, parts_by}
 use Rattle.bus_groups.proofs.HomeLemmas.{are-homes, callers-below}
-use Rattle.bus_groups.proofs.RoundLemmas.{shares-may, homes-below, map-map, zip-map}
+use Rattle.bus_groups.proofs.RoundLemmas.{shares-may, homes-below, zip-map}
 use Rattle.bus_groups.specs.Rounds.{IsOpenedWith}
 use Rattle.bus_groups.proofs.together.begin.Goals as goal
+use Rattle.i2c_base.proofs.ListLemmas.{map_map}
 
 pub parted-requires-clause-count : goal.parted-requires-clause-count
 parted-requires-clause-count g c =
@@ -85,9 +86,9 @@ opened-requires-after_bounds g c κs within =
     sym (length-map c.in_ok-ports.ports.items (λ part. part.items)) ∙ ap length c.in_ok-ports.ensures
     ∙ length-map-range_with_len (λ h. of_home c.as_slice.result.now h c.args.ports.items) 0 N in
     shares-may g.P.Port g.C.Caller c.args.board.now masks c.args.costs.now c.args.ports.items c.args.callers.items N c.requires same_many c.in_ok-shares.shares.items
-    (sym (map-map (λ part. part.items) (λ s. s.ports) c.in_ok-shares.shares.items) ∙ ap (map (λ part. part.items)) c.in_ok-shares.ensures.ports
+    (sym (map_map (λ part. part.items) (λ s. s.ports) c.in_ok-shares.shares.items) ∙ ap (map (λ part. part.items)) c.in_ok-shares.ensures.ports
     ∙ c.in_ok-ports.ensures ∙ ap (λ (hs : List ℕ). parts_by hs N c.args.ports.items) rh)
-    (sym (map-map (λ part. part.items) (λ s. s.callers) c.in_ok-shares.shares.items) ∙ ap (map (λ part. part.items)) c.in_ok-shares.ensures.callers
+    (sym (map_map (λ part. part.items) (λ s. s.callers) c.in_ok-shares.shares.items) ∙ ap (map (λ part. part.items)) c.in_ok-shares.ensures.callers
     ∙ c.in_ok-callers.ensures ∙ ap (λ (hs : List ℕ). parts_by hs N c.args.callers.items) ch)
     (c.in_ok-shares.ensures.limits ∙ ap (map (λ h. cost_of_home c.as_slice-3.result.now h c.args.costs.now)) (ap (range_with_len 0) parts_count)
     ∙ ap (λ (hs : List ℕ). map (λ h. cost_of_home hs h c.args.costs.now) (range_with_len 0 N)) ch3)
@@ -101,11 +102,11 @@ returns-clause-begun g c =
     ∙ ap (λ (x : BoardView). length x.roots) c.board.ensures.value in
     record {
       shares = c.in_ok-shares.shares.items;
-      ports_of = sym (map-map (λ part. part.items) (λ s. s.ports) c.in_ok-shares.shares.items)
+      ports_of = sym (map_map (λ part. part.items) (λ s. s.ports) c.in_ok-shares.shares.items)
           ∙ ap (map (λ part. part.items)) c.in_ok-shares.ensures.ports ∙ c.in_ok-ports.ensures
           ∙ ap (λ (hs : List ℕ). parts_by hs N c.args.ports.items) c.as_slice.ensures.value
           ∙ ap (λ n. parts_by c.groups-homes.result.roots.items n c.args.ports.items) same_many;
-      callers_of = sym (map-map (λ part. part.items) (λ s. s.callers) c.in_ok-shares.shares.items)
+      callers_of = sym (map_map (λ part. part.items) (λ s. s.callers) c.in_ok-shares.shares.items)
           ∙ ap (map (λ part. part.items)) c.in_ok-shares.ensures.callers ∙ c.in_ok-callers.ensures
           ∙ ap (λ (hs : List ℕ). parts_by hs N c.args.callers.items) c.as_slice-2.ensures.value
           ∙ ap (λ n. parts_by c.groups-homes.result.callers.items n c.args.callers.items) same_many;

@@ -3,8 +3,9 @@ use Rattle.std.proofs.lemmas.List.{length-map}
 use Rattle.bus_groups.specs.Shares.{joined_by}
 use Rattle.bus_groups.specs.Rounds.{AreLeftOf}
 use Rattle.bus_groups.proofs.ShareLemmas.{zip-length}
-use Rattle.bus_groups.proofs.RoundLemmas.{map-map, zip-map-left, flat-map-map}
+use Rattle.bus_groups.proofs.RoundLemmas.{zip-map-left, flat-map-map}
 use Rattle.bus_groups.proofs.together.ended.Goals as goal
+use Rattle.i2c_base.proofs.ListLemmas.{map_map}
 
 pub apart-lists-requires-clause-room : goal.apart-lists-requires-clause-room
 apart-lists-requires-clause-room g c =
@@ -40,10 +41,10 @@ returns g c =
       ports = c.rejoined.ensures ∙ ap (λ (hs : List ℕ). joined_by hs
           (map (λ part. part.items) c.apart-lists.result.ports.items)) c.as_slice.ensures.value
           ∙ ap (λ zs. joined_by c.args.homes.now.roots.items (map (λ part. part.items) zs)) c.apart-lists.ensures.ports
-          ∙ ap (joined_by c.args.homes.now.roots.items) (map-map (λ part. part.items) (λ x. x.ports) parts);
+          ∙ ap (joined_by c.args.homes.now.roots.items) (map_map (λ part. part.items) (λ x. x.ports) parts);
       seats = c.rejoined-2.ensures ∙ ap (λ (hs : List ℕ). joined_by hs
           (map (λ part. part.items) c.apart-lists.result.seats.items)) c.as_slice-2.ensures.value
           ∙ ap (λ zs. joined_by c.args.homes.now.callers.items (map (λ part. part.items) zs)) c.apart-lists.ensures.seats
-          ∙ ap (joined_by c.args.homes.now.callers.items) (map-map (λ part. part.items) (λ x. x.seats) parts);
+          ∙ ap (joined_by c.args.homes.now.callers.items) (map_map (λ part. part.items) (λ x. x.seats) parts);
       entries = ap (flat_map (λ j. j.entries)) c.apart-lists.ensures.journals ∙ flat-map-map (λ j. j.entries) (λ x. x.journal) parts;
     }

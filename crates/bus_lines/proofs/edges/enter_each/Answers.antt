@@ -2,8 +2,9 @@ use Rattle.std.proofs.Common.{length-set, get_or, sym, ap, ◌∙◌, arith}
 use Rattle.wire_spec.specs.Roots.{where_joined}
 use Rattle.bus_lines.specs.declared.edges.Edge.TheVariants.{Enter}
 use Rattle.bus_lines.specs.Edges.{seen, acks_enter}
-use Rattle.bus_lines.proofs.NumberedLemmas.{told, told_was, told_each, told_was_each, told_next, was_next, among_at, drop_all}
+use Rattle.bus_lines.proofs.NumberedLemmas.{told, told_was, told_each, told_was_each, told_next, was_next, among_at}
 use Rattle.bus_lines.proofs.edges.enter_each.Goals as goal
+use Rattle.i2c_base.proofs.ListLemmas.{drop_all}
 
 pub prove-unreachable-requires : goal.prove-unreachable-requires
 prove-unreachable-requires c =

@@ -3,8 +3,9 @@ use Rattle.wire_spec.specs.Roots.{where_joined}
 use Rattle.bus_lines.specs.declared.edges.Edge.TheVariants.{Get}
 use Rattle.bus_lines.specs.Edges.{seen, gives_get}
 use Rattle.bus_lines.proofs.AndLemmas.{told_and, told_and_each, and_next}
-use Rattle.bus_lines.proofs.NumberedLemmas.{told, told_each, told_next, among_at, drop_all}
+use Rattle.bus_lines.proofs.NumberedLemmas.{told, told_each, told_next, among_at}
 use Rattle.bus_lines.proofs.edges.get_each.Goals as goal
+use Rattle.i2c_base.proofs.ListLemmas.{drop_all}
 
 pub prove-unreachable-requires : goal.prove-unreachable-requires
 prove-unreachable-requires c =

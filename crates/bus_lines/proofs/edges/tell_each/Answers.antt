@@ -3,8 +3,9 @@ use Rattle.wire_spec.specs.Roots.{where_joined}
 use Rattle.wire_spec.specs.Bus.{holds_line}
 use Rattle.bus_lines.specs.Edges.{seen}
 use Rattle.bus_lines.specs.Units.{some_by, of_those}
-use Rattle.bus_lines.proofs.NumberedLemmas.{told, told_some, told_each, told_some_each, told_next, some_next, among_at, drop_all}
+use Rattle.bus_lines.proofs.NumberedLemmas.{told, told_some, told_each, told_some_each, told_next, some_next, among_at}
 use Rattle.bus_lines.proofs.edges.tell_each.Goals as goal
+use Rattle.i2c_base.proofs.ListLemmas.{drop_all}
 
 pub prove-unreachable-requires : goal.prove-unreachable-requires
 prove-unreachable-requires c =

@@ -1,12 +1,13 @@
-use Rattle.std.proofs.Common.{length-set, get_or, sym, ap, ◌∙◌, arith, ◌&&◌, ◌||◌, ◌==◌, ℕ, List, take, refl}
+use Rattle.std.proofs.Common.{length-set, get_or, sym, ap, ◌∙◌, arith, ◌&&◌, refl}
 use Rattle.bus_lines.specs.Joins.{joins_by, states_on}
 use Rattle.bus_lines.specs.Known.{known}
 use Rattle.bus_lines.specs.Numbers.{is_among}
 use Rattle.bus_lines.proofs.JoinLemmas.{states_set}
 use Rattle.bus_lines.proofs.KnownLemmas.{read_those, each_read, read_next}
 use Rattle.bus_lines.proofs.ListedLemmas.{listed_next, listed_known, take_whole}
-use Rattle.bus_lines.proofs.NumberedLemmas.{among_at, drop_all}
+use Rattle.bus_lines.proofs.NumberedLemmas.{among_at}
 use Rattle.bus_lines.proofs.joining.list_those.Goals as goal
+use Rattle.i2c_base.proofs.ListLemmas.{drop_all}
 
 pub prove-unreachable-requires : goal.prove-unreachable-requires
 prove-unreachable-requires c =

@@ -4,8 +4,8 @@ use Rattle.std.specs.List.{enumerate_from}
 use Rattle.i2c_base.specs.Board.{BoardView}
 use Rattle.i2c_spec.specs.Plain.{IsPlainBoard}
 use Rattle.i2c_top.specs.Cores.{IsCoreOf, MayRun}
-use Rattle.i2c_top.proofs.CoreLemmas.{firsts}
 use Rattle.i2c_top.proofs.callers.opened_counting.Goals as goal
+use Rattle.journal_check.proofs.PortLemmas.{firsts}
 
 pub by_root-requires-clause-few : goal.by_root-requires-clause-few
 by_root-requires-clause-few g c κs within =

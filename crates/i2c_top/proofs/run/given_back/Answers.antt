@@ -3,8 +3,9 @@ use Rattle.std.proofs.lemmas.List.{length-map}
 use Rattle.i2c_base.specs.declared.port.PortCall.{PortCall}
 use Rattle.i2c_spec.specs.World.{World, AreWorldsOf, devices_of}
 use Rattle.i2c_top.specs.Faults.{AreCounted}
-use Rattle.i2c_top.proofs.CoreLemmas.{ports-counted, twice}
+use Rattle.i2c_top.proofs.CoreLemmas.{ports-counted}
 use Rattle.i2c_top.proofs.run.given_back.Goals as goal
+use Rattle.i2c_base.proofs.ListLemmas.{map_map}
 
 pub returns-clause-given : goal.returns-clause-given
 returns-clause-given g c =
@@ -14,8 +15,8 @@ returns-clause-given g c =
     let logs : List (List PortCall) = map (λ p. row.log p.1) c.args.ports.items in
     let alone = c.alone.ensures.ports in
     let given : map row.world c.alone.result.items ≡ map (λ p. row.world p.1) c.args.ports.items =
-    ap (map row.world) alone ∙ twice row.world (λ p. p.1) c.args.ports.items in
-    let logged : map row.log c.alone.result.items ≡ logs = ap (map row.log) alone ∙ twice row.log (λ p. p.1) c.args.ports.items in
+    ap (map row.world) alone ∙ map_map row.world (λ p. p.1) c.args.ports.items in
+    let logged : map row.log c.alone.result.items ≡ logs = ap (map row.log) alone ∙ map_map row.log (λ p. p.1) c.args.ports.items in
     let states = g.R.Rig.states c.unplug.new.self in
     let kept = g.R.Rig.logs c.unplug.new.self in
     record {

@@ -10,9 +10,9 @@ use Rattle.bus_groups.specs.Rounds.{one_of}
 use Rattle.bus_groups.specs.declared.together.Ran.{Ran}
 use Rattle.i2c_top.specs.Callers.{asks_in, callers_in, printed_in, HasRunBy}
 use Rattle.i2c_top.specs.Cores.{HaveJournal, IsLeftOf}
-use Rattle.i2c_top.proofs.CoreLemmas.{twice}
 use Rattle.i2c_top.proofs.RunLemmas.{report-over, run-over}
 use Rattle.i2c_top.proofs.run.report_of_run.Goals as goal
+use Rattle.i2c_base.proofs.ListLemmas.{map_map}
 
 pub returns-clause-run : goal.returns-clause-run
 returns-clause-run g c =
@@ -32,7 +32,7 @@ returns-clause-run g c =
     c.in_ok-report_of_callers.ensures
     ∙ ap (λ ss. report_lines (map (λ s. printed (row.script s.caller) (row.taken s.caller)) ss) journal) c.as_slice-2.ensures.value
     ∙ ap (λ (xs : List (List ℕ)). report_lines xs journal)
-    (sym (twice (λ s. printed (row.script s) (row.taken s)) (λ s. s.caller) parts.seats.items)) in
+    (sym (map_map (λ s. printed (row.script s) (row.taken s)) (λ s. s.caller) parts.seats.items)) in
     let rig = c.given_back.new.rig in
     subst (λ ss. HasRunBy b (length ss) (asks_in row.asked ss) (printed_in printed ss) (HaveJournal c.args.ran) bytes
     (g.R.Rig.logs rig) (g.R.Rig.states rig) (g.R.Rig.port_faults rig)) left.scripts

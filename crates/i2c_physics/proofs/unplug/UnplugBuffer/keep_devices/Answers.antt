@@ -1,14 +1,14 @@
-use Rattle.std.proofs.Common.{◌≡◌, length, map, ◌∙◌, ap, arith, sym}
-use Rattle.std.proofs.lemmas.List.{length-map}
+use Rattle.std.proofs.Common.{map, arith}
 use Rattle.i2c_spec.specs.World.{AreWorldsOf}
-use Rattle.i2c_physics.proofs.RigLemmas.{count_of_worlds, empty-from_length, devices-kept}
+use Rattle.i2c_physics.proofs.RigLemmas.{devices-kept}
 use Rattle.i2c_physics.proofs.unplug.UnplugBuffer.keep_devices.Goals as goal
+use Rattle.i2c_base.proofs.ListLemmas.{nil_by_length}
 
 pub returns : goal.returns
 returns g c = record {
   states = λ of.
       let room = c.self.invariant in
-      let none = empty-from_length c.self.inside.states.items (omega arith) in
+      let none = nil_by_length c.self.inside.states.items (omega arith) in
       let of_board : AreWorldsOf c.self.inside.board.value (map (λ p. (g.P.Returned.port p).world) c.args.ports.items) =
       rw c.self.view_is of in
       let kept = devices-kept _ _ _ _ _ room.plain room.homes_are none of_board c.keep_states.ensures.kept

@@ -5,7 +5,6 @@ use Rattle.mux_plan.specs.declared.task.Task.TheVariants.{Pass}
 use Rattle.mux_plan.specs.Plans.{SeenView, tree_of, slots_of}
 use Rattle.mux_plan.specs.Rooms.{IsReady, IsStep}
 use Rattle.mux_plan.proofs.Openings.{seen-step, ready-step}
-use Rattle.mux_plan.proofs.Rooms.{top-planned}
 use Rattle.mux_plan.proofs.parts.WalkState.look.Goals as goal
 
 pub returns-in_default-task : goal.returns-in_default-task

@@ -1,9 +1,8 @@
-use Rattle.std.proofs.Common.{true, false, List, ◌∷◌, ◌+◌, sym, ◌∙◌, ap}
-use Rattle.bus_spec.specs.Grammar.{keeps, seen}
+use Rattle.std.proofs.Common.{false, List, ◌∷◌, ◌+◌, sym, ◌∙◌, ap}
+use Rattle.bus_spec.specs.Grammar.{seen}
 use Rattle.mux_plan.specs.declared.task.Task.{Task}
-use Rattle.mux_plan.specs.Plans.{RouteView, hop_at, tree_of, kept_of, slots_of, part_task}
+use Rattle.mux_plan.specs.Plans.{RouteView, hop_at, tree_of, slots_of, part_task}
 use Rattle.mux_plan.proofs.Openings.{passes-by, seen-step}
-use Rattle.mux_plan.proofs.Rooms.{planned-pass}
 use Rattle.mux_plan.proofs.parts.WalkState.pass.Goals as goal
 
 pub returns-else-is_parent-clause-tree : goal.returns-else-is_parent-clause-tree

@@ -1,7 +1,7 @@
 use Rattle.std.proofs.Common.{◌∙◌}
-use Rattle.mux_plan.specs.declared.task.Task.TheVariants.{AwaitClose, AwaitSelect, AwaitWork, AwaitDeselect}
+use Rattle.mux_plan.specs.declared.task.Task.TheVariants.{AwaitClose}
 use Rattle.mux_plan.specs.Plans.{came_of}
-use Rattle.mux_plan.proofs.Rooms.{top-planned, top-tree}
+use Rattle.mux_plan.proofs.Rooms.{top-tree}
 use Rattle.mux_plan.proofs.parts.WalkState.wake.Goals as goal
 
 pub returns-in-AwaitClose-clause-tree : goal.returns-in-AwaitClose-clause-tree

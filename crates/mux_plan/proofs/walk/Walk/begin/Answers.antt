@@ -1,9 +1,8 @@
-use Rattle.std.proofs.Common.{List, [], ◌∷◌, sym, ◌∙◌, ap, subst}
+use Rattle.std.proofs.Common.{List, sym, ◌∙◌, ap, subst}
 use Rattle.bus_spec.specs.Grammar.{seen}
 use Rattle.mux_plan.specs.declared.task.Task.{Task}
-use Rattle.mux_plan.specs.declared.task.Task.TheVariants.{Lock}
 use Rattle.mux_plan.specs.declared.task.Work.TheVariants as work
-use Rattle.mux_plan.specs.Plans.{RouteView, came_of, tree_of}
+use Rattle.mux_plan.specs.Plans.{came_of, tree_of}
 use Rattle.mux_plan.specs.Rooms.{IsStep}
 use Rattle.mux_plan.proofs.Openings.{seen-step}
 use Rattle.mux_plan.proofs.walk.Walk.begin.Goals as goal
