@@ -69,9 +69,7 @@ may_translate b before m = is_single b m && (not (is_named before m) && not (is_
 
 abbrev pub is_smbus : DeviceKind → Bool
 is_smbus (kind.Smbus width flip) = true
-is_smbus (kind.Eeprom size fill busy wp) = false
-is_smbus (kind.Lm75 raw) = false
-is_smbus (kind.Regs hold) = false
+is_smbus _ = false
 
 abbrev pub is_paired : List AliasPair → ℕ → Bool
 is_paired ps a = list_any (λ p. p.addr == a) ps

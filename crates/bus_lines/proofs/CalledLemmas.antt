@@ -3,7 +3,7 @@ use Rattle.std.proofs.Common.{◌≡◌, ℕ, ◌==◌, Bool, true, false, ◌&&
 use Rattle.std.specs.Prelude.{slice_get}
 use Rattle.std.specs.List.{list_any}
 use Rattle.std.specs.Option.{option_map_or}
-use Rattle.i2c_spec.specs.Regs.{is_too_long}
+use Rattle.i2c_spec.specs.Targets.RegsDevice.{is_too_long}
 use Rattle.wire_spec.specs.declared.mode.Mode.{Mode}
 use Rattle.wire_spec.specs.Wires.{Bit, site_of, stands}
 use Rattle.wire_spec.specs.Roots.{where_joined}

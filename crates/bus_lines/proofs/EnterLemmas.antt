@@ -7,7 +7,7 @@ use Rattle.std.proofs.lemmas.Bool.Decides.{nat_tests}
 use Rattle.i2c_base.specs.declared.event.Event.TheVariants as event
 use Rattle.i2c_base.specs.declared.event.Answer.{Answer}
 use Rattle.i2c_base.specs.declared.event.Answer.TheVariants.{Ack, Nack}
-use Rattle.i2c_spec.specs.Regs.{is_too_long}
+use Rattle.i2c_spec.specs.Targets.RegsDevice.{is_too_long}
 use Rattle.i2c_spec.specs.Targets.{IsFairTable, IsStartAnswer, IsAckOrNack}
 use Rattle.i2c_spec.specs.World.{is_ack, is_slow}
 use Rattle.wire_spec.specs.declared.mode.Mode.{Mode}

@@ -8,7 +8,7 @@ use Rattle.i2c_spec.specs.World.{is_ack}
 use Rattle.wire_spec.specs.declared.mode.Mode.{Mode}
 use Rattle.wire_spec.specs.declared.mode.Mode.TheVariants as mode
 use Rattle.wire_spec.specs.Wires.{Bit, rise, fall, tick, finish, is_named, named, puts, gets, stands, entered}
-use Rattle.i2c_spec.specs.Regs.{is_too_long}
+use Rattle.i2c_spec.specs.Targets.RegsDevice.{is_too_long}
 use Rattle.wire_spec.specs.Roots.{at, pulls_line}
 use Rattle.wire_spec.specs.Started.{started, entered_by}
 use Rattle.wire_spec.specs.Calls.{released}

@@ -14,7 +14,7 @@ use Rattle.i2c_base.specs.declared.port.PortCall.TheVariants as call
 use Rattle.i2c_base.specs.declared.transfer.Msg.{Msg}
 use Rattle.i2c_base.specs.Table.{byte_of}
 use Rattle.i2c_base.specs.Transfer.{written_of}
-use Rattle.i2c_spec.specs.Lm75.{Lm75View, lm75_after, lm75_answer}
+use Rattle.i2c_spec.specs.Targets.Lm75Device.{Lm75View, lm75_after, lm75_answer}
 use Rattle.i2c_spec.specs.Targets.{TargetState, Lm75, state_table, state_answer}
 use Rattle.i2c_spec.specs.Messages.{MessageView, messages_from}
 use Rattle.i2c_spec.specs.World.{given, feed, has_heard, is_ack}

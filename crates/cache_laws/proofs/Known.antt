@@ -18,7 +18,7 @@ use Rattle.i2c_base.specs.Transfer.{TransferView}
 use Rattle.i2c_spec.specs.Tree.{buses, root_of}
 use Rattle.i2c_spec.specs.TreeFacts.{IsTree}
 use Rattle.i2c_spec.specs.Grant.{grant_of, is_busy, way_of}
-use Rattle.i2c_spec.specs.Lm75.{Lm75View, Idle, with_high, with_low, byte_of_word}
+use Rattle.i2c_spec.specs.Targets.Lm75Device.{Lm75View, Idle, with_high, with_low, byte_of_word}
 use Rattle.i2c_spec.specs.Targets.{TargetState, Lm75}
 use Rattle.i2c_spec.specs.Flat.{FlatTold, granted_on, is_plain, is_smbus_only, first_of, is_way_cut, way_errno, barred, flat}
 use Rattle.i2c_spec.specs.Conversation.{is_it}

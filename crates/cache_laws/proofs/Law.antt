@@ -16,7 +16,7 @@ use Rattle.i2c_base.specs.declared.reply.Cut.TheVariants as cut_at
 use Rattle.i2c_base.specs.Board.{BoardView, DeviceView}
 use Rattle.i2c_base.specs.Transfer.{TransferView}
 use Rattle.i2c_spec.specs.TreeFacts.{IsTree}
-use Rattle.i2c_spec.specs.Lm75.{Lm75View, lm75_opening}
+use Rattle.i2c_spec.specs.Targets.Lm75Device.{Lm75View, lm75_opening}
 use Rattle.i2c_spec.specs.Targets.{TargetState, Lm75, opening_state, row_of_kind}
 use Rattle.i2c_spec.specs.Flat.{flat}
 use Rattle.i2c_spec.specs.History.{History, opening_history, changed_at, with_told, one_more, history}

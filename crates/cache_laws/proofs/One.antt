@@ -10,7 +10,7 @@ use Rattle.i2c_base.specs.declared.port.PortCall.TheVariants as call
 use Rattle.i2c_base.specs.declared.entry.End.{End}
 use Rattle.i2c_base.specs.declared.entry.End.TheVariants as end
 use Rattle.i2c_base.specs.Table.{byte_of}
-use Rattle.i2c_spec.specs.Lm75.{Lm75View, Idle, lm75_after, lm75_answer, with_high, with_low, byte_of_word}
+use Rattle.i2c_spec.specs.Targets.Lm75Device.{Lm75View, Idle, lm75_after, lm75_answer, with_high, with_low, byte_of_word}
 use Rattle.i2c_spec.specs.World.{is_ack}
 use Rattle.i2c_spec.specs.Messages.{MessageView}
 use Rattle.i2c_base.specs.declared.reply.Cut.TheVariants as cut_at

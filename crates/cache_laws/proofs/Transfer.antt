@@ -16,7 +16,7 @@ use Rattle.i2c_base.specs.declared.transfer.Msg.{Msg}
 use Rattle.i2c_base.specs.Board.{BoardView, DeviceView}
 use Rattle.i2c_base.specs.Transfer.{TransferView}
 use Rattle.i2c_spec.specs.TreeFacts.{IsTree}
-use Rattle.i2c_spec.specs.Lm75.{Lm75View, Lm75Phase, Idle, with_high, with_low}
+use Rattle.i2c_spec.specs.Targets.Lm75Device.{Lm75View, Lm75Phase, Idle, with_high, with_low}
 use Rattle.i2c_spec.specs.Targets.{TargetState, Lm75}
 use Rattle.i2c_spec.specs.Messages.{messages_of}
 use Rattle.i2c_spec.specs.Flat.{FlatTold, granted_on, block_limit, cut_in, errno_of, or_done, barred, flat_by, flat_told, flat_messages, flat}

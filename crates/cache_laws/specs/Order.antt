@@ -11,7 +11,7 @@ use Rattle.i2c_base.specs.declared.transfer.TransferKind.TheVariants as transfer
 use Rattle.i2c_base.specs.declared.transfer.Msg.{Msg}
 use Rattle.i2c_base.specs.Board.{BoardView, DeviceView}
 use Rattle.i2c_base.specs.Transfer.{TransferView, written, plain_read}
-use Rattle.i2c_spec.specs.Lm75.{Lm75View, Idle}
+use Rattle.i2c_spec.specs.Targets.Lm75Device.{Lm75View, Idle}
 use Rattle.i2c_spec.specs.Targets.{TargetState, Lm75}
 use Rattle.i2c_spec.specs.Conversation.{is_it}
 use Rattle.i2c_spec.specs.Flat.{granted_on}

@@ -4,10 +4,10 @@ use Rattle.toml.specs.Data.{Members, no_members, get_member}
 use Rattle.i2c_base.specs.declared.board.DeviceKind.{DeviceKind}
 use Rattle.i2c_base.specs.declared.board.DeviceKind.TheVariants as kind
 use Rattle.i2c_base.specs.declared.board.Size.TheVariants.{C02, C32, C256}
-use Rattle.i2c_spec.specs.Eeprom.{fill_key, busy_key}
-use Rattle.i2c_spec.specs.Lm75.{raw_key}
-use Rattle.i2c_spec.specs.Regs.{hold_key}
-use Rattle.i2c_spec.specs.SmbusDevice.{width_key, flip_key}
+use Rattle.i2c_spec.specs.Targets.EepromDevice.{fill_key, busy_key}
+use Rattle.i2c_spec.specs.Targets.Lm75Device.{raw_key}
+use Rattle.i2c_spec.specs.Targets.RegsDevice.{hold_key}
+use Rattle.i2c_spec.specs.Targets.SmbusDevice.{width_key, flip_key}
 use Rattle.i2c_spec.specs.Targets.{row_of_kind}
 use Rattle.i2c_boardtext.specs.Items.{flag_in}
 use Rattle.i2c_boardtext.specs.Numbers.{number_at, number_key, may_say}

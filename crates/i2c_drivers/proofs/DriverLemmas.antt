@@ -18,7 +18,7 @@ use Rattle.i2c_base.specs.declared.reply.Reply.{Reply}
 use Rattle.i2c_base.specs.declared.reply.Reply.TheVariants as reply
 use Rattle.smb_emul.specs.Calls.{messages_of_call, value_of_call}
 use Rattle.i2c_base.specs.declared.board.Size.{Size}
-use Rattle.i2c_spec.specs.Eeprom.{size_of_eeprom}
+use Rattle.i2c_spec.specs.Targets.EepromDevice.{size_of_eeprom}
 use Rattle.smb_emul.specs.Value as value
 use Rattle.smb_emul.specs.Value.{ValueView}
 use Rattle.smb_emul.specs.declared.call.SmbFail.{SmbFail}

@@ -9,7 +9,7 @@ use Rattle.i2c_base.specs.declared.board.Size.{Size}
 use Rattle.i2c_base.specs.declared.board.Size.TheVariants.{C02, C32, C256}
 use Rattle.i2c_base.specs.declared.reply.Reply.{Reply}
 use Rattle.i2c_base.specs.declared.reply.Reply.TheVariants as reply
-use Rattle.i2c_spec.specs.Eeprom.{size_of_eeprom, page_of_eeprom, is_wide}
+use Rattle.i2c_spec.specs.Targets.EepromDevice.{size_of_eeprom, page_of_eeprom, is_wide}
 use Rattle.tools.specs.Dialogues.{AreReplies, next_place}
 use Rattle.tools.proofs.TransferLemmas.{IsAsk}
 use Rattle.i2c_drivers.specs.At24.{page_reads, page_writes, place_bytes, read_begin, read_size, write_begin, write_bytes, write_end}

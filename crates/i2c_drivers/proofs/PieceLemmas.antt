@@ -4,7 +4,7 @@ use Rattle.std.proofs.Math.Seq.{take-add}
 use Rattle.std.proofs.lemmas.List.{take_all}
 use Rattle.i2c_base.specs.declared.board.Size.{Size}
 use Rattle.i2c_base.specs.declared.board.Size.TheVariants.{C02, C32, C256}
-use Rattle.i2c_spec.specs.Eeprom.{page_of_eeprom}
+use Rattle.i2c_spec.specs.Targets.EepromDevice.{page_of_eeprom}
 use Rattle.tools.specs.Tables.{parts}
 use Rattle.i2c_drivers.specs.At24.{write_begin, write_bytes, write_end, write_pieces}
 use Rattle.i2c_drivers.specs.Laws.{PiecesAreTheRead, PiecesAreTheWrite, PiecesHaveBytes, PiecesKeepToPages}

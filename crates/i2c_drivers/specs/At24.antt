@@ -12,7 +12,7 @@ use Rattle.i2c_base.specs.declared.errno.Errno.TheVariants as errno
 use Rattle.i2c_base.specs.declared.reply.Reply.{Reply}
 use Rattle.i2c_base.specs.declared.reply.Reply.TheVariants as reply
 use Rattle.i2c_base.specs.declared.transfer.TransferKind.TheVariants.{Plain}
-use Rattle.i2c_spec.specs.Eeprom.{page_of_eeprom, is_wide}
+use Rattle.i2c_spec.specs.Targets.EepromDevice.{page_of_eeprom, is_wide}
 use Rattle.tools.specs.Dialogues.{Dialogue}
 use Rattle.i2c_drivers.specs.Bound.{eeprom_at}
 use Rattle.i2c_drivers.specs.declared.at24.At24Run.{At24Run}

@@ -4,7 +4,7 @@ use Rattle.std.specs.Prelude.{ℕ, ◌==◌, Bool, true, false, ◌&&◌, List, 
 use Rattle.std.specs.Option.{option_and_then}
 use Rattle.i2c_base.specs.Board.{BoardView, DeviceView}
 use Rattle.i2c_base.specs.declared.board.DeviceKind.{DeviceKind}
-use Rattle.i2c_base.specs.declared.board.DeviceKind.TheVariants.{Eeprom, Lm75, Regs, Smbus}
+use Rattle.i2c_base.specs.declared.board.DeviceKind.TheVariants.{Eeprom, Lm75}
 use Rattle.i2c_base.specs.declared.board.Size.{Size}
 use Rattle.i2c_drivers.specs.declared.bound.Sensor.{Sensor}
 
@@ -19,15 +19,11 @@ bound_at b kinds bus addr = find (λ d. is_bound_at bus addr d && kinds d.kind) 
 -- an EEPROM, and its size
 abbrev pub is_eeprom : DeviceKind → Bool
 is_eeprom (Eeprom size fill busy wp) = true
-is_eeprom (Lm75 raw) = false
-is_eeprom (Regs hold) = false
-is_eeprom (Smbus width flip) = false
+is_eeprom _ = false
 
 abbrev pub size_of_kind : DeviceKind → Option Size
 size_of_kind (Eeprom size fill busy wp) = Some size
-size_of_kind (Lm75 raw) = None
-size_of_kind (Regs hold) = None
-size_of_kind (Smbus width flip) = None
+size_of_kind _ = None
 
 abbrev pub size_of_device : DeviceView → Option Size
 size_of_device d = size_of_kind d.kind
@@ -37,10 +33,8 @@ eeprom_at b bus addr = option_and_then size_of_device (bound_at b is_eeprom bus 
 
 -- a temperature sensor
 abbrev pub is_sensor : DeviceKind → Bool
-is_sensor (Eeprom size fill busy wp) = false
 is_sensor (Lm75 raw) = true
-is_sensor (Regs hold) = false
-is_sensor (Smbus width flip) = false
+is_sensor _ = false
 
 abbrev pub sensor_at : BoardView → (bus addr : ℕ) → Bool
 sensor_at b bus addr = is_some (bound_at b is_sensor bus addr)

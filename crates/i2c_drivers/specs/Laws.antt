@@ -4,7 +4,7 @@ use Rattle.bus_journal.specs.Reports.{IsSectionLine}
 use Rattle.i2c_base.specs.Bytes.{AreBytes}
 use Rattle.i2c_base.specs.Transfer.{IsTransfer}
 use Rattle.i2c_base.specs.declared.reply.Reply.{Reply}
-use Rattle.i2c_spec.specs.Eeprom.{page_of_eeprom}
+use Rattle.i2c_spec.specs.Targets.EepromDevice.{page_of_eeprom}
 use Rattle.tools.specs.Tables.{parts}
 use Rattle.i2c_drivers.specs.At24.{read_begin, read_pieces, read_size, write_begin, write_bytes, write_end, write_pieces}
 use Rattle.i2c_drivers.specs.Pages.{IsPageRead, IsPageWrite, PageReadView, PageWriteView}

@@ -1,7 +1,7 @@
 -- What contracts see of reads and writes of an EEPROM, which are within its size.
 use Rattle.std.specs.Prelude.{ℕ, ◌+◌, ◌≤◌, nat_le, Bool, List, length}
 use Rattle.i2c_base.specs.declared.board.Size.{Size}
-use Rattle.i2c_spec.specs.Eeprom.{size_of_eeprom}
+use Rattle.i2c_spec.specs.Targets.EepromDevice.{size_of_eeprom}
 use Rattle.tools.specs.At24Lines.{MOST_WRITTEN}
 use Rattle.i2c_drivers.specs.declared.at24.Eeprom.{Eeprom}
 

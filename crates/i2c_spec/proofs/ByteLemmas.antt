@@ -4,7 +4,7 @@ use Rattle.std.proofs.Common.{ℕ, zero, suc, ◌+◌, Bool, true, false, if◌t
 use Rattle.std.specs.List.{AllByRecursion}
 use Rattle.i2c_base.specs.Board.{RunView}
 use Rattle.i2c_base.specs.Bytes.{IsByte}
-use Rattle.i2c_spec.specs.Regs.{write_run, write_runs}
+use Rattle.i2c_spec.specs.Targets.RegsDevice.{write_run, write_runs}
 
 -- either of two that have a property has it
 pub either : {A : Type 0} (P : A → Type 0) (b : Bool) (x y : A) → P x → P y → P (if b then x else y)

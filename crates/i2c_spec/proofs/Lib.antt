@@ -2,14 +2,10 @@ pub mod AddressLemmas
 pub mod BlockLemmas
 pub mod ByteLemmas
 pub mod CostLemmas
-pub mod EepromLemmas
 pub mod FeedLemmas
 pub mod HopLemmas
 pub mod IdleLemmas
-pub mod Lm75Lemmas
 pub mod MessageLemmas
 pub mod PlainLemmas
-pub mod RegsLemmas
-pub mod SmbusLemmas
 pub mod StateLemmas
 pub mod TreeLemmas

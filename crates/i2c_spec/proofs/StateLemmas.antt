@@ -1,5 +1,9 @@
 -- What is so of the devices of all kinds, since it is so of each kind: their table is fair, they are quiet at their opening, and
 -- what they hold stays bytes. Each lemma has a line for each kind, which cites the kind's own.
+pub mod EepromLemmas
+pub mod Lm75Lemmas
+pub mod RegsLemmas
+pub mod SmbusLemmas
 use Rattle.std.proofs.Common.{◌≡◌, ℕ, ◌<◌, ◌≤◌, Bool, true, false, inr, List, [], ◌∷◌, refl, sym, ap, subst, ◌∙◌, arith}
 use Rattle.std.specs.List.{All}
 use Rattle.std.specs.Option.{unwrap_or}
@@ -13,14 +17,14 @@ use Rattle.i2c_base.specs.declared.event.Event.TheVariants as event
 use Rattle.i2c_base.specs.declared.event.Answer.{Answer}
 use Rattle.i2c_base.specs.declared.event.Answer.TheVariants as answer
 use Rattle.i2c_spec.specs.Plain.{IsPlainRun, IsPlainDevice}
-use Rattle.i2c_spec.specs.Regs.{is_too_long}
+use Rattle.i2c_spec.specs.Targets.RegsDevice.{is_too_long}
 use Rattle.i2c_base.specs.Table.{byte_of}
 use Rattle.i2c_spec.specs.Targets.{TargetState, Eeprom, Lm75, Regs, Smbus, Silent, state_table, state_after, state_answer, state_sends, state_hold, IsQuiet, IsAckOrNack, IsStartAnswer, IsFairTable, HoldsBytes, IsByteEvent, KeepsBytes, FitsKind, row_of_kind, opening_state}
 use Rattle.i2c_spec.proofs.ByteLemmas.{RunsHoldBytes}
-use Rattle.i2c_spec.proofs.EepromLemmas.{eeprom_fair, eeprom_keep_bytes, eeprom_opening-quiet, eeprom_opening-bytes}
-use Rattle.i2c_spec.proofs.Lm75Lemmas.{lm75_fair, lm75_keep_bytes, lm75_opening-bytes}
-use Rattle.i2c_spec.proofs.RegsLemmas.{regs_fair, regs_keep_bytes, regs_opening-bytes}
-use Rattle.i2c_spec.proofs.SmbusLemmas.{smbus_fair, smbus_keep_bytes, smbus_opening-bytes}
+use Rattle.i2c_spec.proofs.StateLemmas.EepromLemmas.{eeprom_fair, eeprom_keep_bytes, eeprom_opening-quiet, eeprom_opening-bytes}
+use Rattle.i2c_spec.proofs.StateLemmas.Lm75Lemmas.{lm75_fair, lm75_keep_bytes, lm75_opening-bytes}
+use Rattle.i2c_spec.proofs.StateLemmas.RegsLemmas.{regs_fair, regs_keep_bytes, regs_opening-bytes}
+use Rattle.i2c_spec.proofs.StateLemmas.SmbusLemmas.{smbus_fair, smbus_keep_bytes, smbus_opening-bytes}
 
 pub stopped-quiet : (x : TargetState) → IsQuiet state_table (state_after x event.Stop)
 stopped-quiet (Eeprom x) = let q = eeprom_fair.stops x in record { other = ap Eeprom q.other; stop = ap Eeprom q.stop }

@@ -5,10 +5,6 @@ pub mod Numbers
 pub mod Plain
 pub mod Grant
 pub mod Rules
-pub mod Regs
-pub mod Eeprom
-pub mod Lm75
-pub mod SmbusDevice
 pub mod Chips
 pub mod Targets
 pub mod TargetRows

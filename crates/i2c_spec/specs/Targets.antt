@@ -1,5 +1,9 @@
 -- Every device of a board, whatever its kind, as one type of states with one table, and what is so of each kind: a row.
 -- A further kind of device adds a case, a line of each function, a row, and the file of its table, which has its keys too.
+pub mod EepromDevice
+pub mod Lm75Device
+pub mod RegsDevice
+pub mod SmbusDevice
 use Rattle.std.specs.Prelude.{⊤, ◌≡◌, ℕ, Bool, true, false, ◌⊎◌, List, [], ◌∷◌, Option, Some, None}
 use Rattle.std.specs.List.{AllByRecursion}
 use Rattle.i2c_base.specs.declared.board.DeviceKind.{DeviceKind}
@@ -12,10 +16,10 @@ use Rattle.i2c_base.specs.Board.{DeviceView, RunView}
 use Rattle.i2c_base.specs.Bytes.{IsByte}
 use Rattle.i2c_base.specs.Table.{Table}
 use Rattle.i2c_spec.specs.Numbers.{NumberKey, IsFor}
-use Rattle.i2c_spec.specs.Eeprom.{EepromView, IsEepromOfBytes, fill_key, busy_key, eeprom_after, eeprom_answer, eeprom_sends, eeprom_opening, size_of_eeprom}
-use Rattle.i2c_spec.specs.Lm75.{Lm75View, IsLm75OfBytes, raw_key, lm75_after, lm75_answer, lm75_sends, lm75_opening}
-use Rattle.i2c_spec.specs.SmbusDevice.{SmbusView, IsSmbusOfBytes, width_key, flip_key, smbus_after, smbus_answer, smbus_sends, smbus_opening}
-use Rattle.i2c_spec.specs.Regs.{RegsView, IsRegsOfBytes, hold_key, regs_after, regs_answer, regs_sends, regs_opening, is_too_long}
+use Rattle.i2c_spec.specs.Targets.EepromDevice.{EepromView, IsEepromOfBytes, fill_key, busy_key, eeprom_after, eeprom_answer, eeprom_sends, eeprom_opening, size_of_eeprom}
+use Rattle.i2c_spec.specs.Targets.Lm75Device.{Lm75View, IsLm75OfBytes, raw_key, lm75_after, lm75_answer, lm75_sends, lm75_opening}
+use Rattle.i2c_spec.specs.Targets.SmbusDevice.{SmbusView, IsSmbusOfBytes, width_key, flip_key, smbus_after, smbus_answer, smbus_sends, smbus_opening}
+use Rattle.i2c_spec.specs.Targets.RegsDevice.{RegsView, IsRegsOfBytes, hold_key, regs_after, regs_answer, regs_sends, regs_opening, is_too_long}
 
 pub data TargetState : Type 0 where
   Eeprom : (x : EepromView) → TargetState

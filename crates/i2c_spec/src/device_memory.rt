@@ -1,9 +1,9 @@
 //! What the memory of a device is at the opening: its size, its pages, and what its board sets.
 
 ghost use Rattle.std.specs.Prelude.{◌≡◌, ◌+◌, ◌≤◌, All, length};
-ghost use Rattle.i2c_spec.specs.Eeprom.{size_of_eeprom, page_of_eeprom, is_wide};
+ghost use Rattle.i2c_spec.specs.Targets.EepromDevice.{size_of_eeprom, page_of_eeprom, is_wide};
 ghost use Rattle.i2c_spec.specs.Plain.{IsPlainRun};
-ghost use Rattle.i2c_spec.specs.Regs.{write_run, write_runs};
+ghost use Rattle.i2c_spec.specs.Targets.RegsDevice.{write_run, write_runs};
 
 use i2c_base::{MemoryRun, Size};
 

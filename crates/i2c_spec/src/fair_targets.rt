@@ -2,33 +2,9 @@
 
 ghost use Rattle.i2c_base.specs.Board.{DeviceView};
 ghost use Rattle.i2c_base.specs.declared.board.MuxSpec.{MuxSpec};
-ghost use Rattle.i2c_spec.specs.Regs.{regs_table};
-ghost use Rattle.i2c_spec.specs.Eeprom.{eeprom_table};
-ghost use Rattle.i2c_spec.specs.Lm75.{lm75_table};
-ghost use Rattle.i2c_spec.specs.SmbusDevice.{smbus_table};
 ghost use Rattle.i2c_spec.specs.Chips.{chip_table, chip_opening};
 ghost use Rattle.i2c_spec.specs.Plain.{IsPlainDevice};
 ghost use Rattle.i2c_spec.specs.Targets.{IsFairTable, IsQuiet, HoldsBytes, KeepsBytes, state_table, opening_state};
-
-/// After a stop the register device stays as it is until its next start, and it sends what it says.
-pub fn regs_are_fair()
-    ensures { IsFairTable regs_table }
-{}
-
-/// The same of an EEPROM: what waited is written at the stop, so a further stop writes nothing.
-pub fn eeproms_are_fair()
-    ensures { IsFairTable eeprom_table }
-{}
-
-/// The same of an LM75.
-pub fn lm75s_are_fair()
-    ensures { IsFairTable lm75_table }
-{}
-
-/// The same of an SMBus device: what was held took effect at the stop, or was dropped.
-pub fn smbus_devices_are_fair()
-    ensures { IsFairTable smbus_table }
-{}
 
 /// After a stop a mux chip stays as it is until its next start, and it sends what it says.
 pub fn chips_are_fair()

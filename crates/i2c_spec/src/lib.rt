@@ -17,8 +17,7 @@ mod target_rows;
 
 pub use device_memory::{eeprom_bytes, eeprom_page, is_wide, write_runs};
 pub use fair_targets::{
-    chips_are_fair, devices_hold_bytes, eeproms_are_fair, lm75s_are_fair, openings_are_quiet,
-    regs_are_fair, smbus_devices_are_fair, states_are_fair,
+    chips_are_fair, devices_hold_bytes, openings_are_quiet, states_are_fair,
 };
 pub use flat_world::errno_of;
 pub use laws::an_accepted_board_is_a_tree;

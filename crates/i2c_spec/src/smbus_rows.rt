@@ -4,7 +4,7 @@
 ghost use Rattle.std.specs.Prelude.{◌≡◌, [], ◌∷◌, ◌++◌, bit_xor};
 ghost use Rattle.i2c_base.specs.declared.event.Event.TheVariants as event;
 ghost use Rattle.i2c_base.specs.declared.event.Answer.TheVariants as answer;
-ghost use Rattle.i2c_spec.specs.SmbusDevice.{smbus_table, smbus_opening};
+ghost use Rattle.i2c_spec.specs.Targets.SmbusDevice.{smbus_table, smbus_opening};
 ghost use Rattle.i2c_spec.specs.TargetRows.{answered, writes, reads, acks, gives};
 ghost use Rattle.smb_pec.specs.LongDivision.{pec};
 

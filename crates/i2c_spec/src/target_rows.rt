@@ -5,9 +5,9 @@ ghost use Rattle.std.specs.Prelude.{◌≡◌, [], ◌∷◌, ◌++◌, true, fa
 ghost use Rattle.i2c_base.specs.declared.event.Event.TheVariants as event;
 ghost use Rattle.i2c_base.specs.declared.event.Answer.TheVariants as answer;
 ghost use Rattle.i2c_base.specs.declared.board.Size.TheVariants.{C02, C32};
-ghost use Rattle.i2c_spec.specs.Eeprom.{eeprom_table, eeprom_opening};
-ghost use Rattle.i2c_spec.specs.Lm75.{lm75_table, lm75_opening};
-ghost use Rattle.i2c_spec.specs.Regs.{regs_table, regs_opening};
+ghost use Rattle.i2c_spec.specs.Targets.EepromDevice.{eeprom_table, eeprom_opening};
+ghost use Rattle.i2c_spec.specs.Targets.Lm75Device.{lm75_table, lm75_opening};
+ghost use Rattle.i2c_spec.specs.Targets.RegsDevice.{regs_table, regs_opening};
 ghost use Rattle.i2c_spec.specs.TargetRows.{answered, writes, reads, acks, gives};
 
 /// Three bytes from place 6 of a page of eight on: the third comes to the page's start (Microchip 24LC02B, page write).

@@ -3,8 +3,8 @@ use Rattle.std.proofs.Common.{◌≡◌, ℕ, ◌<◌, Bool, List, Option, repli
 use Rattle.i2c_base.specs.declared.board.Size.{Size}
 use Rattle.i2c_base.specs.declared.board.Size.TheVariants.{C02, C32, C256}
 use Rattle.i2c_base.specs.Board.{RunView}
-use Rattle.i2c_spec.specs.Eeprom.{EepromView, Idle, none_waiting, size_of_eeprom, eeprom_opening}
-use Rattle.i2c_spec.specs.Regs.{write_runs}
+use Rattle.i2c_spec.specs.Targets.EepromDevice.{EepromView, Idle, none_waiting, size_of_eeprom, eeprom_opening}
+use Rattle.i2c_spec.specs.Targets.RegsDevice.{write_runs}
 
 pub has_place : (size : Size) → 0 < size_of_eeprom size
 has_place C02 = omega arith

@@ -1,6 +1,6 @@
 -- One place more of a page that takes what waits. The inductions go over the places.
 use Rattle.std.proofs.Common.{◌≡◌, ℕ, zero, suc, ◌+◌, List, [], ◌∷◌, take, set, get_or, Option, Some, None, unwrap_or, refl, ap, arith}
-use Rattle.i2c_spec.specs.Eeprom.{taken_in}
+use Rattle.i2c_spec.specs.Targets.EepromDevice.{taken_in}
 
 taken-none : (waiting : List (Option ℕ)) (page : List ℕ) (i : ℕ) → get_or waiting i None ≡ None
     → taken_in (take (suc i) waiting) page ≡ taken_in (take i waiting) page

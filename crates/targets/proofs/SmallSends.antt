@@ -3,9 +3,9 @@ use denote.Param.{number}
 use denote.Param.Send.{IsSend, struct_send, recorded_send, sendable}
 use denote.Struct.Declared.{shape}
 use Rattle.i2c_base.proofs.SendLemmas.{byte_store-send}
-use Rattle.targets.specs.contracts.smbus.SmbusDevice as SmbusDevice
-use Rattle.targets.specs.contracts.smbus.SmbusDevice.TheInside as inside
-use Rattle.targets.specs.contracts.smbus.Awaits as Awaits
+use Rattle.targets.specs.contracts.device.smbus.SmbusDevice as SmbusDevice
+use Rattle.targets.specs.contracts.device.smbus.SmbusDevice.TheInside as inside
+use Rattle.targets.specs.contracts.device.smbus.Awaits as Awaits
 
 awaits-send : IsSend (Awaits.the_field).row
 awaits-send = search sendable depth 20

@@ -2,7 +2,7 @@
 use Rattle.std.proofs.Common.{◌≡◌, ℕ, Bool, true, false, List, [], refl}
 use Rattle.std.specs.Prelude.{if◌then◌else◌}
 use Rattle.smb_pec.specs.LongDivision.{pec_with}
-use Rattle.i2c_spec.specs.SmbusDevice.{SmbusView, SmbusPhase, address_byte, code_so_far, smbus_begun, smbus_start, with_effect}
+use Rattle.i2c_spec.specs.Targets.SmbusDevice.{SmbusView, SmbusPhase, address_byte, code_so_far, smbus_begun, smbus_start, with_effect}
 
 pub started
     : (x v : SmbusView) (reading : Bool) (code so_far byte : ℕ) (held : List ℕ) (phase : SmbusPhase)

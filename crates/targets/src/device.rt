@@ -4,8 +4,16 @@ ghost use Rattle.i2c_spec.specs.Plain.{IsPlainDevice};
 ghost use Rattle.i2c_spec.specs.Targets as target;
 ghost use Rattle.i2c_spec.specs.Targets.{opening_state, silent_answer, state_answer, state_sends, state_hold};
 
-use crate::{Eeprom, Lm75, Regs, SmbusDevice};
+mod eeprom;
+mod lm75;
+mod registers;
+mod smbus;
+
+use eeprom::Eeprom;
 use i2c_base::{Answer, DeviceKind, DeviceSpec, Event, NoMemory, Target};
+use lm75::Lm75;
+pub use registers::Regs;
+use smbus::SmbusDevice;
 use std::alloc::Global;
 use std::marker::Model;
 

@@ -4,20 +4,12 @@
 //!
 //! Their public contract: each does on each event what the table of its kind says, tells the byte that it would send and for how
 //! long it holds the clock, and takes no memory for an event; a channel of a mux is open exactly where the definition says so.
-//! Definitions: `Chips`, `Eeprom`, `Lm75`, `Regs`, `SmbusDevice`, `TargetState` and `state_table` of `i2c_spec`, by the data sheets of
-//! NXP, Microchip and TI, and SMBus 3.2, sections 6.4 and 6.5.
+//! Definitions: `Chips`, and `Targets` with the table of each kind below it, of `i2c_spec`, by the data sheets of NXP, Microchip and
+//! TI, and SMBus 3.2, sections 6.4 and 6.5.
 #![tactic(auto)]
 
 mod chip;
 mod device;
-mod eeprom;
-mod lm75;
-mod registers;
-mod smbus;
 
 pub use chip::Chip;
-pub use device::{DeviceState, silence};
-pub use eeprom::Eeprom;
-pub use lm75::Lm75;
-pub use registers::Regs;
-pub use smbus::SmbusDevice;
+pub use device::{DeviceState, Regs, silence};

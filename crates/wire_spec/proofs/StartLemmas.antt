@@ -9,7 +9,7 @@ use Rattle.i2c_base.specs.Table.{Table}
 use Rattle.i2c_base.specs.Board.{BoardView}
 use Rattle.i2c_spec.specs.Chips.{ChipView, chip_table}
 use Rattle.i2c_spec.specs.Targets.{TargetState, state_table, IsFairTable, IsStartAnswer, IsAckOrNack, IsQuiet}
-use Rattle.i2c_spec.specs.Regs.{is_too_long}
+use Rattle.i2c_spec.specs.Targets.RegsDevice.{is_too_long}
 use Rattle.i2c_spec.specs.World.{World, is_ack, is_slow, has_heard, answer, some_answer, start_chips, start_devices}
 use Rattle.wire_spec.specs.declared.mode.Mode.{Mode}
 use Rattle.wire_spec.specs.declared.mode.Mode.TheVariants.{Out}

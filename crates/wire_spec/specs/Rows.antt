@@ -1,7 +1,7 @@
 -- Worked examples: small devices on the wires, what a controller does, and what an analyser on the wires sees of it, after the
 -- figures of UM10204 section 3.1.
 use Rattle.std.specs.Prelude.{ℕ, ◌==◌, Bool, true, false, not, List, [], ◌∷◌, ◌++◌, map}
-use Rattle.i2c_spec.specs.Regs.{RegsView, Idle, regs_table}
+use Rattle.i2c_spec.specs.Targets.RegsDevice.{RegsView, Idle, regs_table}
 use Rattle.wire_spec.specs.Wires.{Site, Bit, bits, site_of}
 use Rattle.wire_spec.specs.Bus.{Counts, Bus, Mask, Came, scl_level, sda_level, pulled, looked}
 use Rattle.wire_spec.specs.Calls.{free, start_pulls, repeated_start, sent_byte, read_byte, stop_pulls, slow_stop}

@@ -1,7 +1,7 @@
 //! Worked examples, computed by the checker itself: each function has an empty body, and its clauses are what an analyser on
 //! the wires sees, after the figures of UM10204 section 3.1.
 ghost use Rattle.std.specs.Prelude.{◌≡◌, ◌++◌, [], ◌∷◌, true, false, replicate, take};
-ghost use Rattle.i2c_spec.specs.Regs.{Idle};
+ghost use Rattle.i2c_spec.specs.Targets.RegsDevice.{Idle};
 ghost use Rattle.wire_spec.specs.Wires.{bits};
 ghost use Rattle.wire_spec.specs.Rows as row;
 

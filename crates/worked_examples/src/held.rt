@@ -25,7 +25,7 @@ struct Held {
 }
 
 impl Model for Held {
-    ghost use Rattle.i2c_spec.specs.Regs.{RegsView};
+    ghost use Rattle.i2c_spec.specs.Targets.RegsDevice.{RegsView};
 
     ghost Value = { RegsView };
 
@@ -33,7 +33,7 @@ impl Model for Held {
 }
 
 impl Target for Held {
-    ghost use Rattle.i2c_spec.specs.Regs.{regs_table};
+    ghost use Rattle.i2c_spec.specs.Targets.RegsDevice.{regs_table};
 
     ghost table = { regs_table };
 
@@ -43,7 +43,7 @@ impl Target for Held {
 }
 
 impl Wired for Held {
-    ghost use Rattle.i2c_spec.proofs.RegsLemmas.{regs_fair};
+    ghost use Rattle.i2c_spec.proofs.StateLemmas.RegsLemmas.{regs_fair};
 
     ghost fair = { regs_fair };
 
