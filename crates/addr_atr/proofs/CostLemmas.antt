@@ -1,25 +1,18 @@
 -- A translated transfer has the same messages at other addresses, so it keeps the limits and what replies fit; it stays on its root, and
 -- has one hop less before it, so it costs no more.
-use Rattle.std.proofs.Common.{◌≡◌, ℕ, suc, ◌+◌, ◌*◌, ◌<◌, ◌≤◌, Bool, true, false, cond, ◌||◌, List, [], ◌∷◌, Option, Some, None, refl, sym, ◌∙◌, ap, arith, length, map, drop}
+use Rattle.addr_atr.proofs.Cited.{◌≡◌, ℕ, suc, ◌+◌, ◌<◌, ◌≤◌, Bool, true, false, cond, ◌||◌, List, [], ◌∷◌, Option, Some, None, refl, sym}
+use Rattle.addr_atr.proofs.Cited.{◌∙◌, ap, arith, length, map, drop, list_any, lt-ltb, length-map, Reply, Msg, BoardView, Fits}
+use Rattle.addr_atr.proofs.Cited.{TransferView, IsTransfer, alias_of, readdressed, redirected, cost_of, block_limit, Hop, hops, buses}
+use Rattle.addr_atr.proofs.Cited.{root_of, IsTree, TranslatorView, Route, route_of, lowered, sent_by, translated}
+use Rattle.std.proofs.Common.{◌*◌}
 use Rattle.std.specs.Prelude.{MatchBool}
-use Rattle.std.specs.List.{list_any}
-use Rattle.std.proofs.lemmas.Bool.{lt-ltb}
-use Rattle.std.proofs.lemmas.List.{length-map}
-use Rattle.i2c_base.specs.declared.reply.Reply.{Reply}
 use Rattle.i2c_base.specs.declared.reply.Reply.TheVariants as reply
-use Rattle.i2c_base.specs.declared.transfer.Msg.{Msg}
-use Rattle.i2c_base.specs.Board.{BoardView}
-use Rattle.i2c_base.specs.Fitting.{Fits, FitsReads, FitsCounted, count_of}
+use Rattle.i2c_base.specs.Fitting.{FitsReads, FitsCounted, count_of}
 use Rattle.i2c_base.specs.Muxes.{facts_of}
-use Rattle.i2c_base.specs.Transfer.{TransferView, IsTransfer, is_read, is_counted}
-use Rattle.i2c_base.specs.Alias.{alias_of, readdressed, redirected}
+use Rattle.i2c_base.specs.Transfer.{is_read, is_counted}
 use Rattle.i2c_base.proofs.AliasLemmas.{readdressed-sum, redirected-limits}
-use Rattle.i2c_spec.specs.Cost.{behind_by, behind_cost, inner_cost, full_cost, bytes_of, steps_of, cost_of}
-use Rattle.i2c_spec.specs.Flat.{block_limit}
-use Rattle.i2c_spec.specs.Tree.{Hop, hops, buses, locks_of, root_of}
-use Rattle.i2c_spec.specs.TreeFacts.{IsTree}
-use Rattle.addr_atr.specs.Maps.{TranslatorView, Route, route_of}
-use Rattle.addr_atr.specs.Lowering.{lowered, sent_by, translated}
+use Rattle.i2c_spec.specs.Cost.{behind_by, behind_cost, inner_cost, full_cost, bytes_of, steps_of}
+use Rattle.i2c_spec.specs.Tree.{locks_of}
 use Rattle.addr_atr.proofs.RouteLemmas.{IsRoute, route-is, route-root}
 
 -- what doesn't look at an address is the same
@@ -38,8 +31,10 @@ fits_reads f (m ∷ ms) bytes h =
     let counted : List ℕ = drop (m.len + count_of bytes) bytes in
     let plain : List ℕ = drop m.len bytes in
     match_map (is_read m)
-    (MatchBool (is_counted m) (FitsCounted m bytes × FitsReads more counted) ((m.len ≤ length bytes) × FitsReads more plain)) (FitsReads more bytes)
-    (MatchBool (is_counted m) (FitsCounted m bytes × FitsReads ms counted) ((m.len ≤ length bytes) × FitsReads ms plain)) (FitsReads ms bytes)
+    (MatchBool (is_counted m) (FitsCounted m bytes × FitsReads more counted) ((m.len ≤ length bytes) × FitsReads more plain))
+    (FitsReads more bytes)
+    (MatchBool (is_counted m) (FitsCounted m bytes × FitsReads ms counted) ((m.len ≤ length bytes) × FitsReads ms plain))
+    (FitsReads ms bytes)
     (match_map (is_counted m) (FitsCounted m bytes × FitsReads more counted) ((m.len ≤ length bytes) × FitsReads more plain)
     (FitsCounted m bytes × FitsReads ms counted) ((m.len ≤ length bytes) × FitsReads ms plain)
     (λ x. (x.0, fits_reads f ms counted x.1)) (λ x. (x.0, fits_reads f ms plain x.1)))
@@ -86,12 +81,14 @@ full_less h hs x =
     let job : ℕ = inner_cost hs x in
     let locks : ℕ = length (locks_of 0 hs) in
     elim h.parent
-    as (λ t. 2 * locks + job ≤ 2 * suc (length (cond t (locks_of 0 hs) [])) + cond t (behind_cost h.kind control job) (3 * (2 * locks + control) + (2 * locks + job))) [
+    as (λ t. 2 * locks + job ≤ 2 * suc (length (cond t (locks_of 0 hs) [])) + cond t (behind_cost h.kind control job)
+    (3 * (2 * locks + control) + (2 * locks + job))) [
       | true ↦ omega (arith, behind_more (facts_of h.kind).by_line (facts_of h.kind).asks control job)
       | false ↦ omega arith
     ]
 
-pub translated-costs : (b : BoardView) (ts : List TranslatorView) (t : TransferView) → IsTree b → cost_of (lowered b ts) (translated b ts t) ≤ cost_of b t
+pub translated-costs : (b : BoardView) (ts : List TranslatorView) (t : TransferView) → IsTree b
+    → cost_of (lowered b ts) (translated b ts t) ≤ cost_of b t
 translated-costs b ts t tree = by (route_of b ts t.bus) refl
   where
     by : (o : Option Route) → route_of b ts t.bus ≡ o → cost_of (lowered b ts) (sent_by o t) ≤ cost_of b t
@@ -101,7 +98,8 @@ translated-costs b ts t tree = by (route_of b ts t.bus) refl
         let n : ℕ = steps_of b t in
         let before : hops b t.bus ≡ i.hop ∷ hops b r.bus =
         i.over ∙ ap (λ (hs : List Hop). i.hop ∷ hs) (sym (tree.tail t.bus i.hop i.rest i.over) ∙ ap (hops b) i.on) in
-        let low : r.bus < buses b = (let f : i.hop.on < t.bus = (tree.leads t.bus i.hop i.rest i.over).1 in omega (arith, f, i.on, i.within)) in
+        let low : r.bus < buses b = (let f : i.hop.on < t.bus = (tree.leads t.bus i.hop i.rest i.over).1 in
+        omega (arith, f, i.on, i.within)) in
         let steps : steps_of (lowered b ts) (sent_by (Some r) t) ≡ n =
         (let s = readdressed-sum (alias_of r.pairs) (bytes_of (block_limit b)) (λ m. refl) t.msgs in
         let l = length-map t.msgs (readdressed (alias_of r.pairs)) in omega (arith, s, l)) in
@@ -110,6 +108,7 @@ translated-costs b ts t tree = by (route_of b ts t.bus) refl
         ap (λ (y : Bool). cond y (1 + full_cost (hops b t.bus) n) 1) (lt-ltb t.bus (buses b) i.within)
         ∙ ap (λ (hs : List Hop). 1 + full_cost hs n) before in
         let sent : cost_of (lowered b ts) (sent_by (Some r) t) ≡ 1 + full_cost (hops b r.bus) n =
-        ap (λ (y : Bool). cond y (1 + full_cost (hops b r.bus) (steps_of (lowered b ts) (sent_by (Some r) t))) 1) (lt-ltb r.bus (buses b) low)
+        ap (λ (y : Bool). cond y (1 + full_cost (hops b r.bus) (steps_of (lowered b ts) (sent_by (Some r) t))) 1)
+        (lt-ltb r.bus (buses b) low)
         ∙ ap (λ (k : ℕ). 1 + full_cost (hops b r.bus) k) steps in
         omega (arith, written, sent, less)

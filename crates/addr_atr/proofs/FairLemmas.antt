@@ -1,17 +1,10 @@
--- A script behind translators is fair, since the script is: its transfers keep their messages and lengths, and what is left of a sum over the
+-- A script behind translators is fair, since the script is: its transfers keep their messages and lengths, and what is left of a sum over
+-- the
 -- script's transfers falls by what the answered one has of it.
-use Rattle.std.proofs.Common.{◌≡◌, ℕ, ◌+◌, ◌<◌, ◌≤◌, List, [], ◌∷◌, ◌++◌, length, Option, Some, None, refl, sym, subst, arith}
-use Rattle.std.specs.Option.{option_map}
-use Rattle.std.proofs.lemmas.List.{length-map}
-use Rattle.i2c_base.specs.declared.reply.Reply.{Reply}
-use Rattle.i2c_base.specs.Fitting.{Fits}
-use Rattle.i2c_base.specs.Transfer.{TransferView, IsTransfer}
-use Rattle.i2c_base.specs.Alias.{alias_of, readdressed}
-use Rattle.i2c_spec.specs.Cost.{cost_of}
+use Rattle.addr_atr.proofs.Cited.{◌≡◌, ℕ, ◌+◌, ◌<◌, ◌≤◌, List, [], ◌∷◌, ◌++◌, length, Option, Some, None, refl, sym, subst, arith}
+use Rattle.addr_atr.proofs.Cited.{option_map, length-map, Reply, Fits, TransferView, IsTransfer, alias_of, readdressed, cost_of}
+use Rattle.addr_atr.proofs.Cited.{IsPlainBoard, MeetsRules, tree_of, Route, route_of, sent_by, translated}
 use Rattle.i2c_spec.proofs.CostLemmas.{cost_some}
-use Rattle.i2c_spec.specs.Plain.{IsPlainBoard}
-use Rattle.i2c_spec.specs.Rules.{MeetsRules}
-use Rattle.i2c_spec.proofs.AddressLemmas.{tree_of}
 use Rattle.std.specs.Prelude.{sum_by}
 use Rattle.std.proofs.lemmas.List.Sums.{sum_by-le-sum_by}
 use Rattle.tools.specs.Dialogues.{transfers_behind}
@@ -20,8 +13,6 @@ use Rattle.caller_core.specs.Turns.{command_talk, sum_of}
 use Rattle.caller_core.specs.View.{CommandView}
 use Rattle.caller_core.proofs.FairLemmas.{scripts_fair}
 use Rattle.caller_core.proofs.SumLemmas.{sum_falls, sum_first}
-use Rattle.addr_atr.specs.Maps.{Route, route_of}
-use Rattle.addr_atr.specs.Lowering.{sent_by, translated}
 use Rattle.addr_atr.specs.Callers.{AtrView, AtrCallerView, data_of, asked_by, board_of, left_of, lowered_cost, AtrCallersAreFair}
 use Rattle.addr_atr.proofs.CostLemmas.{translated-limits, translated-fits, translated-costs}
 

@@ -8,3 +8,4 @@ pub mod RenameLemmas
 pub mod RouteLemmas
 pub mod RunLemmas
 pub mod TranslateLemmas
+mod Cited

@@ -1,28 +1,23 @@
 -- The tables of translators, one after the other.
-use Rattle.std.proofs.Common.{◌≡◌, ℕ, zero, suc, ◌+◌, ◌<◌, ◌≤◌, true, false, cond, eqb, ◌&&◌, nat_le, List, [], ◌∷◌, Some, None, refl, sym, ◌∙◌, ap, subst, arith, length, map, get_or, drop}
-use Rattle.std.proofs.lemmas.Bool.{le-leb}
-use Rattle.toml.specs.Data.{Data, Members, get_member, as_integer}
-use Rattle.i2c_boardtext.specs.BoardText.{◌>>=◌, unless_fault}
-use Rattle.i2c_base.specs.declared.alias.AliasPair.{AliasPair}
-use Rattle.addr_atr.specs.declared.fault.MapFault.{MapFault}
+use Rattle.addr_atr.proofs.Cited.{◌≡◌, ℕ, zero, suc, ◌+◌, ◌<◌, ◌≤◌, true, false, cond, eqb, ◌&&◌, List, [], ◌∷◌, Some, None, refl, sym, ◌∙◌}
+use Rattle.addr_atr.proofs.Cited.{ap, subst, arith, length, map, get_or, drop, and_parts, get_member, unless_fault, AliasPair, MapFault}
+use Rattle.addr_atr.proofs.Cited.{TranslatorView, may_translate, are_pairs_of, fault_after, AreAddresses, IsMap, IsTargetAddress, BoardView}
+use Rattle.addr_atr.proofs.Cited.{elements_in, All, slice_get, unwrap_or, codes, All-map, option_map_or, drop_more, rows_fault, top_rules}
+use Rattle.addr_atr.proofs.Cited.{translator_rules, translator_value, pair_value, map_in, FailsRead, row_of, rows_of, table_fault}
+use Rattle.std.proofs.Common.{nat_le}
+use Rattle.std.proofs.lemmas.Bool.{le-leb, leb-true}
+use Rattle.toml.specs.Data.{Data, Members, as_integer}
+use Rattle.i2c_boardtext.specs.BoardText.{◌>>=◌}
 use Rattle.addr_atr.specs.declared.fault.MapFault.TheVariants as map_fault
-use Rattle.addr_atr.specs.Maps.{TranslatorView}
-use Rattle.addr_atr.specs.Lowering.{may_translate, are_pairs_of, fault_after, AreAddresses, IsMap}
-use Rattle.i2c_base.specs.Addr.{IsTargetAddress}
-use Rattle.i2c_base.specs.Board.{BoardView}
 use Rattle.i2c_boardtext.specs.Items.{elements, number, nat_of}
-use Rattle.i2c_boardtext.specs.Values.{elements_in}
 use Rattle.i2c_boardtext.specs.declared.fault.TableFault.{TableFault}
 use Rattle.i2c_boardtext.specs.declared.fault.TableFault.TheVariants as fault
-use Rattle.std.specs.Prelude.{⊤, ℤ, pos, negsuc, int_le, Bool, Option, not, ◌++◌, Result, Ok, Err, All, slice_get, option_map, unwrap_or, codes}
-use Rattle.std.proofs.lemmas.Bool.{and_parts, leb-true}
-use Rattle.std.proofs.lemmas.List.Elements.{All-map}
-use Rattle.std.specs.Option.{option_or, option_map_or}
-use Rattle.std.proofs.lemmas.List.{drop_more}
+use Rattle.std.specs.Prelude.{⊤, ℤ, pos, negsuc, int_le, Bool, Option, not, ◌++◌, Result, Ok, Err, option_map}
+use Rattle.std.specs.Option.{option_or}
 use Rattle.toml.specs.declared.value.Value.{Value}
-use Rattle.addr_atr.specs.MapTexts.{placed_in, rows_fault, rows_in, count_fault, top_fault, tested_rows, top_rules, translator_rules, translator_value, pair_value, address_in, as_map, map_in, document_of, translators_of, FailsRead, GivesRead, DocumentFails, Fails}
-use Rattle.i2c_boardtext.specs.Rows.{row_of, rows_of}
-use Rattle.i2c_boardtext.specs.Rules.{KeyRule, table_fault, is_in, is_from_to}
+use Rattle.addr_atr.specs.MapTexts.{placed_in, rows_in, count_fault, top_fault, tested_rows, address_in, as_map, document_of}
+use Rattle.addr_atr.specs.MapTexts.{translators_of, GivesRead, DocumentFails, Fails}
+use Rattle.i2c_boardtext.specs.Rules.{KeyRule, is_in, is_from_to}
 
 pub rows_more : (rules : List KeyRule) (vs : List Value) (i : ℕ) (v : Value) → i < length vs → v ≡ get_or vs i v
     → rows_fault rules i (rows_of (drop i vs))
@@ -48,7 +43,8 @@ pub tested : (muxes : ℕ) (ms : Members) (rs : List Members) (n : ℕ) → tabl
     → 1 ≤ n → n ≤ 32 → tested_rows muxes ms ≡ unless_fault (rows_fault (translator_rules muxes) 0 rs) rs
 tested muxes ms rs n top same count some few =
     let rules = translator_rules muxes in
-    ap (λ xs. unless_fault (option_or (option_or (placed_in 0 (table_fault top_rules ms)) (count_fault (length xs))) (rows_fault rules 0 xs)) xs) (sym same)
+    ap (λ xs. unless_fault (option_or (option_or (placed_in 0 (table_fault top_rules ms)) (count_fault (length xs)))
+    (rows_fault rules 0 xs)) xs) (sym same)
     ∙ ap (λ o. unless_fault (option_or (option_or (placed_in 0 o) (count_fault (length rs))) (rows_fault rules 0 rs)) rs) top
     ∙ ap (λ k. unless_fault (option_or (count_fault k) (rows_fault rules 0 rs)) rs) count
     ∙ ap (λ o. unless_fault (option_or o (rows_fault rules 0 rs)) rs) (counted n some few)
@@ -82,7 +78,8 @@ count_told n = elim (nat_le 1 n && nat_le n 32) as (λ t. IsTold (cond t None (S
 rows_told : (rules : List KeyRule) (i : ℕ) (ts : List Members) → IsTold (rows_fault rules i ts)
 rows_told rules i [] = tt
 rows_told rules i (t ∷ ts) =
-    or_told (placed_in i (table_fault rules t)) (rows_fault rules (i + 1) ts) (placed_told i (table_fault rules t)) (rows_told rules (i + 1) ts)
+    or_told (placed_in i (table_fault rules t)) (rows_fault rules (i + 1) ts) (placed_told i (table_fault rules t))
+    (rows_told rules (i + 1) ts)
 
 after_told : (b : BoardView) (before ts : List TranslatorView) → IsTold (fault_after b before ts)
 after_told b before [] = tt
@@ -90,15 +87,17 @@ after_told b before (t ∷ ts) =
     elim (not (may_translate b before t.mux)) as (λ x. IsTold (cond x (Some (map_fault.Mux (length before)))
     (cond (not (are_pairs_of b t)) (Some (map_fault.Pairs (length before))) (fault_after b (before ++ t ∷ []) ts)))) [
       | true ↦ tt
-      | false ↦ elim (not (are_pairs_of b t)) as (λ x. IsTold (cond x (Some (map_fault.Pairs (length before))) (fault_after b (before ++ t ∷ []) ts))) [
-        | true ↦ tt
-        | false ↦ after_told b (before ++ t ∷ []) ts
-      ]
+      | false ↦ elim (not (are_pairs_of b t)) as (λ x. IsTold (cond x (Some (map_fault.Pairs (length before)))
+          (fault_after b (before ++ t ∷ []) ts))) [
+            | true ↦ tt
+            | false ↦ after_told b (before ++ t ∷ []) ts
+          ]
     ]
 
 unless_told : {X : Type 0} (o : Option MapFault) (x : X) (e : MapFault) → IsTold o → unless_fault o x ≡ Err e → IsTextFault e
 unless_told None x e told is = absurd (let f : Ok x ≡ Err e = is in cc)
-unless_told {X} (Some d) x e told is = subst IsTextFault (let f : ◌≡◌ {A = Result X MapFault} (Err d) (Err e) = is in let g : d ≡ e = cc in g) told
+unless_told {X} (Some d) x e told is = subst IsTextFault (let f : ◌≡◌ {A = Result X MapFault} (Err d) (Err e) = is in let g : d ≡ e = cc in
+    g) told
 
 pub tested-told : (muxes : ℕ) (ms : Members) (e : MapFault) → tested_rows muxes ms ≡ Err e → IsTextFault e
 tested-told muxes ms e is =
@@ -117,7 +116,8 @@ fails-read (map_fault.Rule broken) read told is = absurd told
 fails-read map_fault.Memory read told is = tt
 
 -- translators with a fault, and with none
-pub fault-told : (b : BoardView) (ts us : List TranslatorView) (e : MapFault) → us ≡ ts → fault_after b [] us ≡ Some e → FailsRead e (as_map b ts)
+pub fault-told : (b : BoardView) (ts us : List TranslatorView) (e : MapFault) → us ≡ ts → fault_after b [] us ≡ Some e
+    → FailsRead e (as_map b ts)
 fault-told b ts us e same is =
     let here : fault_after b [] ts ≡ Some e = ap (fault_after b []) (sym same) ∙ is in
     fails-read e (as_map b ts) (subst IsTold here (after_told b [] ts)) (ap (λ o. unless_fault o ts) here)
@@ -127,7 +127,8 @@ map-told b ts us same is =
     ap (λ o. unless_fault o ts) (ap (fault_after b []) (sym same) ∙ is) ∙ ap (λ x. Ok x) (sym same)
 
 -- addresses are in range, as they are read
-range_of : (o : Option ℤ) → unwrap_or (option_map (is_from_to 0x08 0x77) o) false ≡ true → IsTargetAddress (unwrap_or (option_map nat_of o) 0)
+range_of : (o : Option ℤ) → unwrap_or (option_map (is_from_to 0x08 0x77) o) false ≡ true → IsTargetAddress
+    (unwrap_or (option_map nat_of o) 0)
 range_of None h = absurd (let f : false ≡ true = h in cc)
 range_of (Some (pos n)) h =
     let both = and_parts (int_le (pos 0x08) (pos n)) (int_le (pos n) (pos 0x77)) h in
@@ -158,17 +159,24 @@ addresses-fit ts =
     All-map (λ (t : TranslatorView). AreAddresses t.pairs) translator_value ts
     (λ k d low. pairs-fit (elements_in (get_member (codes "pairs") (get_or ts k d))))
 
-pub map-is : (b : BoardView) (ms : List Members) (us : List TranslatorView) → us ≡ map translator_value ms → fault_after b [] us ≡ None → IsMap b us
-map-is b ms us same is = record { fits = is; addresses = subst (λ ts. All (λ (t : TranslatorView). AreAddresses t.pairs) ts) (sym same) (addresses-fit ms) }
+pub map-is : (b : BoardView) (ms : List Members) (us : List TranslatorView) → us ≡ map translator_value ms → fault_after b [] us ≡ None
+    → IsMap b us
+map-is b ms us same is = record {
+  fits = is;
+  addresses = subst (λ ts. All (λ (t : TranslatorView). AreAddresses t.pairs) ts) (sym same)
+      (addresses-fit ms);
+}
 
 -- tables that are tested, and a fault of them
-pub rows-told : {X : Type 0} (see : X → List TranslatorView) (b : BoardView) (ms : Members) (n : ℕ) (rs : List Members) (r : Result X MapFault)
+pub rows-told : {X : Type 0} (see : X → List TranslatorView) (b : BoardView) (ms : Members) (n : ℕ) (rs : List Members)
+    (r : Result X MapFault)
     → n ≡ length b.muxes → Ok rs ≡ tested_rows n ms → GivesRead see r (as_map b (map translator_value rs)) → GivesRead see r (map_in b ms)
 rows-told see b ms n rs r muxes is gives =
     subst (GivesRead see r)
     (ap (λ x. x >>= λ rows. as_map b (map translator_value rows)) (is ∙ ap (λ k. tested_rows k ms) muxes)) gives
 
-pub rows-fail : (b : BoardView) (ms : Members) (n : ℕ) (e : MapFault) → n ≡ length b.muxes → Err e ≡ tested_rows n ms → FailsRead e (map_in b ms)
+pub rows-fail : (b : BoardView) (ms : Members) (n : ℕ) (e : MapFault) → n ≡ length b.muxes → Err e ≡ tested_rows n ms
+    → FailsRead e (map_in b ms)
 rows-fail b ms n e muxes is =
     let here : tested_rows (length b.muxes) ms ≡ Err e = ap (λ k. tested_rows k ms) (sym muxes) ∙ sym is in
     fails-read e (map_in b ms) (tested-told (length b.muxes) ms e here) (ap (λ x. x >>= λ rows. as_map b (map translator_value rows)) here)
@@ -188,7 +196,8 @@ pub in-document : (b : BoardView) (text : List ℕ) (ms : Members) → document_
 unfolding translators_of
 in-document b text ms is = ap (λ r. r >>= map_in b) is
 
-pub not-map : (b : BoardView) (text : List ℕ) (ms : Members) (e : MapFault) → document_of text ≡ Ok ms → FailsRead e (map_in b ms) → Fails b text e
+pub not-map : (b : BoardView) (text : List ℕ) (ms : Members) (e : MapFault) → document_of text ≡ Ok ms → FailsRead e (map_in b ms)
+    → Fails b text e
 not-map b text ms map_fault.Memory is h = tt
 not-map b text ms map_fault.NotToml is h = absurd h
 not-map b text ms (map_fault.Key i) is h = in-document b text ms is ∙ h

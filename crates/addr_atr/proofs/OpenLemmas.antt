@@ -1,27 +1,21 @@
 -- A device behind a translator is opened as on the board as written: none of these keeps its own address.
-use Rattle.std.proofs.Common.{◌≡◌, ℕ, zero, suc, Bool, true, false, not, ◌&&◌, ◌||◌, List, [], ◌∷◌, Option, Some, None, refl, sym, ◌∙◌, ap, map}
-use Rattle.std.specs.Prelude.{slice_get}
-use Rattle.std.specs.List.{list_all}
-use Rattle.std.proofs.lemmas.Bool.{eq-eqb, and_parts, not-true}
+use Rattle.addr_atr.proofs.Cited.{◌≡◌, ℕ, zero, suc, Bool, true, false, not, ◌&&◌, ◌||◌, List, [], ◌∷◌, Option, Some, None, refl, sym, ◌∙◌}
+use Rattle.addr_atr.proofs.Cited.{ap, map, slice_get, list_all, eq-eqb, and_parts, BoardView, DeviceView, IsPlainBoard, TargetState, Hop}
+use Rattle.addr_atr.proofs.Cited.{IsTree, AliasPair, alias_of, TranslatorView, Route, route_of, moved, lowered_device, lowered, is_over}
+use Rattle.addr_atr.proofs.Cited.{is_child, is_paired, are_distinct, has_child, is_served, IsMap}
+use Rattle.std.proofs.lemmas.Bool.{not-true}
 use Rattle.i2c_base.specs.declared.board.DeviceKind.{DeviceKind}
 use Rattle.i2c_base.specs.declared.board.DeviceKind.TheVariants as kind
-use Rattle.i2c_base.specs.Board.{BoardView, DeviceView, RunView}
-use Rattle.i2c_spec.specs.Plain.{IsPlainBoard}
-use Rattle.i2c_spec.specs.Targets.{TargetState, opening_state, row_of_kind}
-use Rattle.i2c_spec.specs.Tree.{Hop}
-use Rattle.i2c_spec.specs.TreeFacts.{IsTree}
-use Rattle.i2c_base.specs.declared.alias.AliasPair.{AliasPair}
-use Rattle.i2c_base.specs.Alias.{alias_of}
-use Rattle.addr_atr.specs.Maps.{TranslatorView, Route, route_of}
-use Rattle.addr_atr.specs.Lowering.{moved, lowered_device, lowered, is_over, is_child, is_smbus, is_paired, are_distinct, has_child, is_served, IsMap}
+use Rattle.i2c_base.specs.Board.{RunView}
+use Rattle.i2c_spec.specs.Targets.{opening_state, row_of_kind}
+use Rattle.addr_atr.specs.Lowering.{is_smbus}
 use Rattle.addr_atr.proofs.RouteLemmas.{IsRoute, IsFound, route-is, found}
 
 -- only an smbus device keeps its address
-opens_same : (k : DeviceKind) (a c : ℕ) (set : List RunView) → is_smbus k ≡ false → (row_of_kind k).opens a set ≡ (row_of_kind k).opens c set
-opens_same (kind.Eeprom size fill busy wp) a c set e = refl
-opens_same (kind.Lm75 raw) a c set e = refl
-opens_same (kind.Regs hold) a c set e = refl
+opens_same : (k : DeviceKind) (a c : ℕ) (set : List RunView) → is_smbus k ≡ false → (row_of_kind k).opens a set
+    ≡ (row_of_kind k).opens c set
 opens_same (kind.Smbus width flip) a c set e = absurd (let f : true ≡ false = e in cc)
+opens_same _ a c set e = refl
 
 -- each of a list passes the test that all pass
 all_at : {X : Type 0} (test : X → Bool) (xs : List X) (i : ℕ) (x : X) → list_all test xs ≡ true → slice_get xs i ≡ Some x → test x ≡ true
@@ -36,7 +30,8 @@ served true paired smbus e f = not-true smbus (and_parts paired (not smbus) f).1
 served false paired smbus e f = absurd (let g : false ≡ true = e in cc)
 
 module _ (b : BoardView) (plain : IsPlainBoard b) (tree : IsTree b) (ts : List TranslatorView) (is_map : IsMap b ts) where
-  not_smbus : (i : ℕ) (d : DeviceView) → slice_get b.devices i ≡ Some d → (r : Route) → route_of b ts d.bus ≡ Some r → is_smbus d.kind ≡ false
+  not_smbus : (i : ℕ) (d : DeviceView) → slice_get b.devices i ≡ Some d → (r : Route) → route_of b ts d.bus ≡ Some r
+      → is_smbus d.kind ≡ false
   not_smbus i d at r e =
       let is : IsRoute b ts d.bus r = route-is b ts d.bus r e in
       let f : IsFound b is.hop.mux r.pairs = found b plain tree ts is_map d.bus r is in
@@ -52,7 +47,8 @@ module _ (b : BoardView) (plain : IsPlainBoard b) (tree : IsTree b) (ts : List T
   opened_by i d at None e = refl
   opened_by i d at (Some r) e = opens_same d.kind (alias_of r.pairs d.addr) d.addr d.set (not_smbus i d at r e)
 
-  opened_from : (ds : List DeviceView) → ((i : ℕ) (d : DeviceView) → slice_get ds i ≡ Some d → opening_state (lowered_device b ts d) ≡ opening_state d)
+  opened_from : (ds : List DeviceView) → ((i : ℕ) (d : DeviceView) → slice_get ds i ≡ Some d
+      → opening_state (lowered_device b ts d) ≡ opening_state d)
       → map opening_state (map (lowered_device b ts) ds) ≡ map opening_state ds
   opened_from [] each = refl
   opened_from (d ∷ ds) each =

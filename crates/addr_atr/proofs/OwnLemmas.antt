@@ -1,20 +1,18 @@
 -- On every accepted board a device's own address on its own bus leads to that device, or is busy because a driver is bound to it.
 -- Each test of the grant goes over targets that have the address, and the rules leave none but the device.
-use Rattle.std.proofs.Common.{◌≡◌, ℕ, Bool, true, false, cond, not, ◌&&◌, ◌||◌, List, Option, Some, None, eqb, refl, sym, ◌∙◌, ap, subst, inl, inr, arith, zero-add, length, reverse}
-use Rattle.std.specs.Prelude.{slice_get, unwrap_or}
-use Rattle.std.specs.List.{list_any, position_from}
-use Rattle.std.specs.Option.{option_map}
-use Rattle.std.proofs.lemmas.Bool.{eqb-true, eq-eqb, and_from, false≢true}
+use Rattle.addr_atr.proofs.Cited.{◌≡◌, ℕ, Bool, true, false, cond, not, ◌&&◌, ◌||◌, List, Option, Some, None, eqb, refl, sym, ◌∙◌, ap}
+use Rattle.addr_atr.proofs.Cited.{subst, inl, arith, length, reverse, slice_get, unwrap_or, list_any, option_map, eqb-true, eq-eqb, MuxSpec}
+use Rattle.addr_atr.proofs.Cited.{Grant, BoardView, DeviceView, IsTree, grant_of}
+use Rattle.std.proofs.Common.{inr, zero-add}
+use Rattle.std.specs.List.{position_from}
+use Rattle.std.proofs.lemmas.Bool.{and_from, false≢true}
 use Rattle.std.proofs.Math.Bool.{or-true}
-use Rattle.i2c_base.specs.declared.board.MuxSpec.{MuxSpec}
 use Rattle.i2c_base.specs.declared.ids.Node.{Node}
 use Rattle.i2c_base.specs.declared.ids.Node.TheVariants as node
-use Rattle.i2c_base.specs.declared.tree.Grant.{Grant}
 use Rattle.i2c_base.specs.declared.tree.Grant.TheVariants as grant
-use Rattle.i2c_base.specs.Board.{BoardView, DeviceView}
 use Rattle.i2c_spec.specs.Tree.{is_below, is_on_path, is_aside, IsAlong}
-use Rattle.i2c_spec.specs.TreeFacts.{IsTree, home_of, addr_of}
-use Rattle.i2c_spec.specs.Grant.{has_address, some_chip, some_device, some_bound, named_by, grant_of}
+use Rattle.i2c_spec.specs.TreeFacts.{home_of, addr_of}
+use Rattle.i2c_spec.specs.Grant.{has_address, some_chip, some_device, some_bound, named_by}
 use Rattle.i2c_spec.specs.Plain.{IsPlanted}
 use Rattle.i2c_spec.proofs.TreeLemmas.{tree_above}
 use Rattle.bus_laws.proofs.world.Reach.{address_is}
@@ -133,7 +131,8 @@ module _ (b : BoardView) (tree : IsTree b) (planted : IsPlanted (length b.roots)
   own-grant force =
       busy_by (some_chip b x.addr (is_on_path b x.bus))
       (some_chip b x.addr (λ u. is_below b u x.bus) || some_device b x.addr (λ u. is_below b u x.bus))
-      (some_chip b x.addr (is_aside b x.bus) || some_device b x.addr (is_aside b x.bus)) (not force && some_bound b x.addr (is_on_path b x.bus))
+      (some_chip b x.addr (is_aside b x.bus) || some_device b x.addr (is_aside b x.bus)) (not force && some_bound b x.addr
+      (is_on_path b x.bus))
       (named_by (position_from (λ (y : DeviceView). eqb y.addr x.addr && is_on_path b x.bus y.bus) 0 b.devices))
       (no_chip (is_on_path b x.bus) path_along)
       (ap (λ (t : Bool). t || some_device b x.addr (λ u. is_below b u x.bus)) (no_chip (λ u. is_below b u x.bus) below_along) ∙ none_below)

@@ -1,15 +1,18 @@
 -- A message and its twin at another address, over flat worlds that grant the two addresses alike. The inductions go over the
 -- bytes of a write, over the bytes that are left to read, and over the messages.
-use Rattle.std.proofs.Common.{◌≡◌, ℕ, zero, suc, ◌+◌, ◌-◌, Bool, true, false, cond, ◌||◌, List, [], ◌∷◌, ◌++◌, length, Option, eqb, ltb, refl, sym, ◌∙◌, ap, subst}
+use Rattle.addr_atr.proofs.Cited.{◌≡◌, ℕ, zero, suc, ◌+◌, Bool, true, false, cond, ◌||◌, List, [], ◌∷◌, ◌++◌, length, Option, eqb, ltb}
+use Rattle.addr_atr.proofs.Cited.{refl, sym, ◌∙◌, ap, subst, MessageView, FlatListener, flat_listener, TalkTold, AllTold, is_it, is_empty}
+use Rattle.addr_atr.proofs.Cited.{is_good, with_read, talk, talk_all}
+use Rattle.std.proofs.Common.{◌-◌}
 use Rattle.i2c_base.specs.declared.event.Answer.{Answer}
 use Rattle.i2c_base.specs.declared.event.Answer.TheVariants as answer
 use Rattle.i2c_base.specs.declared.port.PortCall.{PortCall}
 use Rattle.i2c_base.specs.declared.port.PortCall.TheVariants as call
 use Rattle.i2c_base.specs.declared.entry.End.{End}
 use Rattle.i2c_base.specs.declared.entry.End.TheVariants as end
-use Rattle.i2c_spec.specs.Messages.{MessageView}
-use Rattle.i2c_spec.specs.Flat.{FlatListener, flat_listener, flat_after}
-use Rattle.i2c_spec.specs.Conversation.{Listener, Said, TalkTold, AllTold, is_it, is_empty, is_good, with_read, silence, say, with_byte, told, call_then, ended, puts, gets, gets_counted, by_answer, talk, talk_all}
+use Rattle.i2c_spec.specs.Flat.{flat_after}
+use Rattle.i2c_spec.specs.Conversation.{Listener, Said, silence, say, with_byte, told, call_then, ended, puts, gets, gets_counted}
+use Rattle.i2c_spec.specs.Conversation.{by_answer}
 use Rattle.i2c_spec.proofs.MessageLemmas.{IsLater}
 
 -- what two messages have said so far, but for the address in their first call
@@ -24,7 +27,8 @@ pub record ToldAlike (t u : TalkTold FlatListener) : Type 0 where
   pub end : t.end ≡ u.end
   pub now : t.now ≡ u.now
 
-cond_alike : (p q : Bool) (x y x2 y2 : TalkTold FlatListener) → p ≡ q → ToldAlike x x2 → ToldAlike y y2 → ToldAlike (cond p x y) (cond q x2 y2)
+cond_alike : (p q : Bool) (x y x2 y2 : TalkTold FlatListener) → p ≡ q → ToldAlike x x2 → ToldAlike y y2
+    → ToldAlike (cond p x y) (cond q x2 y2)
 cond_alike true true x y x2 y2 e hx hy = hx
 cond_alike false false x y x2 y2 e hx hy = hy
 cond_alike true false x y x2 y2 e hx hy = absurd (cc)
@@ -172,7 +176,8 @@ module _ (g h : ℕ → Option ℕ) where
       (by_answer k cut last limit (at_address m a) (k.answer w a m.reading) (say k (silence w) (call.Start a m.reading))) refl
       (told_said (say l (silence w) call.Fault) (say k (silence w) call.Fault) (end.Cut 0) (end.Cut 0) refl
       (record { calls = refl; bytes = refl; now = refl }))
-      (subst (λ (x : Answer). ToldAlike (by_answer l cut last limit m (l.answer w m.addr m.reading) (say l (silence w) (call.Start m.addr m.reading)))
+      (subst (λ (x : Answer). ToldAlike (by_answer l cut last limit m (l.answer w m.addr m.reading)
+      (say l (silence w) (call.Start m.addr m.reading)))
       (by_answer k cut last limit (at_address m a) x (say k (silence w) (call.Start a m.reading)))) (answered w m a e)
       (answer_alike cut last limit m (l.answer w m.addr m.reading) (say l (silence w) (call.Start m.addr m.reading))
       (say k (silence w) (call.Start a m.reading)) (record { calls = refl; bytes = refl; now = started w m a e })))
@@ -203,5 +208,6 @@ module _ (g h : ℕ → Option ℕ) where
       (all-renamed f limit u.now ms (i + 1) cuts (with_read got n u) alike.1)
       ∙ ap (λ (last : Bool). told_then got n (talk k limit w n last (cuts i)).end (talk k limit w n last (cuts i)).now
       (talk k limit w n last (cuts i)).bytes
-      (talk_all k limit (talk k limit w n last (cuts i)).now (renamed f ms) (i + 1) cuts (with_read got n (talk k limit w n last (cuts i)))))
+      (talk_all k limit (talk k limit w n last (cuts i)).now (renamed f ms) (i + 1) cuts (with_read got n
+      (talk k limit w n last (cuts i)))))
       (sym (renamed_empty f ms))

@@ -1,34 +1,27 @@
 -- A route leads from a translator's child bus to the bus that its mux stands on: one hop less, which is a line switch and lets each
 -- message through, and its pairs are of the devices on the child bus. And the lowered board is one that a board may be.
-use Rattle.std.proofs.Common.{◌≡◌, ℕ, ◌<◌, ◌≤◌, Bool, true, false, cond, not, ◌&&◌, ◌||◌, List, [], ◌∷◌, ◌++◌, Option, Some, None, eqb, ltb, refl, sym, ◌∙◌, ap, subst, inl, arith, length, reverse, map}
-use Rattle.std.specs.Prelude.{slice_get, unwrap_or, All}
-use Rattle.std.specs.List.{list_all, find}
-use Rattle.std.specs.Option.{option_map, option_map_or}
-use Rattle.std.proofs.lemmas.Bool.{eqb-true, and_parts, ltb-true}
-use Rattle.std.proofs.lemmas.List.{reverse-append, length-map}
-use Rattle.std.proofs.lemmas.List.Elements.{All-map, All-head, All-tail}
+use Rattle.addr_atr.proofs.Cited.{◌≡◌, ℕ, ◌<◌, ◌≤◌, Bool, true, false, cond, not, ◌&&◌, ◌||◌, List, [], ◌∷◌, ◌++◌, Option, Some, None, eqb}
+use Rattle.addr_atr.proofs.Cited.{ltb, refl, sym, ◌∙◌, ap, subst, inl, arith, length, reverse, map, slice_get, unwrap_or, All, list_all}
+use Rattle.addr_atr.proofs.Cited.{option_map, option_map_or, eqb-true, and_parts, length-map, All-map, All-head, All-tail, MuxSpec, Way}
+use Rattle.addr_atr.proofs.Cited.{IsTargetAddress, BoardView, DeviceView, way_of, IsPlainBoard, Hop, hops, buses, root_of, IsTree}
+use Rattle.addr_atr.proofs.Cited.{MeetsRules, tree_of, MapFault, AliasPair, alias_of, TranslatorView, Route, pairs_of, route_of, moved}
+use Rattle.addr_atr.proofs.Cited.{lowered_device, lowered, is_over, is_child, may_translate, is_paired, are_distinct, has_child, is_served}
+use Rattle.addr_atr.proofs.Cited.{are_pairs_of, fault_after, AreAddresses, IsMap}
+use Rattle.std.specs.List.{find}
+use Rattle.std.proofs.lemmas.Bool.{ltb-true}
+use Rattle.std.proofs.lemmas.List.{reverse-append}
 use Rattle.i2c_base.specs.declared.board.MuxKind.{MuxKind}
 use Rattle.i2c_base.specs.declared.board.MuxKind.TheVariants as mux_kind
-use Rattle.i2c_base.specs.declared.board.MuxSpec.{MuxSpec}
 use Rattle.i2c_base.specs.declared.board.RootSpec.{RootSpec}
-use Rattle.i2c_base.specs.declared.tree.Way.{Way}
 use Rattle.i2c_base.specs.declared.tree.Way.TheVariants as way
-use Rattle.i2c_base.specs.Addr.{IsTargetAddress}
-use Rattle.i2c_base.specs.Board.{BoardView, DeviceView}
 use Rattle.i2c_base.specs.Limits.{POLLS, MOST_DEVICES}
-use Rattle.i2c_spec.specs.Grant.{way_through, way_of}
-use Rattle.i2c_spec.specs.Plain.{FitsChip, FitsForeign, IsPlainMux, IsPlainDevice, IsPlainBoard}
-use Rattle.i2c_spec.specs.Tree.{Hop, hops, buses, root_of, over, of_mux, is_absent, is_held, IsAmongHops}
-use Rattle.i2c_spec.specs.TreeFacts.{IsTree}
-use Rattle.i2c_spec.specs.Rules.{MeetsRules}
-use Rattle.i2c_spec.proofs.AddressLemmas.{tree_of}
+use Rattle.i2c_spec.specs.Grant.{way_through}
+use Rattle.i2c_spec.specs.Plain.{FitsChip, FitsForeign, IsPlainMux, IsPlainDevice}
+use Rattle.i2c_spec.specs.Tree.{over, of_mux, is_absent, is_held, IsAmongHops}
 use Rattle.bus_laws.proofs.world.BoardFacts.{plain_mux, get_within}
-use Rattle.addr_atr.specs.declared.fault.MapFault.{MapFault}
 use Rattle.addr_atr.specs.declared.fault.MapFault.TheVariants as map_fault
-use Rattle.i2c_base.specs.declared.alias.AliasPair.{AliasPair}
-use Rattle.i2c_base.specs.Alias.{alias_of}
-use Rattle.addr_atr.specs.Maps.{TranslatorView, Route, pairs_of, route_over, route_of}
-use Rattle.addr_atr.specs.Lowering.{moved, lowered_device, lowered, is_over, is_child, is_gpio, is_single, is_named, is_parent_bus, may_translate, is_paired, are_distinct, has_child, is_served, are_pairs_of, fault_after, AreAddresses, IsMap}
+use Rattle.addr_atr.specs.Maps.{route_over}
+use Rattle.addr_atr.specs.Lowering.{is_gpio, is_single, is_named, is_parent_bus}
 use Rattle.i2c_base.proofs.ListLemmas.{any_found}
 
 -- WHAT A ROUTE IS
@@ -116,7 +109,8 @@ record IsLine (b : BoardView) (m : ℕ) : Type 0 where
   there : is_absent b m ≡ false
   free : is_held b m ≡ false
 
-line_facts : (k : MuxKind) (addr : Option ℕ) (absent : Bool) (foreign : ℕ) → is_gpio k ≡ true → FitsChip k addr absent → FitsForeign k foreign
+line_facts : (k : MuxKind) (addr : Option ℕ) (absent : Bool) (foreign : ℕ) → is_gpio k ≡ true → FitsChip k addr absent
+    → FitsForeign k foreign
     → (absent ≡ false) × (foreign ≡ 0)
 line_facts mux_kind.Gpio addr absent foreign e chip other = (chip.1, other)
 line_facts mux_kind.Pca9548 addr absent foreign e chip other = absurd (let f : false ≡ true = e in cc)
@@ -229,7 +223,8 @@ module _ (b : BoardView) (plain : IsPlainBoard b) (tree : IsTree b) (ts : List T
       let t : TranslatorView = record { mux = i.hop.mux; pairs = r.pairs } in
       let all = and_parts (list_all (λ (p : AliasPair). has_child b i.hop.mux p.addr) r.pairs)
       (list_all (is_served b t) b.devices && are_distinct r.pairs) (found s r i).paired in
-      let f = any_found (λ (d : DeviceView). is_child b i.hop.mux d.bus && (eqb d.addr a)) b.devices (any_paired b i.hop.mux a r.pairs paired all.0) in
+      let f = any_found (λ (d : DeviceView). is_child b i.hop.mux d.bus && (eqb d.addr a)) b.devices
+      (any_paired b i.hop.mux a r.pairs paired all.0) in
       let both = and_parts (is_child b i.hop.mux f.1.bus) (eqb f.1.addr a) f.3 in
       let low : f.1.bus < buses b =
       (let w = get_within b.devices f.0 f.1 f.1 f.2 in subst (λ (x : DeviceView). x.bus < buses b) w.1 (plain.placed f.0 f.1 w.0)) in

@@ -1,17 +1,9 @@
 -- Histories behind translators are those of the board as written. The induction goes over the transfers, the newest first.
-use Rattle.std.proofs.Common.{◌≡◌, ℕ, List, [], ◌∷◌, Option, Some, None, refl, ◌∙◌, ap}
-use Rattle.std.specs.Option.{option_map, option_and_then}
-use Rattle.i2c_base.specs.declared.reply.Cut.{Cut}
-use Rattle.i2c_base.specs.Board.{BoardView}
-use Rattle.i2c_base.specs.Transfer.{TransferView}
-use Rattle.i2c_spec.specs.Flat.{FlatTold, flat}
+use Rattle.addr_atr.proofs.Cited.{◌≡◌, ℕ, List, [], ◌∷◌, Option, Some, None, refl, ◌∙◌, ap, option_map, Cut, BoardView, TransferView}
+use Rattle.addr_atr.proofs.Cited.{FlatTold, flat, IsPlainBoard, MeetsRules, TargetState, tree_of, lowered, translated, IsMap}
+use Rattle.addr_atr.proofs.Cited.{TranslatorView}
+use Rattle.std.specs.Option.{option_and_then}
 use Rattle.i2c_spec.specs.History.{Asks, History, with_told, one_more, history}
-use Rattle.i2c_spec.specs.Plain.{IsPlainBoard}
-use Rattle.i2c_spec.specs.Rules.{MeetsRules}
-use Rattle.i2c_spec.specs.Targets.{TargetState}
-use Rattle.i2c_spec.proofs.AddressLemmas.{tree_of}
-use Rattle.addr_atr.specs.Lowering.{lowered, translated, IsMap}
-use Rattle.addr_atr.specs.Maps.{TranslatorView}
 use Rattle.addr_atr.specs.Runs.{translated_asks, AsksBehind}
 use Rattle.addr_atr.proofs.OpenLemmas.{lowered-opens}
 use Rattle.addr_atr.proofs.TranslateLemmas.{same-told}

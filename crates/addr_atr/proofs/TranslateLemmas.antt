@@ -1,39 +1,27 @@
 -- A transfer to paired addresses does the same on the board as written and, translated, on the lowered board: each address leads to the
 -- same device, the way is the same, and so is what is refused. It leaves each device that it doesn't name. The inductions go over
 -- the messages.
-use Rattle.std.proofs.Common.{◌≡◌, ℕ, ◌+◌, Bool, true, false, cond, not, ◌&&◌, ◌||◌, List, [], ◌∷◌, Option, Some, None, eqb, ltb, refl, sym, ◌∙◌, ap, arith, map, take, drop}
-use Rattle.std.specs.Prelude.{slice_get, unwrap_or, All}
-use Rattle.std.specs.List.{list_any}
-use Rattle.std.specs.Option.{option_map}
-use Rattle.std.proofs.lemmas.Bool.{eqb-true, lt-ltb}
-use Rattle.std.proofs.lemmas.List.Elements.{All-head, All-tail}
+use Rattle.addr_atr.proofs.Cited.{◌≡◌, ℕ, ◌+◌, Bool, true, false, cond, not, ◌&&◌, ◌||◌, List, [], ◌∷◌, Option, Some, None, eqb, ltb, refl}
+use Rattle.addr_atr.proofs.Cited.{sym, ◌∙◌, ap, arith, map, take, drop, slice_get, unwrap_or, All, list_any, option_map, eqb-true, lt-ltb}
+use Rattle.addr_atr.proofs.Cited.{All-head, All-tail, Cut, Reply, Grant, Way, Msg, BoardView, DeviceView, TransferView, AllTold, TalkTold}
+use Rattle.addr_atr.proofs.Cited.{talk, talk_all, is_good, is_empty, is_it, with_read, FlatListener, FlatTold, flat, flat_listener}
+use Rattle.addr_atr.proofs.Cited.{block_limit, grant_of, way_of, MessageView, IsPlainBoard, MeetsRules, TargetState, buses, root_of, IsTree}
+use Rattle.addr_atr.proofs.Cited.{tree_of, alias_of, readdressed, redirected, TranslatorView, Route, route_of, moved, lowered_device}
+use Rattle.addr_atr.proofs.Cited.{lowered, sent_by, translated, is_paired, IsMap}
 use Rattle.i2c_base.specs.declared.errno.Errno.{Errno}
 use Rattle.i2c_base.specs.declared.errno.Errno.TheVariants as errno
-use Rattle.i2c_base.specs.declared.reply.Cut.{Cut}
-use Rattle.i2c_base.specs.declared.reply.Reply.{Reply}
 use Rattle.i2c_base.specs.declared.reply.Reply.TheVariants as reply
-use Rattle.i2c_base.specs.declared.tree.Grant.{Grant}
 use Rattle.i2c_base.specs.declared.tree.Grant.TheVariants as grant
-use Rattle.i2c_base.specs.declared.tree.Way.{Way}
-use Rattle.i2c_base.specs.declared.transfer.Msg.{Msg}
-use Rattle.i2c_base.specs.Board.{BoardView, DeviceView}
-use Rattle.i2c_base.specs.Transfer.{TransferView, written_of}
+use Rattle.i2c_base.specs.Transfer.{written_of}
 use Rattle.i2c_base.proofs.ListLemmas.{map_at}
-use Rattle.i2c_spec.specs.Conversation.{AllTold, TalkTold, talk, talk_all, is_good, is_empty, is_it, with_read}
-use Rattle.i2c_spec.specs.Flat.{FlatListener, FlatTold, flat, flat_by, flat_told, flat_messages, flat_listener, idle, granted_on, block_limit, cut_in, is_any_busy, is_plain, is_smbus_only, refusal, barred, first_of, is_way_cut, way_errno, or_done, errno_of}
-use Rattle.i2c_spec.specs.Grant.{grant_of, is_busy, named_of, way_of}
-use Rattle.i2c_spec.specs.Messages.{MessageView, messages_from, messages_of, message_with}
-use Rattle.i2c_spec.specs.Plain.{IsPlainBoard}
-use Rattle.i2c_spec.specs.Rules.{MeetsRules}
-use Rattle.i2c_spec.specs.Targets.{TargetState}
-use Rattle.i2c_spec.specs.Tree.{buses, root_of, of_device}
-use Rattle.i2c_spec.specs.TreeFacts.{IsTree}
-use Rattle.i2c_spec.proofs.AddressLemmas.{tree_of}
+use Rattle.i2c_spec.specs.Flat.{flat_by, flat_told, flat_messages, idle, granted_on, cut_in, is_any_busy, is_plain, is_smbus_only, refusal}
+use Rattle.i2c_spec.specs.Flat.{barred, first_of, is_way_cut, way_errno, or_done, errno_of}
+use Rattle.i2c_spec.specs.Grant.{is_busy, named_of}
+use Rattle.i2c_spec.specs.Messages.{messages_from, messages_of, message_with}
+use Rattle.i2c_spec.specs.Tree.{of_device}
 use Rattle.bus_laws.specs.Alike.{IsUnnamed}
 use Rattle.bus_laws.proofs.device.Stay.{talk-unnamed}
-use Rattle.i2c_base.specs.Alias.{alias_of, readdressed, redirected}
-use Rattle.addr_atr.specs.Maps.{TranslatorView, Route, route_of}
-use Rattle.addr_atr.specs.Lowering.{moved, lowered_device, lowered, sent_by, translated, is_paired, IsMap, IsPaired}
+use Rattle.addr_atr.specs.Lowering.{IsPaired}
 use Rattle.addr_atr.proofs.CostLemmas.{readdressed-reads}
 use Rattle.addr_atr.proofs.OwnLemmas.{own-grant}
 use Rattle.addr_atr.proofs.RenameLemmas.{renamed, AreGrantedAlike, all-renamed}
@@ -78,15 +66,19 @@ module _ (b c : BoardView) (t : TransferView) (bus : ℕ) (f : ℕ → ℕ)
   same_refusal : refusal c u ≡ refusal b t
   same_refusal =
       ap (λ (y : Bool). cond (not y) (Some errno.Enodev)
-      (cond (is_plain t.kind && is_smbus_only c (root_of c bus)) (Some errno.Eopnotsupp) (cond (is_any_busy c u) (Some errno.Ebusy) None))) there
+      (cond (is_plain t.kind && is_smbus_only c (root_of c bus)) (Some errno.Eopnotsupp) (cond (is_any_busy c u) (Some errno.Ebusy) None)))
+      there
       ∙ ap (λ (y : Bool). cond (is_plain t.kind && y) (Some errno.Eopnotsupp) (cond (is_any_busy c u) (Some errno.Ebusy) None)) offers
-      ∙ ap (λ (y : Bool). cond (is_plain t.kind && is_smbus_only b (root_of b t.bus)) (Some errno.Eopnotsupp) (cond y (Some errno.Ebusy) None)) same_busy
+      ∙ ap (λ (y : Bool). cond (is_plain t.kind && is_smbus_only b (root_of b t.bus)) (Some errno.Eopnotsupp)
+      (cond y (Some errno.Ebusy) None)) same_busy
       ∙ sym (ap (λ (y : Bool). cond (not y) (Some errno.Enodev)
-      (cond (is_plain t.kind && is_smbus_only b (root_of b t.bus)) (Some errno.Eopnotsupp) (cond (is_any_busy b t) (Some errno.Ebusy) None))) here)
+      (cond (is_plain t.kind && is_smbus_only b (root_of b t.bus)) (Some errno.Eopnotsupp) (cond (is_any_busy b t)
+      (Some errno.Ebusy) None))) here)
 
   same_barred : (cut : Cut) → barred c u cut ≡ barred b t cut
   same_barred cut =
-      ap (λ (o : Option Errno). first_of o (first_of (cond (is_way_cut cut) (Some errno.Eremoteio) None) (way_errno (way_of c bus)))) same_refusal
+      ap (λ (o : Option Errno). first_of o (first_of (cond (is_way_cut cut) (Some errno.Eremoteio) None) (way_errno (way_of c bus))))
+      same_refusal
       ∙ ap (λ (w : Way). first_of (refusal b t) (first_of (cond (is_way_cut cut) (Some errno.Eremoteio) None) (way_errno w))) ways
 
   same_messages : (xs : List TargetState) (cut : Cut) → flat_messages c xs u cut ≡ flat_messages b xs t cut
@@ -94,8 +86,10 @@ module _ (b c : BoardView) (t : TransferView) (bus : ℕ) (f : ℕ → ℕ)
       ap (λ (n : ℕ). talk_all (flat_listener (granted_on c bus t.force)) n (idle xs) (messages_of u) 0 (cut_in cut) []) version
       ∙ ap (λ (ms : List MessageView). talk_all (flat_listener (granted_on c bus t.force)) (block_limit b) (idle xs) ms 0 (cut_in cut) [])
       (readdressed-messages f t.msgs t.out)
-      ∙ sym (all-renamed (granted_on b t.bus t.force) (granted_on c bus t.force) f (block_limit b) (idle xs) (messages_of t) 0 (cut_in cut) []
-      (alike_granted (granted_on b t.bus t.force) (granted_on c bus t.force) f t.msgs t.out (λ k d low. ap named_of (sym (grants k d low)))))
+      ∙ sym (all-renamed (granted_on b t.bus t.force) (granted_on c bus t.force) f (block_limit b) (idle xs) (messages_of t) 0
+      (cut_in cut) []
+      (alike_granted (granted_on b t.bus t.force) (granted_on c bus t.force) f t.msgs t.out
+      (λ k d low. ap named_of (sym (grants k d low)))))
 
   same_reply : (got : List ℕ) (o : Option Errno) → or_done o u got ≡ or_done o t got
   same_reply got None = ap (λ (reads : Bool). cond reads (reply.Read got) reply.Done) (readdressed-reads f t.msgs)
@@ -115,14 +109,16 @@ module _ (b c : BoardView) (t : TransferView) (bus : ℕ) (f : ℕ → ℕ)
 
 -- WHAT IT LEAVES: a device that none of its addresses is granted
 module _ (b : BoardView) (t : TransferView) (d : ℕ) where
-  talk_leaves : (o : Option TargetState) (limit : ℕ) (f : FlatListener) (ms : List Msg) (out : List ℕ) (i : ℕ) (cuts : ℕ → Option ℕ) (got : List ℕ)
+  talk_leaves : (o : Option TargetState) (limit : ℕ) (f : FlatListener) (ms : List Msg) (out : List ℕ) (i : ℕ) (cuts : ℕ → Option ℕ)
+      (got : List ℕ)
       → All (λ m. is_it (granted_on b t.bus t.force m.addr) d ≡ false) ms → IsUnnamed d o f
       → slice_get (talk_all (flat_listener (granted_on b t.bus t.force)) limit f (messages_from ms out) i cuts got).now.states d ≡ o
   talk_leaves o limit f [] out i cuts got all none = none.2
   talk_leaves o limit f (m ∷ ms) out i cuts got all none =
       let g = granted_on b t.bus t.force in
       let n : MessageView = message_with m (take (written_of m) out) in
-      let told : TalkTold FlatListener = talk (flat_listener g) limit f n (is_empty (messages_from ms (drop (written_of m) out))) (cuts i) in
+      let told : TalkTold FlatListener = talk (flat_listener g) limit f n (is_empty (messages_from ms (drop (written_of m) out)))
+      (cuts i) in
       let after : IsUnnamed d o told.now =
       talk-unnamed d o g limit f n (is_empty (messages_from ms (drop (written_of m) out))) (cuts i)
       (All-head (λ m. is_it (g m.addr) d ≡ false) m ms all) none in
@@ -178,7 +174,8 @@ module _ (b : BoardView) (plain : IsPlainBoard b) (meets : MeetsRules b) (ts : L
         ap (λ (o : Option Route). flat (lowered b ts) xs (sent_by o t) cut) route
         ∙ flat-alike b (lowered b ts) t r.bus (alias_of r.pairs) refl (lt-ltb t.bus (buses b) is_route.within)
         (lt-ltb r.bus (buses b) (omega (arith, is_route.within, route-before b plain the_tree ts is_map t.bus r is_route)))
-        (ap (λ (n : ℕ). is_smbus_only b n) (route-root b the_tree ts t.bus r is_route)) (route-way b plain the_tree ts is_map t.bus r is_route)
+        (ap (λ (n : ℕ). is_smbus_only b n) (route-root b the_tree ts t.bus r is_route))
+        (route-way b plain the_tree ts is_map t.bus r is_route)
         (λ k d low. lowered-grant t.bus r route _ t.force (paired k d low)) xs cut
 
     -- a device on another bus, or none, isn't granted

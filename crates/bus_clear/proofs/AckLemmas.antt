@@ -1,26 +1,21 @@
 -- The rise of the acknowledge clock of a read that is cut off: in time, or so late that all have let SDA go.
-use Rattle.std.proofs.Common.{◌≡◌, ℕ, zero, suc, ◌+◌, ◌-◌, ◌/◌, ◌<◌, ◌≤◌, Bool, true, false, cond, List, [], ◌∷◌, map, refl, ap, sym, ◌∙◌, arith, subst}
-use Rattle.std.specs.Prelude.{not, ◌==◌}
-use Rattle.std.specs.List.{AllByRecursion}
-use Rattle.std.proofs.lemmas.Bool.Decides.{nat_tests}
-use Rattle.i2c_base.specs.Bytes.{IsByte}
-use Rattle.i2c_base.specs.Table.{Table}
+use Rattle.bus_clear.proofs.Cited.{◌≡◌, ℕ, zero, suc, ◌+◌, ◌-◌, ◌/◌, ◌<◌, ◌≤◌, Bool, true, false, cond, List, [], ◌∷◌, map, refl, ap, sym}
+use Rattle.bus_clear.proofs.Cited.{◌∙◌, arith, subst, not, ◌==◌, AllByRecursion, nat_tests, IsByte, Table, IsFairTable, is_ack, Out, Give}
+use Rattle.bus_clear.proofs.Cited.{Site, Bit, site_of, shifted, fall, tick, begin, is_named, is_reading, stands, some_one, pulls_line, sda}
+use Rattle.bus_clear.proofs.Cited.{where_joined, at, Mask, Counts, one_edge, Bus, Came, holds_line, scl_level, sda_level, each, rises}
+use Rattle.bus_clear.proofs.Cited.{bus_of, came_up, gave_up, calling, started, stays, answers_so, released, map_step, map_map, some_map}
+use Rattle.bus_clear.proofs.Cited.{looks_up, goes_down, sets_data, waiting, wait_bus, stays_free}
 use Rattle.i2c_base.specs.declared.event.Event.TheVariants.{Start}
-use Rattle.i2c_spec.specs.Targets.{IsFairTable}
-use Rattle.i2c_spec.specs.World.{is_ack, has_heard}
-use Rattle.wire_spec.specs.declared.mode.Mode.TheVariants.{Out, In, Give}
-use Rattle.wire_spec.specs.Wires.{Site, Bit, site_of, shifted, fall, tick, begin, is_named, is_reading, stands}
-use Rattle.wire_spec.specs.Roots.{some_one, pulls_line, sda, where_joined, at}
-use Rattle.wire_spec.specs.Bus.{Mask, Counts, one_edge, Bus, Came, holds_line, scl_level, sda_level, each, rises, pulled, looked, await, bus_of, came_up, gave_up}
-use Rattle.wire_spec.specs.Started.{calling, started, stays, late_bus, rose, answers_so}
-use Rattle.wire_spec.specs.Calls.{released}
-use Rattle.wire_spec.proofs.Roots.{map_step, map_map, some_map}
-use Rattle.wire_spec.proofs.Calm.{looks_up, goes_down, sets_data}
-use Rattle.wire_spec.proofs.AckClock.{waiting, waiting_if, acknowledges, wait_bus, wait_level, let_go, goes_on, settled_all, by_busy, or_left, or_right, fall_all, pulls_one, gone}
+use Rattle.i2c_spec.specs.World.{has_heard}
+use Rattle.wire_spec.specs.declared.mode.Mode.TheVariants.{In}
+use Rattle.wire_spec.specs.Bus.{pulled, looked, await}
+use Rattle.wire_spec.specs.Started.{late_bus, rose}
+use Rattle.wire_spec.proofs.AckClock.{waiting_if, acknowledges, wait_level, let_go, goes_on, settled_all, by_busy, or_left, or_right}
+use Rattle.wire_spec.proofs.AckClock.{fall_all, pulls_one, gone}
 use Rattle.wire_spec.proofs.SlowClock.{slow_clock}
-use Rattle.wire_spec.proofs.StartClocks.{stays_free}
 use Rattle.wire_spec.proofs.StartLemmas.{ack_all, not_slow}
-use Rattle.wire_spec.proofs.LateStops.{resting, resting_if, held, held_if, left_hold, started_if, late_map, held_same, tick_r, rise_r, holds_r}
+use Rattle.wire_spec.proofs.LateStops.{resting, resting_if, held, held_if, left_hold, started_if, late_map, held_same, tick_r, rise_r}
+use Rattle.wire_spec.proofs.LateStops.{holds_r}
 use Rattle.bus_clear.specs.Pulls.{cut_rise}
 use Rattle.bus_clear.proofs.AddressLemmas.{Frees, frees_at_once}
 use Rattle.std.proofs.lemmas.Bool.{or_from}
@@ -61,7 +56,8 @@ module _ {X : Type 0} (t : Table X) (byte : ℕ) (ss : List (Site X)) where
       (waits_by r (suc j) n c (omega (arith, sum)) (omega (arith, le)) quick (some_one (stays t byte (suc j)) ss) refl)
 
   goes : (mask : Mask X) (c : Counts)
-      → pulled t mask (bus_of true false (map (waiting t byte 65 0) ss) c) false false ≡ wait_bus t byte 65 0 ss (rose (some_one (stays t byte 0) ss) c)
+      → pulled t mask (bus_of true false (map (waiting t byte 65 0) ss) c) false false ≡ wait_bus t byte 65 0 ss
+      (rose (some_one (stays t byte 0) ss) c)
   unfolding pulled
   goes mask c = let_go t byte 65 0 ss c
 
@@ -128,11 +124,13 @@ pub record OutOn {X : Type 0} (gs : List (Site X)) (w : Bus X) : Type 0 where
   pub is : w ≡ bus_of false false (map released gs) counts
 
 -- ---- too late: all are out of the message, and SCL comes up within 255 looks
-more_if : {X : Type 0} (high : Bool) (a b d : Came X) (w1 : Bus X) → a.up ≡ true → (b ≡ gave_up w1 → d ≡ d) → cond high a b ≡ gave_up w1 → high ≡ false
+more_if : {X : Type 0} (high : Bool) (a b d : Came X) (w1 : Bus X) → a.up ≡ true → (b ≡ gave_up w1 → d ≡ d) → cond high a b ≡ gave_up w1
+    → high ≡ false
 more_if true a b d w1 up f e = sym up ∙ ap (λ (x : Came _). x.up) e
 more_if false a b d w1 up f e = refl
 
-await_more : {X : Type 0} (t : Table X) (v n m all : ℕ) (w w1 : Bus X) → all ≡ n + m → await t v n w ≡ gave_up w1 → await t v all w ≡ await t v m w1
+await_more : {X : Type 0} (t : Table X) (v n m all : ℕ) (w w1 : Bus X) → all ≡ n + m → await t v n w ≡ gave_up w1
+    → await t v all w ≡ await t v m w1
 unfolding await
 await_more {X} t v zero m all w w1 is e =
     let n : all ≡ m = omega (arith, is) in
@@ -150,12 +148,14 @@ module _ {A X : Type 0} (t : Table X) (g : A → Site X) (rest : A → ℕ) (ss 
   bus_at j c = bus_of false false (map (resting g rest j) ss) c
 
   level_at : (j : ℕ) (c : Counts) → scl_level (bus_at j c) ≡ not (some_one (held g rest j) ss)
-  level_at j c = ap not (some_map (resting g rest j) holds_line (held g rest j) (λ s. holds_r (rest s) j (g s).addr (g s).joined (g s).heard (g s).state) ss)
+  level_at j c = ap not (some_map (resting g rest j) holds_line (held g rest j) (λ s. holds_r (rest s) j (g s).addr (g s).joined (g s).heard
+      (g s).state) ss)
 
   rises_at : (j : ℕ) (c : Counts) → rises t (bus_at j c) ≡ bus_at j (one_edge c)
   rises_at j c =
       ap (λ bs. bus_of false false bs (one_edge c))
-      (map_step (resting g rest j) (resting g rest j) _ (λ s. rise_r t (sda t (map (resting g rest j) ss) true) (rest s) j (g s).addr (g s).joined
+      (map_step (resting g rest j) (resting g rest j) _ (λ s. rise_r t (sda t (map (resting g rest j) ss) true) (rest s) j (g s).addr
+      (g s).joined
       (g s).heard (g s).state) ss)
 
   look_at : (j : ℕ) (c : Counts) → some_one (held g rest j) ss ≡ true
@@ -165,7 +165,8 @@ module _ {A X : Type 0} (t : Table X) (g : A → Site X) (rest : A → ℕ) (ss 
       let w : Bus X = bus_at j c in
       let e : each tick w ≡ bus_at (suc j) c =
       ap (λ bs. bus_of false false bs c)
-      (map_step (resting g rest j) (resting g rest (suc j)) _ (λ s. tick_r (rest s) j (g s).addr (g s).joined (g s).heard (g s).state) ss) in
+      (map_step (resting g rest j) (resting g rest (suc j)) _ (λ s. tick_r (rest s) j (g s).addr (g s).joined (g s).heard
+      (g s).state) ss) in
       ap (λ u. cond u w (cond (scl_level (each tick w)) (rises t (each tick w)) (each tick w))) (level_at j c ∙ ap not busy)
       ∙ (ap (λ v. cond (scl_level v) (rises t v) v) e
       ∙ by_busy (bus_at (suc j)) c (some_one (held g rest (suc j)) ss) _ _ _ (level_at (suc j) c) (rises_at (suc j) c) refl)
@@ -197,7 +198,8 @@ module _ {A X : Type 0} (t : Table X) (g : A → Site X) (rest : A → ℕ) (ss 
       let e : await t 0 (suc n) (bus_at j (rose (some_one (held g rest j) ss) c))
       ≡ await t 0 n (bus_at (suc j) (rose (some_one (held g rest (suc j)) ss) c)) =
       ap (λ b. await t 0 (suc n) (bus_at j (rose b c))) is
-      ∙ (ap (λ u. cond {A = Came X} u (came_up (shifted 0 (sda_level t w)) (looked t w)) (await t 0 n (looked t w))) (level_at j c ∙ ap not is)
+      ∙ (ap (λ u. cond {A = Came X} u (came_up (shifted 0 (sda_level t w)) (looked t w)) (await t 0 n (looked t w)))
+      (level_at j c ∙ ap not is)
       ∙ ap (await t 0 n) (look_at j c is)) in
       subst (λ (x : Came X). Rests x.bus) (sym e)
       (rests_by n (suc j) most c (omega (arith, sum)) quick (some_one (held g rest (suc j)) ss) refl)
@@ -230,7 +232,8 @@ rest_short true true h lt = grind (arith, nat_tests)
 rest_short true false h lt = refl
 rest_short false heard h lt = refl
 
-rest_one : {X : Type 0} (t : Table X) (byte : ℕ) (s : Site X) (joined : Bool) → t.hold s.state < 256 → held_if (left_hold t byte s) 190 joined ≡ false
+rest_one : {X : Type 0} (t : Table X) (byte : ℕ) (s : Site X) (joined : Bool) → t.hold s.state < 256
+    → held_if (left_hold t byte s) 190 joined ≡ false
 rest_one t byte s true lt = rest_short (is_named byte s) (has_heard (t.answer s.state (Start (is_reading byte)))) (t.hold s.state) lt
 rest_one t byte s false lt = refl
 
@@ -238,7 +241,8 @@ all_rest : {X : Type 0} (t : Table X) (byte : ℕ) (ss : List (Site X)) → AllB
     → some_one (held (started t byte) (left_hold t byte) 190) ss ≡ false
 all_rest t byte [] all = refl
 all_rest t byte (s ∷ ss) all =
-    or_from (held (started t byte) (left_hold t byte) 190 s) _ (rest_one t byte s (started t byte s).joined all.0) (all_rest t byte ss all.1)
+    or_from (held (started t byte) (left_hold t byte) 190 s) _ (rest_one t byte s (started t byte s).joined all.0)
+    (all_rest t byte ss all.1)
 
 pub ninth_too_late : {X : Type 0} (t : Table X) (mask : Mask X) (byte : ℕ) (ss : List (Site X)) (low : Bool) (c : Counts)
     → AllByRecursion (λ (s : Site X). IsByte (t.hold s.state)) ss → some_one (stays t byte 64) ss ≡ true

@@ -1,23 +1,13 @@
 -- A read that is cut off in its address byte, and bus clear after it.
-use Rattle.std.proofs.Common.{◌≡◌, ℕ, zero, suc, ◌+◌, Bool, true, false, cond, List, [], ◌∷◌, map, refl, ap, sym, ◌∙◌, arith, subst}
-use Rattle.std.specs.Prelude.{not, ◌&&◌}
-use Rattle.i2c_base.specs.Table.{Table}
-use Rattle.wire_spec.specs.declared.mode.Mode.TheVariants.{Out}
-use Rattle.wire_spec.specs.Wires.{Site, Bit, site_of, shifted, value, rise, begin, finish, called, hears, other, is_named, is_reading, stands}
-use Rattle.wire_spec.specs.Roots.{some_one, pulls_line, sda, where_joined, stop_site}
-use Rattle.wire_spec.specs.Bus.{Mask, Counts, one_edge, one_flip, Bus, holds_line, scl_level, sda_level, pulled, bus_of}
-use Rattle.wire_spec.specs.Started.{calling, started}
-use Rattle.wire_spec.specs.Calls.{released, rejoin, free}
-use Rattle.wire_spec.proofs.Roots.{map_step, map_map, some_map, no_one}
-use Rattle.wire_spec.proofs.Calm.{risen}
-use Rattle.wire_spec.proofs.Address.{call_one, call_sda}
-use Rattle.wire_spec.proofs.StartClocks.{call_calm, stays_free}
-use Rattle.wire_spec.proofs.Stops.{stop_run}
-use Rattle.bus_clear.specs.Cuts.{MOST_PULSES}
-use Rattle.bus_clear.specs.Pulls.{cut_level, cut_rise, cut_clock, cut_clocks, clearing, clear_pulls}
-use Rattle.bus_clear.specs.declared.cleared.Cleared.TheVariants.{Free}
+use Rattle.bus_clear.proofs.Cited.{◌≡◌, ℕ, zero, suc, ◌+◌, Bool, true, false, cond, List, [], ◌∷◌, map, refl, ap, sym, ◌∙◌, arith, subst}
+use Rattle.bus_clear.proofs.Cited.{not, ◌&&◌, Table, Out, Site, Bit, site_of, shifted, value, rise, begin, hears, other, is_named}
+use Rattle.bus_clear.proofs.Cited.{is_reading, stands, some_one, pulls_line, sda, where_joined, stop_site, Mask, Counts, one_edge, one_flip}
+use Rattle.bus_clear.proofs.Cited.{Bus, holds_line, scl_level, sda_level, pulled, bus_of, calling, started, released, rejoin, free}
+use Rattle.bus_clear.proofs.Cited.{map_step, map_map, some_map, no_one, risen, call_sda, call_calm, stays_free, stop_run, MOST_PULSES}
+use Rattle.bus_clear.proofs.Cited.{cut_level, cut_rise, cut_clock, cut_clocks, clearing, clear_pulls, Free, map-id}
+use Rattle.wire_spec.specs.Wires.{finish, called}
+use Rattle.wire_spec.proofs.Address.{call_one}
 use Rattle.bus_clear.proofs.Clocks.{rise_calm, clock_calm, start_stops, clears_from, ends_free}
-use mathlib.Core.List.{map-id}
 
 -- the lines are freed with so many pulses, and are such a stop's; SDA has this level after the cut
 pub record Frees {X : Type 0} (t : Table X) (mask : Mask X) (made : ℕ) (high : Bool) (gs : List (Site X)) (w : Bus X) : Type 0 where
@@ -63,9 +53,15 @@ module _ {X : Type 0} (t : Table X) (mask : Mask X) (ss : List (Site X)) where
       ∙ ap (λ b. bus_of true (not h) (map (calling (suc left) (shifted v b)) ss) (one_edge c)) (call_sda t (suc (suc left)) v ss h))
 
   pub calls_by : (byte n left all r v : ℕ) (low : Bool) (c : Counts) → all ≡ n + left
-      → Partway ss (suc left) (value v (levels_from byte r n)) (cut_clocks t mask byte r n (bus_of true low (map (calling (suc all) v) ss) c))
+      → Partway ss (suc left) (value v (levels_from byte r n)) (cut_clocks t mask byte r n (bus_of true low
+      (map (calling (suc all) v) ss) c))
   calls_by byte zero left all r v low c is =
-      let e : all ≡ left = omega (arith, is) in record { low = low; counts = c; is = ap (λ m. bus_of true low (map (calling (suc m) v) ss) c) e }
+      let e : all ≡ left = omega (arith, is) in record {
+        low = low;
+        counts = c;
+        is =
+            ap (λ m. bus_of true low (map (calling (suc m) v) ss) c) e;
+      }
   calls_by byte (suc n) left zero r v low c is = absurd (omega (arith, is))
   calls_by byte (suc n) left (suc all) r v low c is =
       let h : Bool = cut_level byte r in
@@ -85,7 +81,8 @@ module _ {X : Type 0} (t : Table X) (mask : Mask X) (ss : List (Site X)) where
   call_begin left v l a false e x = refl
 
   call_finish : (left v : ℕ) (l : Bool) (a : ℕ) (j e : Bool) (x : X)
-      → where_joined (finish t) (where_joined (λ b. rise t b l) (calling (suc (suc left)) v (site_of a j e x))) ≡ released (stop_site t (site_of a j e x))
+      → where_joined (finish t) (where_joined (λ b. rise t b l) (calling (suc (suc left)) v (site_of a j e x))) ≡ released
+      (stop_site t (site_of a j e x))
   call_finish left v l a true e x = refl
   call_finish left v l a false e x = refl
 
@@ -95,13 +92,15 @@ module _ {X : Type 0} (t : Table X) (mask : Mask X) (ss : List (Site X)) where
   call_hangs left v l a false e x = refl
 
   named_begins : (byte a : ℕ) (e h : Bool) (x : X)
-      → where_joined begin (cond {A = Bit X} h (called t (site_of a true e x) (is_reading byte)) (stands (other t (site_of a true e x)) Out 0))
+      → where_joined begin (cond {A = Bit X} h (called t (site_of a true e x) (is_reading byte))
+      (stands (other t (site_of a true e x)) Out 0))
       ≡ calling 8 0 (cond h (hears t (site_of a true e x) (is_reading byte)) (other t (site_of a true e x)))
   named_begins byte a e true x = refl
   named_begins byte a e false x = refl
 
   eighth_begin : (v : ℕ) (l : Bool) (a : ℕ) (j e : Bool) (x : X)
-      → where_joined begin (where_joined (λ b. rise t b l) (calling 1 v (site_of a j e x))) ≡ calling 8 0 (started t (shifted v l) (site_of a j e x))
+      → where_joined begin (where_joined (λ b. rise t b l) (calling 1 v (site_of a j e x))) ≡ calling 8 0
+      (started t (shifted v l) (site_of a j e x))
   eighth_begin v l a true e x = named_begins (shifted v l) a e (is_named (shifted v l) (site_of a true e x)) x
   eighth_begin v l a false e x = refl
 
@@ -144,7 +143,8 @@ module _ {X : Type 0} (t : Table X) (mask : Mask X) (ss : List (Site X)) where
   out_frees gs c =
       frees_at_once t mask (map released gs) gs c (map_step released (calling 8 0) _ (λ s. out_begin s.addr s.joined s.heard s.state) gs)
       (ap not (some_map released holds_line (λ x. false) (λ s. out_holds s.addr s.joined s.heard s.state) gs ∙ no_one gs))
-      (ap (λ b. true && not b) (some_map released (pulls_line t) (λ x. false) (λ s. out_pulls s.addr s.joined s.heard s.state) gs ∙ no_one gs))
+      (ap (λ b. true && not b) (some_map released (pulls_line t) (λ x. false) (λ s. out_pulls s.addr s.joined s.heard s.state) gs
+      ∙ no_one gs))
 
   -- the sites after a cut in the first seven bits: where the controller pulled SDA, letting it go is a stop
   abbrev pub behind_bit : Bool → List (Site X)
@@ -166,7 +166,8 @@ module _ {X : Type 0} (t : Table X) (mask : Mask X) (ss : List (Site X)) where
       ∙ ap (λ xs. bus_of false false (map released (rejoin mask (map (stop_site t) xs))) (one_flip (one_edge c))) (map-id ss))
 
   bit_frees : (left v : ℕ) (c : Counts) (h low : Bool)
-      → Frees t mask 0 true (behind_bit h) (pulled t mask (cut_rise t mask h (bus_of true low (map (calling (suc (suc left)) v) ss) c)) false false)
+      → Frees t mask 0 true (behind_bit h) (pulled t mask (cut_rise t mask h (bus_of true low (map (calling (suc (suc left)) v) ss) c))
+      false false)
   bit_frees left v c true low =
       let l : Bool = sda t (map (calling (suc (suc left)) v) ss) true in
       high_frees (suc left) v c ss (ap (map (where_joined begin)) (map_map (calling (suc (suc left)) v) (where_joined (λ b. rise t b l)) ss)
@@ -193,5 +194,6 @@ module _ {X : Type 0} (t : Table X) (mask : Mask X) (ss : List (Site X)) where
       ∙ (map_step (λ s. where_joined (λ b. rise t b true) (calling 1 v s)) (λ s. calling 8 0 (started t (shifted v true) s)) _
       (λ s. eighth_begin v true s.addr s.joined s.heard s.state) ss
       ∙ sym (map_map (started t (shifted v true)) (calling 8 0) ss))) in
-      subst (λ (u : Bus X). Frees t mask 0 true (map (started t (shifted v true)) ss) (pulled t mask (cut_rise t mask true u) false false)) (sym p.is)
+      subst (λ (u : Bus X). Frees t mask 0 true (map (started t (shifted v true)) ss) (pulled t mask (cut_rise t mask true u) false false))
+      (sym p.is)
       (high_frees 0 v p.counts (map (started t (shifted v true)) ss) starts p.low)

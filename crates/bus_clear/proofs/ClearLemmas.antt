@@ -1,33 +1,23 @@
 -- Bus clear after a cut read, from free lines of a root whose targets are quiet.
-use Rattle.std.proofs.Common.{◌≡◌, ℕ, suc, ◌+◌, ◌-◌, ◌*◌, ◌/◌, ◌%◌, ◌<◌, ◌≤◌, Bool, true, false, cond, List, [], ◌∷◌, ◌++◌, map, refl, ap, sym, ◌∙◌, arith, subst}
-use Rattle.std.specs.Prelude.{◌&&◌, ◌==◌, nat_lt, if◌then◌else◌}
-use Rattle.std.specs.List.{AllByRecursion}
-use Rattle.std.proofs.lemmas.Bool.Decides.{nat_tests}
-use Rattle.i2c_base.specs.Bytes.{IsByte}
-use Rattle.i2c_base.specs.Board.{BoardView}
-use Rattle.i2c_base.specs.Table.{Table}
+use Rattle.bus_clear.proofs.Cited.{◌≡◌, ℕ, suc, ◌+◌, ◌-◌, ◌*◌, ◌/◌, ◌%◌, ◌<◌, ◌≤◌, Bool, true, false, cond, List, [], ◌∷◌, map, refl, ap}
+use Rattle.bus_clear.proofs.Cited.{sym, ◌∙◌, arith, subst, ◌&&◌, ◌==◌, nat_lt, if◌then◌else◌, AllByRecursion, nat_tests, IsByte, BoardView}
+use Rattle.bus_clear.proofs.Cited.{Table, ChipView, chip_table, TargetState, state_table, HoldsBytes, KeepsBytes, IsFairTable, World, after}
+use Rattle.bus_clear.proofs.Cited.{answer, is_ack, Site, bit, is_reading, tick, some_one, sent_by, and_all, get_site, stop_site, Counts}
+use Rattle.bus_clear.proofs.Cited.{Bus, Mask, scl_level, sda_level, each, rises, started, answers_so, free, rejoin, NodeState, node_table}
+use Rattle.bus_clear.proofs.Cited.{both, AreSites, mask_of, PartsOfBoth, StartOnSites, GetOnSites, StopOnSites, Rooted, IsFree, chips_on}
+use Rattle.bus_clear.proofs.Cited.{devices_on, world_at, MOST_PULSES, IsQuietWorld, level_by, level_at, low_rises, pulses_of, is_heard}
+use Rattle.bus_clear.proofs.Cited.{given_byte, cleared_world, cut_level, cut_pulls, clear_pulls, Clearing, clearing, ClearIs, Cleared, Free}
+use Rattle.std.proofs.Common.{◌++◌}
 use Rattle.i2c_base.specs.declared.port.PortCall.TheVariants as call
-use Rattle.i2c_spec.specs.Chips.{ChipView, chip_table}
-use Rattle.i2c_spec.specs.Targets.{TargetState, state_table, HoldsBytes, KeepsBytes, IsFairTable}
-use Rattle.i2c_spec.specs.World.{World, after, after_all, answer, gives, is_ack, is_slow}
-use Rattle.wire_spec.specs.Wires.{Site, bit, is_reading}
-use Rattle.wire_spec.specs.Roots.{some_one, sent_by, and_all, get_site, stop_site}
-use Rattle.wire_spec.specs.Bus.{Counts, Bus, Mask, scl_level, sda_level, looked, each, rises}
-use Rattle.wire_spec.specs.Wires.{tick}
-use Rattle.wire_spec.specs.Started.{started, answers_so, answer_by}
-use Rattle.wire_spec.specs.Calls.{free, rejoin}
-use Rattle.wire_spec.specs.Sites.{NodeState, Device, node_table, site_with, both, AreSites, NO_ADDRESS, mask_of}
-use Rattle.wire_spec.specs.WorldLaws.{PartsOfBoth, StartOnSites, GetOnSites, StopOnSites}
+use Rattle.i2c_spec.specs.World.{after_all, gives, is_slow}
+use Rattle.wire_spec.specs.Bus.{looked}
+use Rattle.wire_spec.specs.Started.{answer_by}
+use Rattle.wire_spec.specs.Sites.{Device, site_with, NO_ADDRESS}
 use Rattle.wire_spec.proofs.CallLaws.{all_with, all_chips}
 use Rattle.wire_spec.proofs.StartLemmas.{node_fair, slow_all}
-use Rattle.i2c_bits.specs.Wiring.{Rooted, the_table, mask_at}
-use Rattle.i2c_bits.specs.Stands.{IsFree, chips_on, devices_on, world_at}
+use Rattle.i2c_bits.specs.Wiring.{the_table, mask_at}
 use Rattle.i2c_bits.proofs.Starts.{unheard_all}
-use Rattle.bus_clear.specs.Cuts.{MOST_PULSES, IsQuietWorld, level_by, level_at, low_rises, pulses_of, is_heard, given_byte, events_by, cleared_world}
-use Rattle.bus_clear.specs.Pulls.{cut_level, cut_pulls, clear_pulls, Clearing, clearing}
-use Rattle.bus_clear.specs.Clears.{ClearIs}
-use Rattle.bus_clear.specs.declared.cleared.Cleared.{Cleared}
-use Rattle.bus_clear.specs.declared.cleared.Cleared.TheVariants.{Free}
+use Rattle.bus_clear.specs.Cuts.{events_by}
 use Rattle.bus_clear.proofs.AddressLemmas.{behind_bit}
 use Rattle.bus_clear.proofs.CutLemmas.{FreesAt, frees_heard, frees_unheard, sites_at, byte_sent, low_most}
 use Rattle.bus_clear.proofs.WorldLemmas.{Found, Left, free_found, start_found, get_found, found_again, left_by, stop_again, stop_quiet}
@@ -84,11 +74,13 @@ pub look_stays : {X : Type 0} (t : Table X) (w : Bus X) → scl_level w ≡ true
 unfolding looked
 look_stays t w up = ap (λ u. cond u w (cond (scl_level (each tick w)) (rises t (each tick w)) (each tick w))) up
 
-module _ (parts : (cs : List (Site ChipView)) (ds : List (Site TargetState)) → PartsOfBoth cs ds) (keeps : KeepsBytes state_table HoldsBytes)
+module _ (parts : (cs : List (Site ChipView)) (ds : List (Site TargetState)) → PartsOfBoth cs ds)
+    (keeps : KeepsBytes state_table HoldsBytes)
     (fair_chips : IsFairTable chip_table) (fair_devices : IsFairTable state_table)
     (starts_on : (b : BoardView) (r : ℕ) (busy : Bool) (byte : ℕ) (cs : List (Site ChipView)) (ds : List (Site TargetState))
     → byte / 2 < NO_ADDRESS → AreSites b r cs ds → StartOnSites b r busy byte cs ds)
-    (gets_on : (b : BoardView) (r : ℕ) (busy ack : Bool) (cs : List (Site ChipView)) (ds : List (Site TargetState)) → GetOnSites b r busy ack cs ds)
+    (gets_on : (b : BoardView) (r : ℕ) (busy ack : Bool) (cs : List (Site ChipView)) (ds : List (Site TargetState))
+    → GetOnSites b r busy ack cs ds)
     (stops_on : (b : BoardView) (r : ℕ) (busy : Bool) (cs : List (Site ChipView)) (ds : List (Site TargetState))
     → AreSites b r cs ds → StopOnSites b r busy cs ds)
     (k : Rooted) (w : Bus NodeState) (is_free : IsFree k w) (quiet : IsQuietWorld (world_at k false w)) (addr : ℕ) (small : addr < 128)
@@ -115,7 +107,8 @@ module _ (parts : (cs : List (Site ChipView)) (ds : List (Site TargetState)) →
   site = starts_on k.board k.root false byte (chips_on w) (devices_on w) (omega (arith, small)) is_free.told.sites
 
   holds : AllByRecursion (λ (s : Site NodeState). IsByte (node_table.hold s.state)) ss
-  holds = all_chips (chips_on w) (map (site_with Device) (devices_on w)) (all_with Device HoldsBytes keeps.holds (devices_on w) is_free.told.bytes)
+  holds = all_chips (chips_on w) (map (site_with Device) (devices_on w)) (all_with Device HoldsBytes keeps.holds
+      (devices_on w) is_free.told.bytes)
 
   abbrev slow : Bool
   slow = some_one (answers_so node_table is_slow (byte / 2) (is_reading byte)) ss
@@ -157,7 +150,8 @@ module _ (parts : (cs : List (Site ChipView)) (ds : List (Site TargetState)) →
   sent_is : sent ≡ given_byte world addr
   sent_is =
       ap (λ xs. and_all (map (sent_by node_table) xs)) site.parts
-      ∙ ((gets_on k.board k.root true false (map (started chip_table byte) (chips_on w)) (map (started state_table byte) (devices_on w))).answered
+      ∙ ((gets_on k.board k.root true false (map (started chip_table byte) (chips_on w)) (map (started state_table byte)
+      (devices_on w))).answered
       ∙ ap gives (site.world ∙ start_is world))
 
   abbrev pulses : ℕ
@@ -173,7 +167,8 @@ module _ (parts : (cs : List (Site ChipView)) (ds : List (Site TargetState)) →
   begun : Found k (map (started node_table byte) ss) (after world (call.Start addr true))
   begun = subst (Found k (map (started node_table byte) ss)) (start_is world) (start_found keeps k byte ss world found site)
 
-  got : (g : Bool) → Found k (cond g (map (get_site node_table false) (map (started node_table byte) ss)) (map (started node_table byte) ss))
+  got : (g : Bool) → Found k (cond g (map (get_site node_table false) (map (started node_table byte) ss))
+      (map (started node_table byte) ss))
       (got_by g (after world (call.Start addr true)))
   got true = get_found keeps k false _ _ begun (gets_on k.board k.root begun.busy false begun.chips begun.devices)
   got false = begun
@@ -217,12 +212,14 @@ module _ (parts : (cs : List (Site ChipView)) (ds : List (Site TargetState)) →
       let g : last ≡ false = not_last heard (cut + pulses) at in
       subst (Ends (behind_bit node_table mask ss (cut_level byte cut)))
       (ap (λ b. after (got_by b world) call.Stop) (sym g)
-      ∙ (ap (λ b. after (got_by last (begun_by b addr world)) call.Stop) (sym e) ∙ sym (events_are world addr (nat_lt 7 (cut + pulses)) last)))
+      ∙ (ap (λ b. after (got_by last (begun_by b addr world)) call.Stop) (sym e)
+      ∙ sym (events_are world addr (nat_lt 7 (cut + pulses)) last)))
       (early (cut_level byte cut))
 
   left : Ends sites (cleared_world world addr cut)
   left =
-      subst (Ends sites) (ap (λ p. after_all world (events_by heard addr (cut + p) ++ call.Stop ∷ [])) pulses_are) (world_of (nat_lt 7 cut) refl)
+      subst (Ends sites) (ap (λ p. after_all world (events_by heard addr (cut + p) ++ call.Stop ∷ [])) pulses_are)
+      (world_of (nat_lt 7 cut) refl)
 
   -- ---- the pulls and looks
   module _ (k2 : Rooted) (so : k2 ≡ k) (w1 w2 w3 : Bus NodeState) (high : Bool) (a : Cleared)

@@ -1,22 +1,15 @@
 -- Clocks of a cut read, and pulses, on targets of which nobody holds SCL; and a start with a stop on lines that are let go.
-use Rattle.std.proofs.Common.{◌≡◌, ℕ, suc, ◌+◌, Bool, true, false, cond, List, map, refl, ap, sym, ◌∙◌}
-use Rattle.std.specs.Prelude.{not, ◌&&◌, ◌==◌}
-use Rattle.i2c_base.specs.Table.{Table}
-use Rattle.wire_spec.specs.Wires.{Site, Bit, shifted, fall, begin}
-use Rattle.wire_spec.specs.Roots.{some_one, pulls_line, sda, where_joined, clock_all, stop_site}
-use Rattle.wire_spec.specs.Bus.{Mask, Counts, one_edge, one_flip, Bus, Came, holds_line, scl_level, sda_level, begins, each, edge, pulled, await, closed, bit_step, bus_of, came_up}
-use Rattle.wire_spec.specs.Started.{calling}
-use Rattle.wire_spec.specs.Calls.{STOP_LOOKS, released, rejoin, free}
-use Rattle.wire_spec.proofs.Roots.{some_map, no_one}
-use Rattle.wire_spec.proofs.Calm.{IsCalm, risen, goes_up, goes_down, sets_data, up_calm, looks_up, bit_calm}
-use Rattle.wire_spec.proofs.Stops.{stop_run}
-use Rattle.wire_spec.proofs.StartClocks.{call_low, stays_free}
-use Rattle.wire_spec.proofs.StartLaws.{released_out}
-use Rattle.bus_clear.specs.Cuts.{MOST_PULSES}
-use Rattle.bus_clear.specs.Pulls.{cut_rise, cut_clock, pulse, start_stop, clearing, clear_from, clear_pulls}
-use Rattle.bus_clear.specs.declared.cleared.Cleared.TheVariants.{Free, SclHeld}
+use Rattle.bus_clear.proofs.Cited.{◌≡◌, ℕ, suc, ◌+◌, Bool, true, false, cond, List, map, refl, ap, sym, ◌∙◌, not, ◌&&◌, ◌==◌, Table, Site}
+use Rattle.bus_clear.proofs.Cited.{Bit, shifted, fall, begin, some_one, pulls_line, sda, where_joined, stop_site, Mask, Counts, one_edge}
+use Rattle.bus_clear.proofs.Cited.{one_flip, Bus, Came, holds_line, scl_level, sda_level, each, await, bus_of, came_up, calling, STOP_LOOKS}
+use Rattle.bus_clear.proofs.Cited.{released, rejoin, free, some_map, no_one, IsCalm, risen, goes_down, sets_data, looks_up, stop_run}
+use Rattle.bus_clear.proofs.Cited.{stays_free, released_out, MOST_PULSES, start_stop, clearing, Free, SclHeld, map-id}
+use Rattle.wire_spec.specs.Roots.{clock_all}
+use Rattle.wire_spec.specs.Bus.{begins, edge, pulled, closed, bit_step}
+use Rattle.wire_spec.proofs.Calm.{goes_up, up_calm, bit_calm}
+use Rattle.wire_spec.proofs.StartClocks.{call_low}
+use Rattle.bus_clear.specs.Pulls.{cut_rise, cut_clock, pulse, clear_from, clear_pulls}
 use Rattle.std.proofs.lemmas.Bool.{not-true}
-use mathlib.Core.List.{map-id}
 use Rattle.wire_spec.proofs.LateStops.{finish_call}
 use Rattle.wire_spec.proofs.Address.{call_quiet}
 
@@ -115,7 +108,8 @@ pub clears_from : {X : Type 0} (t : Table X) (mask : Mask X) (bs : List (Bit X))
 unfolding clear_pulls
 clears_from {X} t mask bs c level up is =
     let w : Bus X = bus_of false false bs c in
-    ap (λ (d : Came X). cond d.up (clear_from t mask (d.read == 1) MOST_PULSES 0 d.bus) (clearing (SclHeld 0) d.bus)) (let_by t mask bs c level up is)
+    ap (λ (d : Came X). cond d.up (clear_from t mask (d.read == 1) MOST_PULSES 0 d.bus) (clearing (SclHeld 0) d.bus))
+    (let_by t mask bs c level up is)
     ∙ ap (λ h. clear_from t mask h MOST_PULSES 0 w) (level_one level)
 
 pub pulses_on : {X : Type 0} (t : Table X) (mask : Mask X) (left made : ℕ) (w w1 : Bus X) (level : Bool)

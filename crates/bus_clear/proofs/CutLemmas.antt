@@ -1,35 +1,25 @@
 -- A read that is cut off at each of its rises, and bus clear after it, on targets of any fair table.
-use Rattle.std.proofs.Common.{◌≡◌, ℕ, zero, suc, ◌+◌, ◌-◌, ◌/◌, ◌%◌, ◌^◌, ◌<◌, ◌≤◌, Bool, true, false, cond, List, map, refl, ap, sym, ◌∙◌, arith, subst}
-use Rattle.std.specs.Prelude.{not, ◌&&◌, ◌==◌, nat_lt}
-use Rattle.std.specs.List.{AllByRecursion}
-use Rattle.std.proofs.lemmas.Bool.Decides.{nat_tests}
-use Rattle.i2c_base.specs.Bytes.{IsByte}
-use Rattle.i2c_base.specs.Table.{Table}
-use Rattle.i2c_spec.specs.Targets.{IsFairTable}
-use Rattle.i2c_spec.specs.World.{is_ack}
-use Rattle.wire_spec.specs.declared.mode.Mode.TheVariants.{Give}
-use Rattle.wire_spec.specs.Wires.{Site, Bit, site_of, shifted, value, bit, rise, fall, is_reading}
-use Rattle.wire_spec.specs.Roots.{some_one, hearing, pulls_line, sda, where_joined, at, sent_by, and_all, get_site, stop_site}
-use Rattle.wire_spec.specs.Bus.{Mask, Counts, one_edge, one_flip, Bus, holds_line, scl_level, sda_level, pulled, bus_of}
-use Rattle.wire_spec.specs.Started.{calling, started, stays, answers_so}
-use Rattle.wire_spec.specs.Calls.{released, rejoin, free, start_pulls}
-use Rattle.wire_spec.proofs.Roots.{map_step, some_map, no_one}
-use Rattle.wire_spec.proofs.Calm.{IsCalm, risen, goes_down}
+use Rattle.bus_clear.proofs.Cited.{◌≡◌, ℕ, zero, suc, ◌+◌, ◌-◌, ◌/◌, ◌%◌, ◌<◌, ◌≤◌, Bool, true, false, cond, List, map, refl, ap, sym, ◌∙◌}
+use Rattle.bus_clear.proofs.Cited.{arith, subst, not, ◌&&◌, ◌==◌, nat_lt, AllByRecursion, nat_tests, IsByte, Table, IsFairTable, is_ack}
+use Rattle.bus_clear.proofs.Cited.{Give, Site, Bit, site_of, shifted, value, bit, rise, fall, is_reading, some_one, hearing, pulls_line}
+use Rattle.bus_clear.proofs.Cited.{sda, where_joined, at, sent_by, and_all, get_site, stop_site, Mask, Counts, one_edge, one_flip, Bus}
+use Rattle.bus_clear.proofs.Cited.{holds_line, scl_level, sda_level, pulled, bus_of, calling, started, stays, answers_so, released, rejoin}
+use Rattle.bus_clear.proofs.Cited.{free, start_pulls, map_step, some_map, no_one, IsCalm, risen, goes_down, call_sda, waiting, wait_bus}
+use Rattle.bus_clear.proofs.Cited.{call_calm, stays_free, released_out, MOST_PULSES, level_by, low_rises, cut_level, cut_rise, cut_clocks}
+use Rattle.bus_clear.proofs.Cited.{clearing, Free}
+use Rattle.std.proofs.Common.{◌^◌}
 use Rattle.wire_spec.proofs.Rests.{calm_by}
-use Rattle.wire_spec.proofs.Address.{call_last, call_sda}
-use Rattle.wire_spec.proofs.AckClock.{waiting, wait_bus}
-use Rattle.wire_spec.proofs.StartClocks.{call_calm, stays_free}
-use Rattle.wire_spec.proofs.StartLaws.{released_out}
+use Rattle.wire_spec.proofs.Address.{call_last}
 use Rattle.wire_spec.proofs.StartLemmas.{all_out}
 use Rattle.wire_spec.proofs.Repeats.{free_start}
 use Rattle.wire_spec.proofs.ByteLaws.{bits_are}
-use Rattle.bus_clear.specs.Cuts.{MOST_PULSES, level_by, low_rises}
-use Rattle.bus_clear.specs.Pulls.{cut_level, cut_rise, cut_clock, cut_clocks, cut_off, cut_pulls, clearing}
-use Rattle.bus_clear.specs.declared.cleared.Cleared.TheVariants.{Free}
+use Rattle.bus_clear.specs.Pulls.{cut_clock, cut_off, cut_pulls}
 use Rattle.bus_clear.proofs.Clocks.{rise_calm, clock_calm, clears_from, pulses_on}
-use Rattle.bus_clear.proofs.DataLemmas.{bit_left, lows, where_high, high_counts, giving, given, given_level, given_up, rise_on, clock_on, pulse_to, clears_by}
+use Rattle.bus_clear.proofs.DataLemmas.{bit_left, lows, where_high, high_counts, giving, given, given_level, given_up, rise_on, clock_on}
+use Rattle.bus_clear.proofs.DataLemmas.{pulse_to, clears_by}
 use Rattle.bus_clear.proofs.AddressLemmas.{Frees, Partway, levels_from, calls_by, seven_frees, eight_frees, out_frees, behind_bit}
-use Rattle.bus_clear.proofs.AckLemmas.{InTime, OutOn, ninth_in_time, ninth_too_late, still, in_time_up, in_time_level, in_time_frees, in_time_falls}
+use Rattle.bus_clear.proofs.AckLemmas.{InTime, OutOn, ninth_in_time, ninth_too_late, still, in_time_up, in_time_level, in_time_frees}
+use Rattle.bus_clear.proofs.AckLemmas.{in_time_falls}
 use Rattle.wire_spec.proofs.LiveLemmas.{out_rises, out_holds, out_falls}
 
 -- after the eighth rise the controller lets SDA go
@@ -48,14 +38,16 @@ module _ {X : Type 0} (t : Table X) (mask : Mask X) (gs : List (Site X)) where
       (λ s l. ap holds_line (out_rises t l s.addr s.joined s.heard s.state) ∙ out_holds s.addr s.joined s.heard s.state)
       (λ s l. ap (pulls_line t) (out_rises t l s.addr s.joined s.heard s.state))
 
-  out_on : (low : Bool) (c : Counts) → cut_clock t mask true (bus_of true low (map released gs) c) ≡ bus_of true false (map released gs) (one_edge c)
+  out_on : (low : Bool) (c : Counts) → cut_clock t mask true (bus_of true low (map released gs) c) ≡ bus_of true false (map released gs)
+      (one_edge c)
   out_on low c =
       let l : Bool = sda t (map released gs) true in
       clock_calm t mask true low (map released gs) c out_calm
       ∙ ap (λ bs. bus_of true false bs (one_edge c))
       (map_step released released _ (λ s. out_clock t l s.addr s.joined s.heard s.state) gs)
 
-  out_rise : (low : Bool) (c : Counts) → cut_rise t mask true (bus_of true low (map released gs) c) ≡ bus_of false false (map released gs) (one_edge c)
+  out_rise : (low : Bool) (c : Counts) → cut_rise t mask true (bus_of true low (map released gs) c) ≡ bus_of false false (map released gs)
+      (one_edge c)
   out_rise low c =
       let l : Bool = sda t (map released gs) true in
       rise_calm t mask true low (map released gs) c out_calm
@@ -69,7 +61,8 @@ module _ {X : Type 0} (t : Table X) (mask : Mask X) (gs : List (Site X)) where
       ∙ ap (λ bs. bus_of true false bs c) (map_step released released _ (λ s. out_falls s.addr s.joined s.heard s.state) gs)
 
   -- clocks go on where nobody has heard
-  outs_on : (byte r n : ℕ) (c : Counts) → 8 < r → (d : Counts) × (cut_clocks t mask byte r n (bus_of true false (map released gs) c) ≡ bus_of true false (map released gs) d)
+  outs_on : (byte r n : ℕ) (c : Counts) → 8 < r → (d : Counts) × (cut_clocks t mask byte r n
+      (bus_of true false (map released gs) c) ≡ bus_of true false (map released gs) d)
   outs_on byte r zero c lt = (c, refl)
   outs_on byte r (suc n) c lt =
       let p = outs_on byte (suc r) n (one_edge c) (omega (arith, lt)) in (
@@ -82,7 +75,8 @@ module _ {X : Type 0} (t : Table X) (mask : Mask X) (gs : List (Site X)) where
       → Frees t mask 0 true gs (cut_off t mask byte last (cut_clocks t mask byte r n (bus_of true false (map released gs) c)))
   outs_free byte r n last c lt more =
       let p = outs_on byte r n c lt in
-      let e : cut_off t mask byte last (cut_clocks t mask byte r n (bus_of true false (map released gs) c)) ≡ bus_of false false (map released gs) (one_edge p.0) =
+      let e : cut_off t mask byte last (cut_clocks t mask byte r n (bus_of true false (map released gs) c)) ≡ bus_of false false
+      (map released gs) (one_edge p.0) =
       ap (cut_off t mask byte last) p.1
       ∙ (ap (λ h. pulled t mask (cut_rise t mask h (bus_of true false (map released gs) p.0)) false false) (free_level byte last more)
       ∙ (ap (λ u. pulled t mask u false false) (out_rise false p.0) ∙ stays_free t mask (map released gs) (one_edge p.0))) in
@@ -130,10 +124,12 @@ module _ {X : Type 0} (t : Table X) (mask : Mask X) (gs : List (Site X)) where
         level = given_level t mask gs k (one_edge p.0) few;
         counts = high_counts t mask gs k (one_edge p.0);
         is =
-            clears_from t mask (risen t (map (at (Give k)) gs) true) (one_edge p.0) (bit_left t mask gs k) (given_up t mask gs k (one_edge p.0))
+            clears_from t mask (risen t (map (at (Give k)) gs) true) (one_edge p.0) (bit_left t mask gs k)
+            (given_up t mask gs k (one_edge p.0))
             (given_level t mask gs k (one_edge p.0) few)
             ∙ (clears_by t mask gs k MOST_PULSES 0 (one_edge p.0) (omega (arith, few)) few (bit_left t mask gs k) refl
-            ∙ ap (λ m. clearing (Free m) (free (rejoin mask (map (stop_site t) (where_high t mask gs k))) (high_counts t mask gs k (one_edge p.0))))
+            ∙ ap (λ m. clearing (Free m) (free (rejoin mask (map (stop_site t) (where_high t mask gs k)))
+            (high_counts t mask gs k (one_edge p.0))))
             (none_more (lows t mask gs k)));
       })
 
@@ -159,7 +155,8 @@ high_if : {X : Type 0} (t : Table X) (mask : Mask X) (gs : List (Site X)) (k : �
     → where_high t mask gs k ≡ cond (lows t mask gs k == k) (map (get_site t false) gs) gs
 high_if t mask gs zero = refl
 high_if t mask gs (suc n) =
-    by_bit gs (map (get_site t false) gs) (where_high t mask gs n) (lows t mask gs n) n (bit (and_all (map (sent_by t) gs)) n) (high_if t mask gs n)
+    by_bit gs (map (get_site t false) gs) (where_high t mask gs n) (lows t mask gs n) n (bit (and_all (map (sent_by t) gs)) n)
+    (high_if t mask gs n)
 
 low_by : (h : Bool) (m n : ℕ) → m ≤ n → cond h 0 (suc m) ≤ suc n
 low_by true m n le = omega arith
@@ -183,7 +180,8 @@ module _ {X : Type 0} (t : Table X) (fair : IsFairTable t) (mask : Mask X) (byte
   starts = free_start t mask ss c
 
   -- so much of the address comes in
-  comes : (n left : ℕ) → 7 ≡ n + left → Partway ss (suc left) (value 0 (levels_from byte 1 n)) (cut_clocks t mask byte 1 n (start_pulls t mask (free ss c)))
+  comes : (n left : ℕ) → 7 ≡ n + left → Partway ss (suc left) (value 0 (levels_from byte 1 n))
+      (cut_clocks t mask byte 1 n (start_pulls t mask (free ss c)))
   comes n left is =
       subst (λ (u : Bus X). Partway ss (suc left) (value 0 (levels_from byte 1 n)) (cut_clocks t mask byte 1 n u)) (sym starts)
       (calls_by t mask ss byte n left 7 1 0 true (one_flip c) is)
@@ -226,7 +224,8 @@ module _ {X : Type 0} (t : Table X) (fair : IsFairTable t) (mask : Mask X) (byte
 
   too_late : AllByRecursion (λ (s : Site X). IsByte (t.hold s.state)) ss → some_one (stays t byte 64) ss ≡ true → OutOn begun ninth
   too_late all slow =
-      subst (λ (u : Bus X). OutOn begun (cut_rise t mask true u)) (sym eighth.is) (ninth_too_late t mask byte ss eighth.low eighth.counts all slow)
+      subst (λ (u : Bus X). OutOn begun (cut_rise t mask true u)) (sym eighth.is)
+      (ninth_too_late t mask byte ss eighth.low eighth.counts all slow)
 
   -- the lines after the ninth clock
   abbrev behind : Bus X
@@ -237,7 +236,8 @@ module _ {X : Type 0} (t : Table X) (fair : IsFairTable t) (mask : Mask X) (byte
   behind_is us d e = e
 
   -- it is heard: in time, and acknowledged
-  module _ (quick : some_one (stays t byte 64) ss ≡ false) (acked : some_one (answers_so t is_ack (byte / 2) (is_reading byte)) ss ≡ true) where
+  module _ (quick : some_one (stays t byte 64) ss ≡ false) (acked : some_one (answers_so t is_ack (byte / 2) (is_reading byte)) ss
+      ≡ true) where
     falls : pulled t mask ninth true false ≡ giving t mask begun 8 (in_time quick).counts
     falls = in_time_falls t byte ss fair mask ninth (in_time quick) quick reads
 
@@ -256,11 +256,13 @@ module _ {X : Type 0} (t : Table X) (fair : IsFairTable t) (mask : Mask X) (byte
           level = ap (sda_level t) (sym i.is) ∙ low_level;
           counts = high_counts t mask begun 8 (one_edge i.counts);
           is =
-              clears_from t mask bs i.counts false (ap scl_level (sym i.is) ∙ in_time_up t byte ss ninth i) (ap (sda_level t) (sym i.is) ∙ low_level)
+              clears_from t mask bs i.counts false (ap scl_level (sym i.is) ∙ in_time_up t byte ss ninth i)
+              (ap (sda_level t) (sym i.is) ∙ low_level)
               ∙ (pulses_on t mask 8 0 w (given t mask begun 8 (one_edge i.counts)) (bit_left t mask begun 8)
               (pulse_to t mask begun 8 w i.counts (omega arith) fell)
               ∙ (clears_by t mask begun 8 8 1 (one_edge i.counts) (omega arith) (omega arith) (bit_left t mask begun 8) refl
-              ∙ ap (λ m. clearing (Free m) (free (rejoin mask (map (stop_site t) (where_high t mask begun 8))) (high_counts t mask begun 8 (one_edge i.counts))))
+              ∙ ap (λ m. clearing (Free m) (free (rejoin mask (map (stop_site t) (where_high t mask begun 8)))
+              (high_counts t mask begun 8 (one_edge i.counts))))
               (one_more (lows t mask begun 8))));
         })
 
@@ -358,14 +360,16 @@ module _ {X : Type 0} (t : Table X) (fair : IsFairTable t) (mask : Mask X) (byte
   -- the sites where SDA went high: from the eighth rise on the start has come, and at the last one the controller's answer
   abbrev pub sites_at : Bool → ℕ → List (Site X)
   sites_at heard cut =
-      cond (nat_lt 7 cut) (cond (heard && (cut + low_rises (level_by heard byte_sent) MOST_PULSES cut == 18)) (map (get_site t false) begun) begun)
+      cond (nat_lt 7 cut) (cond (heard && (cut + low_rises (level_by heard byte_sent) MOST_PULSES cut == 18))
+      (map (get_site t false) begun) begun)
       (behind_bit t mask ss (cut_level byte cut))
 
   abbrev pub FreesAt : Bool → ℕ → Type 0
   FreesAt heard cut =
       Frees t mask (low_rises (level_by heard byte_sent) MOST_PULSES cut) (level_by heard byte_sent cut) (sites_at heard cut) (cut_at cut)
 
-  module _ (quick : some_one (stays t byte 64) ss ≡ false) (acked : some_one (answers_so t is_ack (byte / 2) (is_reading byte)) ss ≡ true) where
+  module _ (quick : some_one (stays t byte 64) ss ≡ false) (acked : some_one (answers_so t is_ack (byte / 2) (is_reading byte)) ss
+      ≡ true) where
     heard_nine : FreesAt true 9
     unfolding cut_pulls
     heard_nine =
@@ -399,14 +403,22 @@ module _ {X : Type 0} (t : Table X) (fair : IsFairTable t) (mask : Mask X) (byte
     frees_heard (suc (suc (suc (suc (suc (suc (suc (suc (suc zero))))))))) some few = heard_nine
     frees_heard (suc (suc (suc (suc (suc (suc (suc (suc (suc (suc zero)))))))))) some few = heard_later 0 8 10 refl (omega arith) refl
     frees_heard (suc (suc (suc (suc (suc (suc (suc (suc (suc (suc (suc zero))))))))))) some few = heard_later 1 7 11 refl (omega arith) refl
-    frees_heard (suc (suc (suc (suc (suc (suc (suc (suc (suc (suc (suc (suc zero)))))))))))) some few = heard_later 2 6 12 refl (omega arith) refl
-    frees_heard (suc (suc (suc (suc (suc (suc (suc (suc (suc (suc (suc (suc (suc zero))))))))))))) some few = heard_later 3 5 13 refl (omega arith) refl
-    frees_heard (suc (suc (suc (suc (suc (suc (suc (suc (suc (suc (suc (suc (suc (suc zero)))))))))))))) some few = heard_later 4 4 14 refl (omega arith) refl
-    frees_heard (suc (suc (suc (suc (suc (suc (suc (suc (suc (suc (suc (suc (suc (suc (suc zero))))))))))))))) some few = heard_later 5 3 15 refl (omega arith) refl
-    frees_heard (suc (suc (suc (suc (suc (suc (suc (suc (suc (suc (suc (suc (suc (suc (suc (suc zero)))))))))))))))) some few = heard_later 6 2 16 refl (omega arith) refl
-    frees_heard (suc (suc (suc (suc (suc (suc (suc (suc (suc (suc (suc (suc (suc (suc (suc (suc (suc zero))))))))))))))))) some few = heard_later 7 1 17 refl (omega arith) refl
-    frees_heard (suc (suc (suc (suc (suc (suc (suc (suc (suc (suc (suc (suc (suc (suc (suc (suc (suc (suc zero)))))))))))))))))) some few = heard_later 8 0 18 refl (omega arith) refl
-    frees_heard (suc (suc (suc (suc (suc (suc (suc (suc (suc (suc (suc (suc (suc (suc (suc (suc (suc (suc (suc n))))))))))))))))))) some few = absurd (omega (arith, few))
+    frees_heard (suc (suc (suc (suc (suc (suc (suc (suc (suc (suc (suc (suc zero)))))))))))) some few =
+        heard_later 2 6 12 refl (omega arith) refl
+    frees_heard (suc (suc (suc (suc (suc (suc (suc (suc (suc (suc (suc (suc (suc zero))))))))))))) some few =
+        heard_later 3 5 13 refl (omega arith) refl
+    frees_heard (suc (suc (suc (suc (suc (suc (suc (suc (suc (suc (suc (suc (suc (suc zero)))))))))))))) some few =
+        heard_later 4 4 14 refl (omega arith) refl
+    frees_heard (suc (suc (suc (suc (suc (suc (suc (suc (suc (suc (suc (suc (suc (suc (suc zero))))))))))))))) some few =
+        heard_later 5 3 15 refl (omega arith) refl
+    frees_heard (suc (suc (suc (suc (suc (suc (suc (suc (suc (suc (suc (suc (suc (suc (suc (suc zero)))))))))))))))) some few =
+        heard_later 6 2 16 refl (omega arith) refl
+    frees_heard (suc (suc (suc (suc (suc (suc (suc (suc (suc (suc (suc (suc (suc (suc (suc (suc (suc zero))))))))))))))))) some few =
+        heard_later 7 1 17 refl (omega arith) refl
+    frees_heard (suc (suc (suc (suc (suc (suc (suc (suc (suc (suc (suc (suc (suc (suc (suc (suc (suc (suc zero)))))))))))))))))) some few =
+        heard_later 8 0 18 refl (omega arith) refl
+    frees_heard (suc (suc (suc (suc (suc (suc (suc (suc (suc (suc (suc (suc (suc (suc (suc (suc (suc (suc (suc n))))))))))))))))))) some
+        few = absurd (omega (arith, few))
 
   pub frees_unheard : AllByRecursion (λ (s : Site X). IsByte (t.hold s.state)) ss → (slow : Bool) → some_one (stays t byte 64) ss ≡ slow
       → (slow ≡ false → some_one (answers_so t is_ack (byte / 2) (is_reading byte)) ss ≡ false)
@@ -422,13 +434,25 @@ module _ {X : Type 0} (t : Table X) (fair : IsFairTable t) (mask : Mask X) (byte
   frees_unheard all slow is none nobody (suc (suc (suc (suc (suc (suc (suc zero))))))) some few = early_7
   frees_unheard all slow is none nobody (suc (suc (suc (suc (suc (suc (suc (suc zero)))))))) some few = early_8
   frees_unheard all slow is none nobody (suc (suc (suc (suc (suc (suc (suc (suc (suc zero))))))))) some few = unheard_ninth all slow is none
-  frees_unheard all slow is none nobody (suc (suc (suc (suc (suc (suc (suc (suc (suc (suc zero)))))))))) some few = unheard_data all slow is nobody 0 10 (omega arith)
-  frees_unheard all slow is none nobody (suc (suc (suc (suc (suc (suc (suc (suc (suc (suc (suc zero))))))))))) some few = unheard_data all slow is nobody 1 11 (omega arith)
-  frees_unheard all slow is none nobody (suc (suc (suc (suc (suc (suc (suc (suc (suc (suc (suc (suc zero)))))))))))) some few = unheard_data all slow is nobody 2 12 (omega arith)
-  frees_unheard all slow is none nobody (suc (suc (suc (suc (suc (suc (suc (suc (suc (suc (suc (suc (suc zero))))))))))))) some few = unheard_data all slow is nobody 3 13 (omega arith)
-  frees_unheard all slow is none nobody (suc (suc (suc (suc (suc (suc (suc (suc (suc (suc (suc (suc (suc (suc zero)))))))))))))) some few = unheard_data all slow is nobody 4 14 (omega arith)
-  frees_unheard all slow is none nobody (suc (suc (suc (suc (suc (suc (suc (suc (suc (suc (suc (suc (suc (suc (suc zero))))))))))))))) some few = unheard_data all slow is nobody 5 15 (omega arith)
-  frees_unheard all slow is none nobody (suc (suc (suc (suc (suc (suc (suc (suc (suc (suc (suc (suc (suc (suc (suc (suc zero)))))))))))))))) some few = unheard_data all slow is nobody 6 16 (omega arith)
-  frees_unheard all slow is none nobody (suc (suc (suc (suc (suc (suc (suc (suc (suc (suc (suc (suc (suc (suc (suc (suc (suc zero))))))))))))))))) some few = unheard_data all slow is nobody 7 17 (omega arith)
-  frees_unheard all slow is none nobody (suc (suc (suc (suc (suc (suc (suc (suc (suc (suc (suc (suc (suc (suc (suc (suc (suc (suc zero)))))))))))))))))) some few = unheard_data all slow is nobody 8 18 (omega arith)
-  frees_unheard all slow is none nobody (suc (suc (suc (suc (suc (suc (suc (suc (suc (suc (suc (suc (suc (suc (suc (suc (suc (suc (suc n))))))))))))))))))) some few = absurd (omega (arith, few))
+  frees_unheard all slow is none nobody (suc (suc (suc (suc (suc (suc (suc (suc (suc (suc zero)))))))))) some few =
+      unheard_data all slow is nobody 0 10 (omega arith)
+  frees_unheard all slow is none nobody (suc (suc (suc (suc (suc (suc (suc (suc (suc (suc (suc zero))))))))))) some few =
+      unheard_data all slow is nobody 1 11 (omega arith)
+  frees_unheard all slow is none nobody (suc (suc (suc (suc (suc (suc (suc (suc (suc (suc (suc (suc zero)))))))))))) some few =
+      unheard_data all slow is nobody 2 12 (omega arith)
+  frees_unheard all slow is none nobody (suc (suc (suc (suc (suc (suc (suc (suc (suc (suc (suc (suc (suc zero))))))))))))) some few =
+      unheard_data all slow is nobody 3 13 (omega arith)
+  frees_unheard all slow is none nobody (suc (suc (suc (suc (suc (suc (suc (suc (suc (suc (suc (suc (suc (suc zero)))))))))))))) some few =
+      unheard_data all slow is nobody 4 14 (omega arith)
+  frees_unheard all slow is none nobody (suc (suc (suc (suc (suc (suc (suc (suc (suc (suc (suc (suc (suc (suc (suc zero))))))))))))))) some
+      few = unheard_data all slow is nobody 5 15 (omega arith)
+  frees_unheard all slow is none nobody (suc (suc (suc (suc (suc (suc (suc (suc (suc (suc (suc (suc (suc (suc (suc (suc zero))))))))))))))))
+      some few = unheard_data all slow is nobody 6 16 (omega arith)
+  frees_unheard all slow is none nobody (suc (suc (suc (suc (suc
+      (suc (suc (suc (suc (suc (suc (suc (suc (suc (suc (suc (suc zero))))))))))))))))) some few =
+      unheard_data all slow is nobody 7 17 (omega arith)
+  frees_unheard all slow is none nobody (suc (suc (suc (suc (suc
+      (suc (suc (suc (suc (suc (suc (suc (suc (suc (suc (suc (suc (suc zero)))))))))))))))))) some few =
+      unheard_data all slow is nobody 8 18 (omega arith)
+  frees_unheard all slow is none nobody (suc (suc (suc (suc (suc
+      (suc (suc (suc (suc (suc (suc (suc (suc (suc (suc (suc (suc (suc (suc n))))))))))))))))))) some few = absurd (omega (arith, few))

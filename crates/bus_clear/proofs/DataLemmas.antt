@@ -1,18 +1,12 @@
 -- A read that is cut off in its data, by the mode of its targets, and bus clear after it.
-use Rattle.std.proofs.Common.{◌≡◌, ℕ, zero, suc, ◌+◌, ◌≤◌, Bool, true, false, cond, List, map, refl, ap, sym, ◌∙◌, arith}
-use Rattle.std.specs.Prelude.{not}
-use Rattle.i2c_base.specs.Table.{Table}
-use Rattle.wire_spec.specs.declared.mode.Mode.TheVariants.{Give}
-use Rattle.wire_spec.specs.Wires.{Site, site_of, shifted, bit, rise, begin}
-use Rattle.wire_spec.specs.Roots.{sda, where_joined, at, sent_by, and_all, get_site, stop_site}
-use Rattle.wire_spec.specs.Bus.{Mask, Counts, one_edge, one_flip, Bus, scl_level, sda_level, pulled, bus_of, came_up}
-use Rattle.wire_spec.specs.Started.{calling}
-use Rattle.wire_spec.specs.Calls.{rejoin, free}
-use Rattle.wire_spec.proofs.Roots.{map_step, map_map, give_step, give_sda, free_sda, give_quiet}
-use Rattle.wire_spec.proofs.Calm.{risen}
+use Rattle.bus_clear.proofs.Cited.{◌≡◌, ℕ, zero, suc, ◌+◌, ◌≤◌, Bool, true, false, cond, List, map, refl, ap, sym, ◌∙◌, arith, not, Table}
+use Rattle.bus_clear.proofs.Cited.{Give, Site, site_of, shifted, bit, rise, begin, sda, where_joined, at, sent_by, and_all, get_site}
+use Rattle.bus_clear.proofs.Cited.{stop_site, Mask, Counts, one_edge, one_flip, Bus, scl_level, sda_level, pulled, bus_of, came_up, calling}
+use Rattle.bus_clear.proofs.Cited.{rejoin, free, map_step, map_map, risen, cut_rise, cut_clock, start_stop, Clearing, clearing, clear_from}
+use Rattle.bus_clear.proofs.Cited.{Free}
+use Rattle.wire_spec.proofs.Roots.{give_step, give_sda, free_sda, give_quiet}
 use Rattle.wire_spec.proofs.Rests.{give_calm}
-use Rattle.bus_clear.specs.Pulls.{cut_rise, cut_clock, pulse, start_stop, Clearing, clearing, clear_from}
-use Rattle.bus_clear.specs.declared.cleared.Cleared.TheVariants.{Free}
+use Rattle.bus_clear.specs.Pulls.{pulse}
 use Rattle.bus_clear.proofs.Clocks.{rise_calm, risen_falls, clock_calm, pulse_calm, start_stops, pulses_on, ends_free}
 
 give_begin : {X : Type 0} (t : Table X) (n : ℕ) (l : Bool) (a : ℕ) (j e : Bool) (x : X)
@@ -22,7 +16,8 @@ give_begin t n l a true false x = refl
 give_begin t n l a false e x = refl
 
 last_begin : {X : Type 0} (t : Table X) (a : ℕ) (j e : Bool) (x : X)
-    → where_joined begin (where_joined (λ b. rise t b true) (at (Give 0) (site_of a j e x))) ≡ calling 8 0 (get_site t false (site_of a j e x))
+    → where_joined begin (where_joined (λ b. rise t b true) (at (Give 0) (site_of a j e x))) ≡ calling 8 0
+    (get_site t false (site_of a j e x))
 last_begin t a true true x = refl
 last_begin t a true false x = refl
 last_begin t a false e x = refl
@@ -85,7 +80,8 @@ module _ {X : Type 0} (t : Table X) (mask : Mask X) (ss : List (Site X)) where
 
   falls_to : (k : ℕ) (c : Counts) → pulled t mask (given (suc k) c) true false ≡ giving k c
   falls_to k c =
-      risen_falls t mask true (map (at (Give (suc k))) ss) c (give_calm t (suc k) ss true) ∙ ap (λ bs. bus_of true false bs c) (give_step t k ss)
+      risen_falls t mask true (map (at (Give (suc k))) ss) c (give_calm t (suc k) ss true) ∙ ap (λ bs. bus_of true false bs c)
+      (give_step t k ss)
 
   -- a pulse, from lines whose fall leaves so many bits
   pub pulse_to : (k : ℕ) (w : Bus X) (c : Counts) → k ≤ 8 → pulled t mask w true false ≡ giving k c
@@ -94,7 +90,8 @@ module _ {X : Type 0} (t : Table X) (mask : Mask X) (ss : List (Site X)) where
       pulse_calm t mask w (map (at (Give k)) ss) c fell (give_calm t k ss true)
       ∙ ap (λ l. came_up (shifted 0 l) (given k (one_edge c))) (level_of k le)
 
-  begins_high : (k : ℕ) → k ≤ 8 → bit_left k ≡ true → map (where_joined begin) (risen t (map (at (Give k)) ss) true) ≡ map (calling 8 0) (where_high k)
+  begins_high : (k : ℕ) → k ≤ 8 → bit_left k ≡ true → map (where_joined begin) (risen t (map (at (Give k)) ss) true) ≡ map (calling 8 0)
+      (where_high k)
   begins_high zero le high =
       let l : sda t (map (at (Give 0)) ss) true ≡ true = level_of 0 le in
       ap (λ h. map (where_joined begin) (map (where_joined (λ b. rise t b h)) (map (at (Give 0)) ss))) l
@@ -104,7 +101,8 @@ module _ {X : Type 0} (t : Table X) (mask : Mask X) (ss : List (Site X)) where
       ∙ sym (map_map (get_site t false) (calling 8 0) ss)))
   begins_high (suc n) le high =
       let l : Bool = sda t (map (at (Give (suc n))) ss) true in
-      ap (map (where_joined begin)) (map_step (at (Give (suc n))) (λ s. where_joined (λ b. rise t b l) (at (Give (suc n)) s)) _ (λ s. refl) ss)
+      ap (map (where_joined begin)) (map_step (at (Give (suc n))) (λ s. where_joined (λ b. rise t b l) (at (Give (suc n)) s)) _
+      (λ s. refl) ss)
       ∙ (map_step (λ s. where_joined (λ b. rise t b l) (at (Give (suc n)) s)) (calling 8 0) _
       (λ s. give_begin t n l s.addr s.joined s.heard s.state) ss
       ∙ ap (λ h. map (calling 8 0) (cond h ss (where_high n))) (sym high))
@@ -112,7 +110,8 @@ module _ {X : Type 0} (t : Table X) (mask : Mask X) (ss : List (Site X)) where
   stops_high : (k : ℕ) (c : Counts) → k ≤ 8 → bit_left k ≡ true
       → start_stop t mask (given k c) ≡ free (rejoin mask (map (stop_site t) (where_high k))) (one_flip (one_flip c))
   stops_high k c le high =
-      start_stops t mask (risen t (map (at (Give k)) ss) true) (where_high k) c (begins_high k le high) (given_up k c) (given_level k c le ∙ high)
+      start_stops t mask (risen t (map (at (Give k)) ss) true) (where_high k) c (begins_high k le high) (given_up k c)
+      (given_level k c le ∙ high)
 
   -- the lines are freed with so many pulses
   abbrev pub ends : ℕ → ℕ → Counts → Clearing X
@@ -132,8 +131,10 @@ module _ {X : Type 0} (t : Table X) (mask : Mask X) (ss : List (Site X)) where
       (cond h (one_flip (one_flip c)) (high_counts n (one_edge c))))) (sym is))
   clears_by (suc n) zero made c le few false is = absurd (omega (arith, le))
   clears_by (suc n) (suc left) made c le few false is =
-      pulses_on t mask left made (given (suc n) c) (given n (one_edge c)) (bit_left n) (pulse_to n (given (suc n) c) c (omega (arith, few)) (falls_to n c))
+      pulses_on t mask left made (given (suc n) c) (given n (one_edge c)) (bit_left n) (pulse_to n (given (suc n) c) c (omega (arith, few))
+      (falls_to n c))
       ∙ (clears_by n left (made + 1) (one_edge c) (omega (arith, le)) (omega (arith, few)) (bit_left n) refl
-      ∙ (ap (λ m. clearing (Free m) (free (rejoin mask (map (stop_site t) (where_high n))) (high_counts n (one_edge c)))) (plus_one made (lows n))
+      ∙ (ap (λ m. clearing (Free m) (free (rejoin mask (map (stop_site t) (where_high n))) (high_counts n (one_edge c))))
+      (plus_one made (lows n))
       ∙ ap (λ h. clearing (Free (made + cond h 0 (suc (lows n)))) (free (rejoin mask (map (stop_site t) (cond h ss (where_high n))))
       (cond h (one_flip (one_flip c)) (high_counts n (one_edge c))))) (sym is)))

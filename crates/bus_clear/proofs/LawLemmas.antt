@@ -1,25 +1,15 @@
 -- The pulses of a cut are the least; and a board's targets are quiet as it is opened.
-use Rattle.std.proofs.Common.{◌≡◌, ℕ, zero, suc, ◌+◌, ◌-◌, ◌<◌, ◌≤◌, Bool, true, false, cond, List, [], ◌∷◌, map, refl, ap, sym, ◌∙◌, arith}
-use Rattle.std.specs.Prelude.{◌&&◌, ◌==◌, nat_lt, if◌then◌else◌, Result, None}
-use Rattle.std.specs.List.{AllByRecursion}
-use Rattle.std.proofs.lemmas.Bool.Decides.{nat_tests}
-use Rattle.i2c_base.specs.Table.{Table}
-use Rattle.i2c_spec.specs.Targets.{IsQuiet}
+use Rattle.bus_clear.proofs.Cited.{◌≡◌, ℕ, zero, suc, ◌+◌, ◌-◌, ◌<◌, ◌≤◌, Bool, true, false, cond, List, [], ◌∷◌, map, refl, ap, sym, ◌∙◌}
+use Rattle.bus_clear.proofs.Cited.{arith, ◌&&◌, ◌==◌, nat_lt, if◌then◌else◌, Result, AllByRecursion, nat_tests, Table, IsQuiet, World}
+use Rattle.bus_clear.proofs.Cited.{after, answer, Bus, NodeState, Rooted, world_at, bit, MOST_PULSES, level_at, level_by, low_rises}
+use Rattle.bus_clear.proofs.Cited.{pulses_of, is_heard, given_byte, cleared_world, ClearIs, Cleared, Free}
+use Rattle.std.specs.Prelude.{None}
 use Rattle.i2c_base.specs.declared.errno.Errno.{Errno}
 use Rattle.i2c_base.specs.declared.event.Answer.TheVariants.{Ack}
 use Rattle.i2c_base.specs.declared.port.PortCall.TheVariants as call
 use Rattle.i2c_spec.specs.Conversation.{world_listener, by_answer, say, silence}
-use Rattle.i2c_spec.specs.World.{World, after, answer}
-use Rattle.wire_spec.specs.Bus.{Bus}
-use Rattle.wire_spec.specs.Sites.{NodeState}
-use Rattle.i2c_bits.specs.Wiring.{Rooted}
-use Rattle.i2c_bits.specs.Stands.{world_at}
-use Rattle.wire_spec.specs.Wires.{bit}
-use Rattle.bus_clear.specs.Cuts.{MOST_PULSES, RISES, ArePulses, level_at, level_by, low_rises, pulses_of, is_heard, given_byte, cleared_world}
-use Rattle.bus_clear.specs.Clears.{ClearIs}
+use Rattle.bus_clear.specs.Cuts.{RISES, ArePulses}
 use Rattle.bus_clear.specs.Receives.{received, receive_message, reply_of}
-use Rattle.bus_clear.specs.declared.cleared.Cleared.{Cleared}
-use Rattle.bus_clear.specs.declared.cleared.Cleared.TheVariants.{Free}
 use Rattle.bus_clear.proofs.CutLemmas.{low_most}
 
 module _ (level : ℕ → Bool) where
@@ -90,10 +80,12 @@ pub ack_world : (w v u : World) (addr limit : ℕ) → Ack ≡ answer w addr tru
 ack_world w v u addr limit is starts ends =
     ends
     ∙ (ap (λ x. after (after x (call.Get false)) call.Stop) starts
-    ∙ ap (λ a. (by_answer world_listener None true limit (receive_message addr) a (say world_listener (silence w) (call.Start addr true))).now) is)
+    ∙ ap (λ a. (by_answer world_listener None true limit (receive_message addr) a (say world_listener (silence w)
+    (call.Start addr true))).now) is)
 
 -- what a root comes to
-module _ (k k1 : Rooted) (same : k1 ≡ k) (old new : Bus NodeState) (addr cut limit : ℕ) (w : World) (opened : world_at k false old ≡ w) where
+module _ (k k1 : Rooted) (same : k1 ≡ k) (old new : Bus NodeState) (addr cut limit : ℕ) (w : World)
+    (opened : world_at k false old ≡ w) where
   pub root_level : (high : Bool) → high ≡ level_at (world_at k false old) addr cut → high ≡ level_at w addr cut
   root_level high is = is ∙ ap (λ v. level_at v addr cut) opened
 

@@ -8,3 +8,5 @@ pub mod CutLemmas
 pub mod WorldLemmas
 pub mod ClearLemmas
 pub mod LawLemmas
+-- What the proofs of this crate cite from elsewhere.
+mod Cited

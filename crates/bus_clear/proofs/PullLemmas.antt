@@ -1,19 +1,14 @@
 -- The pulls and looks of the code are those of the definitions.
-use Rattle.std.proofs.Common.{◌≡◌, ℕ, zero, suc, ◌+◌, ◌-◌, ◌<◌, ◌≤◌, Bool, true, false, cond, refl, ap, sym, ◌∙◌, arith, sub-one}
-use Rattle.std.specs.Prelude.{◌==◌, not, Result, Ok, Err}
-use Rattle.i2c_base.specs.Table.{Table}
-use Rattle.wire_spec.specs.Wires.{shifted}
-use Rattle.wire_spec.specs.Bus.{Bus, Came, pulled, await, came_up, gave_up}
-use Rattle.wire_spec.specs.Calls.{STOP_LOOKS, start_pulls}
-use Rattle.wire_spec.specs.Sites.{NodeState}
-use Rattle.i2c_bits.specs.Wiring.{Rooted, mask_at, came}
+use Rattle.bus_clear.proofs.Cited.{◌≡◌, ℕ, zero, suc, ◌+◌, ◌-◌, ◌<◌, ◌≤◌, Bool, true, false, cond, refl, ap, sym, ◌∙◌, arith, ◌==◌, not}
+use Rattle.bus_clear.proofs.Cited.{Result, Table, shifted, Bus, Came, pulled, await, came_up, gave_up, STOP_LOOKS, start_pulls, NodeState}
+use Rattle.bus_clear.proofs.Cited.{Rooted, mask_at, counted, MOST_PULSES, more_pulses, cut_level, cut_clocks, start_stop, clearing, Cleared}
+use Rattle.bus_clear.proofs.Cited.{Free, SclHeld}
+use Rattle.std.proofs.Common.{sub-one}
+use Rattle.std.specs.Prelude.{Ok, Err}
+use Rattle.i2c_bits.specs.Wiring.{came}
 use Rattle.i2c_bits.specs.declared.lines.SclTimeout.{SclTimeout}
-use Rattle.ports.specs.Causes.{counted}
-use Rattle.bus_clear.specs.Cuts.{MOST_PULSES}
-use Rattle.bus_clear.specs.Clears.{more_pulses}
-use Rattle.bus_clear.specs.Pulls.{cut_level, cut_rise, cut_clock, cut_clocks, cut_pulls, pulse, start_stop, clearing, clear_from, clear_pulls}
-use Rattle.bus_clear.specs.declared.cleared.Cleared.{Cleared}
-use Rattle.bus_clear.specs.declared.cleared.Cleared.TheVariants.{Free, SdaHeld, SclHeld}
+use Rattle.bus_clear.specs.Pulls.{cut_rise, cut_clock, cut_pulls, pulse, clear_from, clear_pulls}
+use Rattle.bus_clear.specs.declared.cleared.Cleared.TheVariants.{SdaHeld}
 use Rattle.bus_clear.proofs.Clocks.{level_one}
 
 came_bus : (r : Result Bool SclTimeout) (w : Bus NodeState) → (came 0 r w).bus ≡ w

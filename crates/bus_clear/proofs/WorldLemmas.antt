@@ -1,27 +1,20 @@
 -- The world that a cut read and bus clear after it leave.
-use Rattle.std.proofs.Common.{◌≡◌, ℕ, ◌+◌, ◌/◌, Bool, true, false, cond, List, [], ◌∷◌, map, refl, ap, sym, ◌∙◌, subst}
-use Rattle.std.specs.List.{AllByRecursion}
-use Rattle.i2c_base.specs.Board.{BoardView}
-use Rattle.i2c_base.specs.Table.{Table}
+use Rattle.bus_clear.proofs.Cited.{◌≡◌, ℕ, ◌+◌, ◌/◌, Bool, true, false, cond, List, [], ◌∷◌, map, refl, ap, sym, ◌∙◌, subst, AllByRecursion}
+use Rattle.bus_clear.proofs.Cited.{BoardView, Table, ChipView, chip_table, TargetState, state_table, HoldsBytes, KeepsBytes, IsQuiet}
+use Rattle.bus_clear.proofs.Cited.{IsFairTable, World, after, Out, Site, hears, other, is_named, is_reading, hearing, get_site, stop_site}
+use Rattle.bus_clear.proofs.Cited.{Counts, Bus, started, free, rejoin, NodeState, node_table, both, AreSites, mask_of, PartsOfBoth}
+use Rattle.bus_clear.proofs.Cited.{StartOnSites, GetOnSites, StopOnSites, Rooted, IsFree, chips_on, devices_on, world_at, IsQuietWorld}
 use Rattle.i2c_base.specs.declared.event.Event.TheVariants.{Get, Stop}
 use Rattle.i2c_base.specs.declared.port.PortCall.TheVariants as call
-use Rattle.i2c_spec.specs.Chips.{ChipView, chip_table}
-use Rattle.i2c_spec.specs.Targets.{TargetState, state_table, HoldsBytes, KeepsBytes, IsQuiet, IsFairTable}
-use Rattle.i2c_spec.specs.World.{World, after, feed, given, stop_event, joins_chip, joins_device}
-use Rattle.wire_spec.specs.declared.mode.Mode.TheVariants.{Out}
-use Rattle.wire_spec.specs.Wires.{Site, hears, other, gets, stops, is_named, is_reading}
-use Rattle.wire_spec.specs.Roots.{hearing, get_site, stop_site}
-use Rattle.wire_spec.specs.Bus.{Counts, Bus}
-use Rattle.wire_spec.specs.Started.{started}
-use Rattle.wire_spec.specs.Calls.{free, joined_from, rejoin}
-use Rattle.wire_spec.specs.Sites.{NodeState, node_table, both, states_of, world_by, AreSites, mask_of}
-use Rattle.wire_spec.specs.WorldLaws.{PartsOfBoth, StartOnSites, GetOnSites, StopOnSites, stopped_chips, stopped_devices}
-use Rattle.i2c_bits.specs.Wiring.{Rooted}
-use Rattle.i2c_bits.specs.Stands.{AreTold, IsFree, chips_on, devices_on, world_at}
+use Rattle.i2c_spec.specs.World.{feed, given, stop_event, joins_chip, joins_device}
+use Rattle.wire_spec.specs.Wires.{gets, stops}
+use Rattle.wire_spec.specs.Calls.{joined_from}
+use Rattle.wire_spec.specs.Sites.{states_of, world_by}
+use Rattle.wire_spec.specs.WorldLaws.{stopped_chips, stopped_devices}
+use Rattle.i2c_bits.specs.Stands.{AreTold}
 use Rattle.i2c_bits.proofs.Told.{On, on_lines, world_on, all_kept, kept_where}
 use Rattle.i2c_bits.proofs.Starts.{started_bytes}
 use Rattle.i2c_bits.proofs.Stops.{all_joined, free_on}
-use Rattle.bus_clear.specs.Cuts.{IsQuietWorld}
 use Rattle.i2c_base.proofs.Booleans.{and_first}
 
 -- ---- who is quiet stays so
@@ -56,7 +49,8 @@ kept_joined t byte s false = refl
 rest_started : {X : Type 0} (t : Table X) (byte : ℕ) (ss : List (Site X)) → RestIsQuiet t ss → RestIsQuiet t (map (started t byte) ss)
 rest_started t byte [] all = tt
 rest_started t byte (s ∷ ss) all = (
-  quiet_cond t s (cond (is_named byte s) (hears t s (is_reading byte)) (other t s)) s.joined (kept_joined t byte s (is_named byte s)) (λ is. is) all.0,
+  quiet_cond t s (cond (is_named byte s) (hears t s (is_reading byte)) (other t s)) s.joined (kept_joined t byte s (is_named byte s))
+      (λ is. is) all.0,
   rest_started t byte ss all.1,
 )
 
@@ -103,7 +97,8 @@ pub record Left (k : Rooted) (w : Bus NodeState) (v : World) : Type 0 where
   pub world : world_at k false w ≡ v
   pub quiet : IsQuietWorld v
 
-module _ (parts : (cs : List (Site ChipView)) (ds : List (Site TargetState)) → PartsOfBoth cs ds) (keeps : KeepsBytes state_table HoldsBytes)
+module _ (parts : (cs : List (Site ChipView)) (ds : List (Site TargetState)) → PartsOfBoth cs ds)
+    (keeps : KeepsBytes state_table HoldsBytes)
     (fair_chips : IsFairTable chip_table) (fair_devices : IsFairTable state_table)
     (sites : (b : BoardView) (r : ℕ) (busy : Bool) (cs : List (Site ChipView)) (ds : List (Site TargetState))
     → AreSites b r cs ds → StopOnSites b r busy cs ds) (k : Rooted) where
@@ -203,7 +198,8 @@ get_found keeps k ack gs v f site = record {
   told = record {
     sites = site.kept f.told.sites;
     bytes = all_kept (get_site state_table ack)
-        (λ s old. kept_where (hearing s) s (gets state_table s ack) old (λ was. keeps.after s.state (Get ack) tt was)) f.devices f.told.bytes;
+        (λ s old. kept_where (hearing s) s (gets state_table s ack) old (λ was. keeps.after s.state (Get ack) tt was)) f.devices
+        f.told.bytes;
   };
   world = ap (λ x. after x (call.Get ack)) f.world ∙ sym site.world;
   rest_chips = rest_got chip_table ack f.chips f.rest_chips;

@@ -1,13 +1,8 @@
 -- The step of a walk that an action tells.
-use Rattle.std.proofs.Common.{◌≡◌, ℕ, Option, Some, None, refl, subst}
-use Rattle.i2c_base.specs.declared.ids.LockId.{LockId}
-use Rattle.i2c_base.specs.declared.errno.Errno.{Errno}
-use Rattle.bus_spec.specs.Walk.{Job, Act, Take, Free, Send, Shift, Settle, line_mux, line_level}
-use Rattle.mux_plan.specs.Plans.{action_of, next_msg}
-use Rattle.mux_plan.specs.declared.task.Action.{Action}
+use Rattle.bus_core.proofs.Cited.{◌≡◌, ℕ, Option, Some, None, refl, subst, LockId, Errno, Job, Act, Take, Free, Send, Shift, Settle}
+use Rattle.bus_core.proofs.Cited.{line_mux, line_level, action_of, Action, NextMsg, IsMessageOf}
+use Rattle.mux_plan.specs.Plans.{next_msg}
 use Rattle.mux_plan.specs.declared.task.Action.TheVariants as action
-use Rattle.mux_plan.specs.declared.task.NextMsg.{NextMsg}
-use Rattle.core_laws.specs.Sends.{IsMessageOf}
 
 abbrev sending : Job → ℕ → Action
 sending job left = action.Send (next_msg job left)

@@ -1,33 +1,15 @@
 -- A caller that makes a step, or waits: who stands at its place, and what keeps it there.
-use Rattle.std.proofs.Common.{◌≡◌, ℕ, ◌<◌, true, IsTrue, length, reverse, Some, None, refl, sym, ◌∙◌, ap, subst, arith, inl, inr}
-use Rattle.std.specs.Prelude.{slice_get}
-use Rattle.std.proofs.lemmas.List.{length-map}
-use Rattle.std.proofs.lemmas.Option.{slice_get_within}
+use Rattle.bus_core.proofs.Cited.{◌≡◌, ℕ, ◌<◌, true, IsTrue, length, reverse, Some, None, refl, sym, ◌∙◌, ap, subst, arith, inl, inr}
+use Rattle.bus_core.proofs.Cited.{slice_get, length-map, slice_get_within, LockId, is_over, WalkTree, IsStuck, IsHeldUp, next_of, slots_of}
+use Rattle.bus_core.proofs.Cited.{LocksView, holder_in, asks_in, run_of, whole_of, IsKept, ArePlaced, HasStepped, HasTurn, walk_left}
+use Rattle.bus_core.proofs.Cited.{place_of, script_of, scripts_of, IsHeldUpAt, HasMade, IsBlockedAt, HasEndedAt, CoreInside, Seat}
+use Rattle.bus_core.proofs.Cited.{StepAnswer, over_ends, there, map_from, seen_of}
 use Rattle.i2c_base.specs.declared.caller.Caller.{Ghosts as CallerGhosts}
-use Rattle.i2c_base.specs.declared.ids.LockId.{LockId}
 use Rattle.ports.specs.declared.port.Port.{Ghosts as PortGhosts}
-use Rattle.bus_spec.specs.Grammar.{is_over}
-use Rattle.bus_spec.specs.Walk.{WalkTree}
-use Rattle.bus_laws.specs.Ready.{IsStuck}
-use Rattle.bus_laws.specs.Waiting.{IsHeldUp}
 use Rattle.core_laws.proofs.Laws.{held-up-stuck}
-use Rattle.core_laws.specs.Steps.{next_of}
-use Rattle.mux_plan.specs.Plans.{slots_of}
-use Rattle.seg_locks.specs.Locks.{LocksView, holder_in}
-use Rattle.bus_core.specs.Kept.{asks_in, run_of, whole_of, IsKept, ArePlaced, HasStepped, HasTurn}
-use Rattle.bus_core.specs.Places.{walk_left, place_of, script_of, scripts_of}
-use Rattle.bus_core.specs.Ready.{IsHeldUpAt}
-use Rattle.bus_core.specs.Runs.{HasMade}
-use Rattle.bus_core.specs.Steps.{IsBlockedAt, HasEndedAt}
-use Rattle.bus_core.specs.declared.parts.CoreInside.{CoreInside}
-use Rattle.bus_core.specs.declared.seat.Seat.{Seat}
-use Rattle.bus_core.specs.declared.steps.StepAnswer.{StepAnswer}
 use Rattle.bus_core.specs.declared.steps.StepAnswer.TheVariants as answer
 use Rattle.bus_core.proofs.Kept.{place-here}
 use Rattle.bus_core.proofs.Locks.{same_seat}
-use Rattle.bus_laws.proofs.past.StandsFacts.{over_ends}
-use Rattle.i2c_base.proofs.ListLemmas.{there, map_from}
-use Rattle.core_laws.specs.Spots.{seen_of}
 
 -- an answer that isn't Stepped
 pub waits-by : (P : Type 0) (r : StepAnswer) → (r ≡ answer.Stepped → ⊥) → ((l : LockId) (h : ℕ) → r ≡ answer.Blocked l h → P)

@@ -1,70 +1,47 @@
 -- A message of the caller at a place: it may be sent, heard and settled.
-use Rattle.std.proofs.Common.{◌≡◌, ◌⊎◌, ℕ, suc, ◌+◌, ◌<◌, ◌≤◌, Bool, true, false, List, [], ◌∷◌, length, get_or, set, take, Option, Some, refl, sym, ◌∙◌, ap, subst, arith, inl, inr}
-use Rattle.std.specs.Prelude.{slice_get, nat_lt, ◌&&◌}
+use Rattle.bus_core.proofs.Cited.{◌≡◌, ◌⊎◌, ℕ, suc, ◌+◌, ◌<◌, ◌≤◌, Bool, true, false, List, [], ◌∷◌, length, get_or, set, Option, Some}
+use Rattle.bus_core.proofs.Cited.{refl, sym, ◌∙◌, ap, subst, arith, inl, inr, slice_get, ltb-true, length-set, map-set, Purpose, LockId}
+use Rattle.bus_core.proofs.Cited.{BoardView, IsTransfer, MessageView, bytes_most, buses, root_of, is_over, first_note, seen, FitsReads, Job}
+use Rattle.bus_core.proofs.Cited.{Call, Select, SwitchOff, Send, Settle, job_purpose, IsJobOf, root_port, root_ports, RootPort, MsgResult}
+use Rattle.bus_core.proofs.Cited.{call-through, socket-here, tells-after, on-after, MuxUpdate, MayMark, SeenView, slots_of, LocksView}
+use Rattle.bus_core.proofs.Cited.{holder_in, IsLockIn, Place, Run, Whole, has_reply, NextMsg, IsMessageOf, CursorView, seen_of, WantsIn}
+use Rattle.bus_core.proofs.Cited.{next_of, AreMarked, lone_act, not_over, locks-here, owes-here, stands-here, kept-after}
+use Rattle.bus_core.proofs.Cited.{length-applied_kept, held-wants, room-one, roots_of, IsSeated, run_of, whole_of, IsKept, HasMessage}
+use Rattle.bus_core.proofs.Cited.{AreHeld, words_after, walk_left, got_by, place_of, Decided, HasSpoken, updates_of, CoreInside, Seat}
+use Rattle.bus_core.proofs.Cited.{map_from, map_at}
+use Rattle.std.proofs.Common.{take}
+use Rattle.std.specs.Prelude.{nat_lt, ◌&&◌}
 use Rattle.std.specs.List.{AllByRecursion}
-use Rattle.std.proofs.lemmas.Bool.{lt-ltb, ltb-true}
-use Rattle.std.proofs.lemmas.List.{length-set, map-set}
+use Rattle.std.proofs.lemmas.Bool.{lt-ltb, and_parts}
 use Rattle.i2c_base.specs.declared.caller.Caller.{Ghosts as CallerGhosts}
 use Rattle.i2c_base.specs.declared.entry.End.TheVariants as end
-use Rattle.i2c_base.specs.declared.entry.Purpose.{Purpose}
 use Rattle.i2c_base.specs.declared.entry.Purpose.TheVariants as purpose
-use Rattle.i2c_base.specs.declared.ids.LockId.{LockId}
 use Rattle.i2c_base.specs.declared.ids.LockId.TheVariants as lock
 use Rattle.i2c_base.specs.declared.port.Phase.TheVariants.{Idle}
-use Rattle.i2c_base.specs.Board.{BoardView}
 use Rattle.i2c_base.specs.Limits.{MOST_CALLS}
-use Rattle.i2c_base.specs.Transfer.{IsTransfer}
 use Rattle.ports.specs.declared.port.Port.{Ghosts as PortGhosts}
 use Rattle.i2c_spec.specs.Flat.{block_limit}
-use Rattle.i2c_spec.specs.Messages.{MessageView, messages_of}
-use Rattle.i2c_spec.specs.Tree.{buses, root_of}
-use Rattle.bus_spec.specs.Grammar.{is_over, first_note, seen}
-use Rattle.i2c_base.specs.Fitting.{FitsReads}
-use Rattle.bus_spec.specs.Walk.{Job, Call, Select, SwitchOff, off_bus, off_mux, Send, Settle, Mark, job_purpose, part_of}
+use Rattle.i2c_spec.specs.Messages.{messages_of}
+use Rattle.bus_spec.specs.Walk.{off_bus, off_mux, Mark, part_of}
 use Rattle.bus_spec.specs.Walk as walk
-use Rattle.i2c_spec.specs.Messages.{bytes_most}
 use Rattle.bus_laws.specs.Holds.{MarksHeld, OwnHeld}
-use Rattle.bus_laws.specs.Jobs.{IsJobOf}
 use Rattle.bus_laws.specs.Runs.{IsCall, InLocks}
-use Rattle.bus_message.specs.Ports.{root_port, root_ports}
-use Rattle.bus_message.specs.declared.message.MsgResult.{MsgResult}
-use Rattle.bus_message.proofs.PortLemmas.{call-through, socket-here}
-use Rattle.mux_plan.proofs.MuxUpdates.{tells-after, on-after}
-use Rattle.i2c_spec.proofs.MessageLemmas.{length-messages}
-use Rattle.mux_plan.specs.declared.marks.MuxUpdate.{MuxUpdate}
-use Rattle.mux_plan.specs.Marks.{applied, IsSwitchedOn, MayMark, AreOn}
-use Rattle.mux_plan.specs.Plans.{SeenView, slots_of}
-use Rattle.seg_locks.specs.Locks.{LocksView, holder_in, IsLockIn}
-use Rattle.core_laws.specs.Core.{Place, Run, Whole, IsSent, IsGoing, has_reply}
+use Rattle.i2c_spec.proofs.MessageLemmas.{length-messages, is_it-some, is_it-at}
+use Rattle.mux_plan.specs.Marks.{applied, IsSwitchedOn, AreOn}
+use Rattle.core_laws.specs.Core.{IsSent, IsGoing}
 use Rattle.core_laws.specs.Owed.{message_most}
-use Rattle.mux_plan.specs.declared.task.NextMsg.{NextMsg}
-use Rattle.core_laws.specs.Sends.{IsMessageOf}
-use Rattle.bus_message.specs.Cursors.{CursorView}
 use Rattle.bus_message.specs.Sends.{NextSent, message_for}
-use Rattle.core_laws.specs.Spots.{seen_of}
-use Rattle.bus_message.specs.Ports.{RootPort}
-use Rattle.core_laws.specs.Wants.{WantsIn}
-use Rattle.core_laws.specs.Steps.{next_of, AreMarked, KeepsPort}
-use Rattle.core_laws.proofs.Core.{lone_act, not_over, locks-here, owes-here, going-on, stands-here}
+use Rattle.core_laws.specs.Steps.{KeepsPort}
+use Rattle.core_laws.proofs.Core.{going-on}
 use Rattle.core_laws.proofs.CoreSteps.{none_owed}
-use Rattle.core_laws.proofs.Laws.{kept-after, length-applied_kept, send-root, send-most, send-last, send-wants, call-wants, held-wants, port-start, log-message, bytes-message, room-one}
-use Rattle.bus_core.specs.Kept.{roots_of, IsSeated, run_of, whole_of, IsKept, HasMessage}
+use Rattle.core_laws.proofs.Laws.{send-root, send-most, send-last, send-wants, call-wants, port-start, log-message, bytes-message}
 use Rattle.bus_core.proofs.SeatLemmas.{read_comes}
-use Rattle.bus_core.specs.Marks.{AreHeld, words_after}
-use Rattle.bus_core.specs.Places.{walk_left, got_by, place_of}
-use Rattle.bus_core.specs.declared.replies.Decided.{Decided}
-use Rattle.bus_core.specs.Seats.{MaySpeak, HasSpoken, MayHear, updates_of}
-use Rattle.bus_core.specs.declared.parts.CoreInside.{CoreInside}
-use Rattle.bus_core.specs.declared.seat.Seat.{Seat}
+use Rattle.bus_core.specs.Seats.{MaySpeak, MayHear}
 use Rattle.bus_core.proofs.Kept.{place-here, seated-here}
 use Rattle.bus_core.proofs.ReadsRoom.{reads-room}
 use Rattle.bus_core.proofs.Heard.{undecided}
 use Rattle.i2c_spec.specs.Conversation.{is_it}
-use Rattle.i2c_spec.proofs.MessageLemmas.{is_it-some, is_it-at}
 use Rattle.i2c_spec.proofs.BlockLemmas.{is_block_limit}
-use Rattle.std.proofs.lemmas.Bool.{and_parts}
-use Rattle.i2c_base.proofs.ListLemmas.{map_from}
-use Rattle.i2c_base.proofs.ListLemmas.{map_at}
 
 pub length-applied : (ds : List MuxUpdate) (marks : List (Option ℕ)) → length (applied ds marks) ≡ length marks
 length-applied [] marks = refl

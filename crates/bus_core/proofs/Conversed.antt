@@ -1,49 +1,25 @@
 -- After a message of the caller at a place: the settle that it decides, and all that is kept.
-use Rattle.std.proofs.Common.{◌≡◌, ◌⊎◌, ℕ, ◌+◌, ◌≤◌, Bool, true, false, List, [], ◌∷◌, ◌++◌, length, reverse, set, take, Option, Some, refl, sym, ◌∙◌, ap, subst, arith, inl, inr}
-use Rattle.std.specs.Prelude.{slice_get}
-use Rattle.std.proofs.lemmas.List.{reverse-append, append_assoc}
+use Rattle.bus_core.proofs.Cited.{◌≡◌, ◌⊎◌, ℕ, ◌+◌, ◌≤◌, Bool, true, false, List, [], ◌∷◌, ◌++◌, length, reverse, set, Option, Some, refl}
+use Rattle.bus_core.proofs.Cited.{sym, ◌∙◌, ap, subst, arith, inl, inr, slice_get, reverse-append, append_assoc, Entry, Errno, Reply, Fits}
+use Rattle.bus_core.proofs.Cited.{FitsReads, TransferView, MessageView, JournalView, first_act, rest_of, got_after, message_cut, reply_by}
+use Rattle.bus_core.proofs.Cited.{Job, Call, Send, Settle, Passed, WalkTree, root_ports, RootPort, MsgResult, SeenView, slots_of, LocksView}
+use Rattle.bus_core.proofs.Cited.{Place, has_reply, IsLeft, IsDecided, NextMsg, IsMessageOf, gone_after, turned_to, next_of, behind_of}
+use Rattle.bus_core.proofs.Cited.{roots_of, IsSeated, IsKept, HasStepped, walk_left, place_of, HasSpoken, HasHeard, MaySettle, IsSettledIn}
+use Rattle.bus_core.proofs.Cited.{CoreInside, Seat, bytes_given}
+use Rattle.std.proofs.Common.{take}
 use Rattle.i2c_base.specs.declared.caller.Caller.{Ghosts as CallerGhosts}
-use Rattle.i2c_base.specs.declared.entry.Entry.{Entry}
 use Rattle.i2c_base.specs.declared.entry.Entry.TheVariants as entry
-use Rattle.i2c_base.specs.declared.errno.Errno.{Errno}
 use Rattle.i2c_base.specs.declared.reply.Cut.TheVariants as cut_at
-use Rattle.i2c_base.specs.declared.reply.Reply.{Reply}
-use Rattle.i2c_base.specs.Fitting.{Fits, FitsReads}
-use Rattle.i2c_base.specs.Transfer.{TransferView}
 use Rattle.ports.specs.declared.port.Port.{Ghosts as PortGhosts}
-use Rattle.i2c_spec.specs.Messages.{MessageView}
-use Rattle.bus_journal.specs.View.{JournalView}
-use Rattle.bus_spec.specs.Grammar.{first_act, rest_of}
-use Rattle.bus_spec.specs.Past.{got_after}
-use Rattle.bus_spec.specs.Readings.{message_cut}
-use Rattle.bus_spec.specs.Stepwise.{reply_by}
-use Rattle.bus_spec.specs.Walk.{Job, Call, Send, Settle, Passed, WalkTree}
 use Rattle.bus_spec.specs.Walk as walk
 use Rattle.bus_laws.proofs.walk.Next.{quiet-next}
-use Rattle.bus_message.specs.Ports.{root_ports}
-use Rattle.bus_message.specs.declared.message.MsgResult.{MsgResult}
-use Rattle.mux_plan.specs.Plans.{SeenView, slots_of}
-use Rattle.seg_locks.specs.Locks.{LocksView}
 use Rattle.core_laws.specs.Behind.{message_entry, spoken}
-use Rattle.core_laws.specs.Core.{Place, has_reply}
-use Rattle.core_laws.specs.Seats.{IsLeft, IsDecided}
-use Rattle.mux_plan.specs.declared.task.NextMsg.{NextMsg}
-use Rattle.core_laws.specs.Sends.{IsMessageOf, gone_after}
-use Rattle.core_laws.specs.Spots.{turned_to}
-use Rattle.bus_message.specs.Ports.{RootPort}
-use Rattle.core_laws.specs.Steps.{next_of, behind_of}
 use Rattle.core_laws.proofs.Laws.{sent-leaves, core-message, core-settled, room-message, bytes-settle}
-use Rattle.bus_core.specs.Kept.{roots_of, IsSeated, IsKept, HasStepped}
-use Rattle.bus_core.specs.Places.{walk_left, place_of}
-use Rattle.bus_core.specs.Seats.{HasSpoken, HasHeard, MaySettle, IsSettledIn}
-use Rattle.bus_core.specs.declared.parts.CoreInside.{CoreInside}
-use Rattle.bus_core.specs.declared.seat.Seat.{Seat}
 use Rattle.bus_core.proofs.Kept.{standing, fair, seated-here, kept-whole, stepped-one}
 use Rattle.bus_core.proofs.Converse.{goes, on-bus, calls, call-left, few, words2, is-sent}
 use Rattle.bus_core.proofs.Heard.{heard-place, heard-got, heard-seated, settle-first, settled-place}
 use Rattle.bus_core.proofs.Reseating.{seated_settled}
 use Rattle.bus_core.proofs.Stepped.{roots-stay, stepped-two}
-use Rattle.i2c_base.specs.Need.{bytes_given}
 
 module _ {P C S : Type 0} (g : PortGhosts P) (c : CallerGhosts C S) (x : CoreInside P C) (kept : IsKept g c x) (place : ℕ) (s : Seat C)
     (here : slice_get x.seats.items place ≡ Some s)
@@ -100,7 +76,8 @@ module _ {P C S : Type 0} (g : PortGhosts P) (c : CallerGhosts C S) (x : CoreIns
   quiet is verdict comes = quiet-next (slots_of words) behind is.quiet verdict
       (subst (λ (w : WalkTree). next_of locks2 w ≡ Some (Settle verdict)) heard.walk comes)
 
-  module _ (j : JournalView) (entries : j.entries ≡ x.journal.entries ++ message_entry s.number next bytes sent ∷ []) (room : j.room + 1 ≡ x.journal.room)
+  module _ (j : JournalView) (entries : j.entries ≡ x.journal.entries ++ message_entry s.number next bytes sent ∷ [])
+      (room : j.room + 1 ≡ x.journal.room)
       (room_bytes : j.room_bytes + length bytes ≡ x.journal.room_bytes) where
     -- THE SETTLE may be made
     pub may-settle : MaySettle locks2 j t

@@ -1,39 +1,15 @@
 -- A seat after a message that it heard, and after its settle: what is told of its caller, and what it keeps by itself.
-use Rattle.std.proofs.Common.{◌≡◌, ℕ, ◌+◌, ◌<◌, ◌≤◌, Bool, true, false, List, [], ◌∷◌, length, Option, Some, None, refl, sym, ◌∙◌, ap, subst, arith, inl}
-use Rattle.std.specs.Prelude.{slice_get, if◌then◌else◌}
+use Rattle.bus_core.proofs.Cited.{◌≡◌, ℕ, ◌+◌, ◌<◌, ◌≤◌, Bool, true, false, List, [], ◌∷◌, length, Option, Some, None, refl, sym, ◌∙◌, ap}
+use Rattle.bus_core.proofs.Cited.{subst, arith, inl, slice_get, if◌then◌else◌, Purpose, Errno, Cut, Reply, BoardView, Covers, TransferView}
+use Rattle.bus_core.proofs.Cited.{MessageView, buses, root_of, is_over, first_act, rest_of, got_after, message_cut, reply_by, Job, Call}
+use Rattle.bus_core.proofs.Cited.{Select, SwitchOff, Settle, Passed, ActOutcome, WalkTree, Ends, Look, Then, job_purpose, call-through}
+use Rattle.bus_core.proofs.Cited.{RouteView, is_call_through, LocksView, Place, has_reply, NextMsg, IsMessageOf, gone_after, next_of}
+use Rattle.bus_core.proofs.Cited.{behind_of, MsgResult, IsSeated, walk_left, owed_by, got_by, place_of, RepliesView, HasHeard, HasSettled}
+use Rattle.bus_core.proofs.Cited.{WentOn, got_heard, Decided, Seat}
 use Rattle.i2c_base.specs.declared.caller.Caller.{Ghosts as CallerGhosts}
-use Rattle.i2c_base.specs.declared.entry.Purpose.{Purpose}
 use Rattle.i2c_base.specs.declared.entry.Purpose.TheVariants as purpose
-use Rattle.i2c_base.specs.declared.errno.Errno.{Errno}
-use Rattle.i2c_base.specs.declared.reply.Cut.{Cut}
 use Rattle.i2c_base.specs.declared.reply.Cut.TheVariants as cut_at
-use Rattle.i2c_base.specs.declared.reply.Reply.{Reply}
-use Rattle.i2c_base.specs.Board.{BoardView}
-use Rattle.i2c_base.specs.Need.{Covers}
-use Rattle.i2c_base.specs.Transfer.{TransferView}
-use Rattle.i2c_spec.specs.Messages.{MessageView}
-use Rattle.i2c_spec.specs.Tree.{buses, root_of}
-use Rattle.bus_spec.specs.Grammar.{is_over, first_act, rest_of}
-use Rattle.bus_spec.specs.Past.{got_after}
-use Rattle.bus_spec.specs.Readings.{message_cut}
-use Rattle.bus_spec.specs.Stepwise.{reply_by}
-use Rattle.bus_spec.specs.Walk.{Job, Call, Select, SwitchOff, Settle, Passed, ActOutcome, WalkTree, Ends, Look, Then, job_purpose}
 use Rattle.bus_spec.specs.Walk as walk
-use Rattle.bus_message.proofs.PortLemmas.{call-through}
-use Rattle.mux_plan.specs.Plans.{RouteView}
-use Rattle.seg_locks.specs.Locks.{LocksView}
-use Rattle.core_laws.specs.Core.{Place, has_reply}
-use Rattle.mux_plan.specs.declared.task.NextMsg.{NextMsg}
-use Rattle.core_laws.specs.Sends.{IsMessageOf, gone_after}
-use Rattle.mux_plan.specs.Plans.{is_call_through}
-use Rattle.core_laws.specs.Steps.{next_of, behind_of}
-use Rattle.bus_message.specs.declared.message.MsgResult.{MsgResult}
-use Rattle.bus_core.specs.Kept.{IsSeated}
-use Rattle.bus_core.specs.Places.{walk_left, owed_by, got_by, place_of}
-use Rattle.bus_core.specs.Replies.{RepliesView}
-use Rattle.bus_core.specs.Seats.{HasHeard, HasSettled, WentOn, got_heard}
-use Rattle.bus_core.specs.declared.replies.Decided.{Decided}
-use Rattle.bus_core.specs.declared.seat.Seat.{Seat}
 
 -- what is owed stays over a message, and what was read grows by it
 owed_same : (o : Option Decided) (r : RepliesView) (job : Job) (reading : Bool) (bytes : List ℕ)

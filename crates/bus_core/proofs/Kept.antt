@@ -1,37 +1,20 @@
 -- A step of the caller at a place: its seat is another, with the same number and script, and all else that is kept stays.
-use Rattle.std.proofs.Common.{◌≡◌, ℕ, zero, suc, ◌+◌, ◌<◌, ◌≤◌, ◌==◌, Bool, true, false, IsTrue, List, [], ◌∷◌, ◌++◌, length, reverse, set, Option, Some, None, refl, sym, ◌∙◌, ap, subst, arith, inl, inr}
-use Rattle.std.specs.Prelude.{slice_get, if◌then◌else◌}
-use Rattle.std.specs.Option.{option_map_or}
-use Rattle.std.proofs.lemmas.Bool.Decides.{eqb_tells}
+use Rattle.bus_core.proofs.Cited.{◌≡◌, ℕ, zero, suc, ◌+◌, ◌<◌, ◌≤◌, Bool, true, false, IsTrue, List, [], ◌∷◌, ◌++◌, length, reverse, set}
+use Rattle.bus_core.proofs.Cited.{Option, Some, None, refl, sym, ◌∙◌, ap, subst, arith, inl, inr, slice_get, if◌then◌else◌, option_map_or}
+use Rattle.bus_core.proofs.Cited.{eqb_tells, Entry, LockId, Reply, BoardView, MOST_CALLERS, TransferView, buses, root_of, is_settle}
+use Rattle.bus_core.proofs.Cited.{caller_of, IsStepwise, root_ports, RootPort, Place, Run, IsFairRun, Whole, CoreKept, map-set}
+use Rattle.bus_core.proofs.Cited.{length-append, set_same, at_set, locks-here, owes-here, stands-here, LocksView, roots_of, IsSeated}
+use Rattle.bus_core.proofs.Cited.{asks_in, run_of, whole_of, IsKept, HasStepped, IsSetUp, HasRoot, place_of, places_of, script_of}
+use Rattle.bus_core.proofs.Cited.{scripts_of, script_at, asks_of, CoreInside, Seat, map_at}
+use Rattle.std.proofs.Common.{◌==◌}
 use Rattle.i2c_base.specs.declared.caller.Caller.{Ghosts as CallerGhosts}
-use Rattle.i2c_base.specs.declared.entry.Entry.{Entry}
-use Rattle.i2c_base.specs.declared.ids.LockId.{LockId}
-use Rattle.i2c_base.specs.declared.reply.Reply.{Reply}
-use Rattle.i2c_base.specs.Board.{BoardView}
-use Rattle.i2c_base.specs.Limits.{MOST_CALLERS}
-use Rattle.i2c_base.specs.Transfer.{TransferView}
 use Rattle.ports.specs.declared.port.Port.{Ghosts as PortGhosts}
 use Rattle.i2c_spec.specs.Cost.{cost_of}
-use Rattle.i2c_spec.specs.Tree.{buses, root_of}
 use Rattle.i2c_spec.proofs.AddressLemmas.{tree_of}
-use Rattle.bus_spec.specs.Schedule.{is_settle}
-use Rattle.bus_spec.specs.Readings.{caller_of}
-use Rattle.bus_spec.specs.Stepwise.{IsStepwise}
 use Rattle.bus_laws.proofs.Laws.{lines-locked}
-use Rattle.bus_message.specs.Ports.{root_ports}
-use Rattle.core_laws.specs.Core.{Place, Run, IsFairRun, Whole, StandsAt, CoreKept, numbers_of}
-use Rattle.std.proofs.lemmas.List.{map-set}
-use Rattle.std.proofs.lemmas.List.{length-append}
-use Rattle.core_laws.proofs.Core.{set_same, at_set, locks-here, owes-here, stands-here}
+use Rattle.core_laws.specs.Core.{StandsAt, numbers_of}
 use Rattle.core_laws.proofs.Laws.{turn-one}
-use Rattle.bus_message.specs.Ports.{RootPort}
-use Rattle.seg_locks.specs.Locks.{LocksView}
-use Rattle.bus_core.specs.Kept.{roots_of, IsSeated, asks_in, run_of, whole_of, IsKept, HasStepped}
-use Rattle.bus_core.specs.Opening.{IsSetUp, HasRoot}
-use Rattle.bus_core.specs.Places.{place_of, places_of, script_of, scripts_of, script_at, asks_of, left_of}
-use Rattle.bus_core.specs.declared.parts.CoreInside.{CoreInside}
-use Rattle.bus_core.specs.declared.seat.Seat.{Seat}
-use Rattle.i2c_base.proofs.ListLemmas.{map_at}
+use Rattle.bus_core.specs.Places.{left_of}
 
 -- of what a number names: it is one of the scripts
 pub script-found : {S : Type 0} (scripts : List (ℕ × S)) (n : ℕ) (s : S) → script_at scripts n ≡ Some s

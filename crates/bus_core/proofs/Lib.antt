@@ -22,3 +22,5 @@ pub mod Told
 pub mod Opened
 pub mod Seating
 pub mod SendLemmas
+-- What the proofs of this crate cite from elsewhere.
+mod Cited

@@ -1,35 +1,19 @@
 -- A lock that is taken, and one that is freed.
-use Rattle.std.proofs.Common.{◌≡◌, ℕ, ◌+◌, ◌-◌, ◌≤◌, Bool, true, false, List, [], ◌∷◌, ◌++◌, reverse, set, Option, Some, None, refl, sym, ◌∙◌, ap, subst}
-use Rattle.std.specs.Prelude.{slice_get, Result, Ok, Err, OnOk, IfErr}
-use Rattle.std.proofs.lemmas.List.{reverse-append}
+use Rattle.bus_core.proofs.Cited.{◌≡◌, ℕ, ◌+◌, ◌-◌, ◌≤◌, Bool, true, false, List, [], ◌∷◌, ◌++◌, reverse, set, Option, Some, None, refl}
+use Rattle.bus_core.proofs.Cited.{sym, ◌∙◌, ap, subst, slice_get, reverse-append, LockId, Cut, BoardView, is_over, walk_for, Reply}
+use Rattle.bus_core.proofs.Cited.{TransferView, Act, Take, Free, Passed, WalkTree, Ends, root_ports, with_place, begun_with, Place}
+use Rattle.bus_core.proofs.Cited.{CoreKept, has_reply, next_of, behind_of, going-asks, room-one, holder_in, with_holder, roots_of, IsSeated}
+use Rattle.bus_core.proofs.Cited.{IsKept, ComesAt, HasStepped, walk_left, owed_by, got_by, place_of, RepliesView, reply_decided, Decided}
+use Rattle.bus_core.proofs.Cited.{WentOn, MayEnd, HasFreed, HasEnded, CoreInside, Seat, over_ends}
+use Rattle.std.specs.Prelude.{Result, Ok, Err, OnOk, IfErr}
 use Rattle.i2c_base.specs.declared.caller.Caller.{Ghosts as CallerGhosts}
 use Rattle.i2c_base.specs.declared.entry.Entry.TheVariants as entry
-use Rattle.i2c_base.specs.declared.ids.LockId.{LockId}
-use Rattle.i2c_base.specs.declared.reply.Cut.{Cut}
 use Rattle.i2c_base.specs.declared.reply.Cut.TheVariants as cut_at
-use Rattle.i2c_base.specs.Board.{BoardView}
 use Rattle.ports.specs.declared.port.Port.{Ghosts as PortGhosts}
-use Rattle.bus_spec.specs.Grammar.{is_over}
-use Rattle.i2c_base.specs.declared.reply.Reply.{Reply}
-use Rattle.i2c_base.specs.Transfer.{TransferView}
-use Rattle.bus_spec.specs.Grammar.{walk_for}
-use Rattle.bus_spec.specs.Walk.{Act, Take, Free, Passed, WalkTree, Ends}
-use Rattle.bus_message.specs.Ports.{root_ports}
-use Rattle.core_laws.specs.Behind.{with_place, passed, begun_with}
-use Rattle.core_laws.specs.Core.{Place, CoreKept, has_reply}
-use Rattle.core_laws.specs.Steps.{next_of, behind_of}
-use Rattle.core_laws.proofs.Laws.{core-taken, core-freed, core-ended, core-finished, end-owes, going-asks, going-fits, room-one}
-use Rattle.seg_locks.specs.Locks.{holder_in, with_holder}
-use Rattle.bus_core.specs.Kept.{roots_of, IsSeated, IsKept, ComesAt, HasStepped}
-use Rattle.bus_core.specs.Places.{walk_left, owed_by, got_by, place_of}
-use Rattle.bus_core.specs.Replies.{RepliesView, reply_decided}
-use Rattle.bus_core.specs.declared.replies.Decided.{Decided}
-use Rattle.bus_core.specs.Seats.{WentOn, MayEnd, HasFreed, HasEnded}
-use Rattle.bus_core.specs.declared.parts.CoreInside.{CoreInside}
-use Rattle.bus_core.specs.declared.seat.Seat.{Seat}
+use Rattle.core_laws.specs.Behind.{passed}
+use Rattle.core_laws.proofs.Laws.{core-taken, core-freed, core-ended, core-finished, end-owes, going-fits}
 use Rattle.bus_core.proofs.Reseating.{seated_on}
 use Rattle.bus_core.proofs.Kept.{standing, fair, seated-here, asks-here, wired-here, kept-whole, stepped-one}
-use Rattle.bus_laws.proofs.past.StandsFacts.{over_ends}
 
 -- who stands at a place is one
 pub same_seat : {C : Type 0} (seats : List (Seat C)) (place : ℕ) (s t : Seat C) → slice_get seats place ≡ Some s

@@ -1,30 +1,15 @@
 -- The looks of all callers after a step of the one at a place: its own are answered anew, and those of the others stay.
-use Rattle.std.proofs.Common.{◌≡◌, ℕ, List, Some, set, refl, sym, ◌∙◌, ap, subst, inl, inr}
-use Rattle.std.specs.Prelude.{slice_get}
+use Rattle.bus_core.proofs.Cited.{◌≡◌, ℕ, List, Some, set, refl, sym, ◌∙◌, ap, subst, inl, inr, slice_get, LockId, BoardView, first_act}
+use Rattle.bus_core.proofs.Cited.{first_note, rest_of, Act, ActOutcome, WalkTree, IsLooked, RouteView, SeenView, slots_of, NextMsg}
+use Rattle.bus_core.proofs.Cited.{LocksView, with_holder, seen_of, turned_to, next_of, behind_of, at_set, MsgResult, run_of, whole_of}
+use Rattle.bus_core.proofs.Cited.{IsKept, IsLookedAt, AreLooked, words_after, walk_left, place_of, HasHeard, IsOn, WentOn, updates_ahead}
+use Rattle.bus_core.proofs.Cited.{updates_of, CoreInside, Seat}
 use Rattle.i2c_base.specs.declared.caller.Caller.{Ghosts as CallerGhosts}
-use Rattle.i2c_base.specs.declared.ids.LockId.{LockId}
 use Rattle.i2c_base.specs.declared.ids.LockId.TheVariants as lock
-use Rattle.i2c_base.specs.Board.{BoardView}
-use Rattle.bus_spec.specs.Grammar.{first_act, first_note, rest_of}
-use Rattle.bus_spec.specs.Walk.{Act, ActOutcome, WalkTree}
 use Rattle.ports.specs.declared.port.Port.{Ghosts as PortGhosts}
-use Rattle.mux_plan.specs.Looks.{IsLooked}
 use Rattle.mux_plan.specs.Marks.{updates_after}
-use Rattle.mux_plan.specs.Plans.{RouteView, SeenView, slots_of, looked_of}
-use Rattle.mux_plan.specs.declared.task.NextMsg.{NextMsg}
-use Rattle.seg_locks.specs.Locks.{LocksView, with_holder}
-use Rattle.core_laws.specs.Spots.{seen_of, turned_to}
-use Rattle.core_laws.specs.Steps.{next_of, behind_of}
-use Rattle.core_laws.proofs.Core.{at_set}
+use Rattle.mux_plan.specs.Plans.{looked_of}
 use Rattle.core_laws.proofs.Laws.{looks-stay}
-use Rattle.bus_message.specs.declared.message.MsgResult.{MsgResult}
-use Rattle.bus_core.specs.Kept.{run_of, whole_of, IsKept}
-use Rattle.bus_core.specs.Looks.{IsLookedAt, AreLooked}
-use Rattle.bus_core.specs.Marks.{words_after}
-use Rattle.bus_core.specs.Places.{walk_left, place_of}
-use Rattle.bus_core.specs.Seats.{HasHeard, IsOn, WentOn, updates_ahead, updates_of}
-use Rattle.bus_core.specs.declared.parts.CoreInside.{CoreInside}
-use Rattle.bus_core.specs.declared.seat.Seat.{Seat}
 use Rattle.bus_core.proofs.Kept.{place-here}
 
 -- what comes next is what the walk begins with, its looks answered

@@ -1,52 +1,31 @@
 -- Callers that step one after the other: what comes of what, which schedule the journal keeps to, and that all are
 -- through where all are held up.
-use Rattle.std.proofs.Common.{◌≡◌, ℕ, zero, suc, ◌+◌, ◌<◌, Bool, true, false, IsTrue, List, [], ◌∷◌, ◌++◌, length, reverse, get_or, Option, Some, None, refl, sym, ◌∙◌, ap, subst, arith, inl, inr}
-use Rattle.std.specs.Prelude.{slice_get, drop, if◌then◌else◌}
-use Rattle.std.specs.Option.{option_map_or}
-use Rattle.std.proofs.lemmas.Bool.Decides.{eqb_tells}
-use Rattle.std.proofs.lemmas.List.{append-nil, reverse-append}
-use Rattle.std.proofs.lemmas.Option.{slice_get_within}
+use Rattle.bus_core.proofs.Cited.{◌≡◌, ℕ, zero, suc, ◌+◌, ◌<◌, Bool, true, false, IsTrue, List, [], ◌∷◌, ◌++◌, length, reverse, get_or}
+use Rattle.bus_core.proofs.Cited.{Option, Some, None, refl, sym, ◌∙◌, ap, subst, arith, inl, inr, slice_get, drop, if◌then◌else◌}
+use Rattle.bus_core.proofs.Cited.{option_map_or, eqb_tells, reverse-append, slice_get_within, Entry, Reply, BoardView, MOST_CALLERS}
+use Rattle.bus_core.proofs.Cited.{IsPlainBoard, MeetsRules, is_over, first_act, seen, now, begun, current, caller_of, IsStepwise, WalkTree}
+use Rattle.bus_core.proofs.Cited.{Ends, Look, Then, CallerTold, IsStuck, IsHeldUp, Place, Whole, IsFairRun, spot_of, slots_of, holder_in}
+use Rattle.bus_core.proofs.Cited.{asks_in, run_of, whole_of, IsCore, HasCome, HasTurn, walk_left, place_of, script_of, scripts_of}
+use Rattle.bus_core.proofs.Cited.{script_at, asks_of, AreHeldUpBelow, HasMade, HasWaited, KeepsSchedule, AllThrough, state_of, CoreInside}
+use Rattle.bus_core.proofs.Cited.{Seat, over_ends, there, map_from, map_at, seen_of}
+use Rattle.std.proofs.lemmas.List.{append-nil}
 use Rattle.i2c_base.specs.declared.caller.Caller.{Ghosts as CallerGhosts}
-use Rattle.i2c_base.specs.declared.entry.Entry.{Entry}
-use Rattle.i2c_base.specs.declared.reply.Reply.{Reply}
-use Rattle.i2c_base.specs.Board.{BoardView}
-use Rattle.i2c_base.specs.Limits.{MOST_CALLERS}
 use Rattle.ports.specs.declared.port.Port.{Ghosts as PortGhosts}
 use Rattle.i2c_spec.specs.History.{Asks}
-use Rattle.i2c_spec.specs.Plain.{IsPlainBoard}
-use Rattle.i2c_spec.specs.Rules.{MeetsRules}
-use Rattle.bus_spec.specs.Grammar.{is_over, first_act, seen}
-use Rattle.bus_spec.specs.Past.{Now, now, begun, current, step}
-use Rattle.bus_spec.specs.Readings.{caller_of}
+use Rattle.bus_spec.specs.Past.{Now, step}
 use Rattle.bus_spec.specs.Schedule.{Turn, past_after}
-use Rattle.bus_spec.specs.Stepwise.{IsStepwise}
-use Rattle.bus_spec.specs.Walk.{WalkTree, Ends, Look, Then}
 use Rattle.bus_laws.specs.Coming.{IsTurn}
 use Rattle.bus_laws.specs.Following.{KeepsTo}
-use Rattle.bus_laws.specs.Others.{ahead, CallerTold}
+use Rattle.bus_laws.specs.Others.{ahead}
 use Rattle.bus_laws.specs.Reach.{AsksForMessages}
-use Rattle.bus_laws.specs.Ready.{IsStuck}
-use Rattle.bus_laws.specs.Waiting.{IsHeldUp}
 use Rattle.bus_laws.proofs.Laws.{does-next}
 use Rattle.bus_laws.proofs.past.Others.{others-stay}
 use Rattle.core_laws.proofs.Laws.{all-finished, asks-finished, finished-over}
-use Rattle.core_laws.specs.Core.{Place, Whole, IsFairRun, trees_of, spot_of}
-use Rattle.mux_plan.specs.Plans.{slots_of}
-use Rattle.seg_locks.specs.Locks.{holder_in}
-use Rattle.bus_core.specs.Kept.{asks_in, run_of, whole_of, IsCore, HasCome, HasTurn}
-use Rattle.bus_core.specs.Places.{walk_left, place_of, script_of, scripts_of, script_at, asks_of}
-use Rattle.bus_core.specs.Ready.{AreHeldUpBelow, AllHeldUp}
-use Rattle.bus_core.specs.Runs.{HasMade, HasWaited, KeepsSchedule}
-use Rattle.bus_core.specs.State.{AllThrough, state_of}
-use Rattle.bus_core.specs.declared.parts.CoreInside.{CoreInside}
-use Rattle.bus_core.specs.declared.seat.Seat.{Seat}
+use Rattle.core_laws.specs.Core.{trees_of}
+use Rattle.bus_core.specs.Ready.{AllHeldUp}
 use Rattle.bus_core.proofs.Advances.{stuck-by}
 use Rattle.bus_core.proofs.Kept.{fair, place-here}
 use Rattle.bus_core.proofs.Locks.{same_seat}
-use Rattle.bus_laws.proofs.past.StandsFacts.{over_ends}
-use Rattle.i2c_base.proofs.ListLemmas.{there, map_from}
-use Rattle.i2c_base.proofs.ListLemmas.{map_at}
-use Rattle.core_laws.specs.Spots.{seen_of}
 
 -- who asks for nothing has a walk that is over
 pub silent-ends : (b : BoardView) (callers : ℕ) (asks : Asks) (c : ℕ) → ((rs : List Reply) → asks c rs ≡ None) → (past : List Entry)

@@ -1,23 +1,12 @@
 -- The action that the seat read at a place tells, and what comes next there by it.
-use Rattle.std.proofs.Common.{◌≡◌, ◌<◌, ℕ, length, get_or, Some, sym, ◌∙◌, ap}
-use Rattle.std.specs.Prelude.{slice_get}
+use Rattle.bus_core.proofs.Cited.{◌≡◌, ◌<◌, ℕ, length, get_or, Some, sym, ◌∙◌, ap, slice_get, LockId, Take, Free, Settle, action_of, Action}
+use Rattle.bus_core.proofs.Cited.{NextMsg, IsLockIn, take-wants, next_of, run_of, whole_of, IsKept, ComesAt, HasMessage, AreLooked}
+use Rattle.bus_core.proofs.Cited.{walk_left, place_of, CoreInside, Seat}
 use Rattle.i2c_base.specs.declared.caller.Caller.{Ghosts as CallerGhosts}
-use Rattle.i2c_base.specs.declared.ids.LockId.{LockId}
 use Rattle.ports.specs.declared.port.Port.{Ghosts as PortGhosts}
-use Rattle.bus_spec.specs.Walk.{Take, Free, Settle}
-use Rattle.mux_plan.specs.Plans.{action_of}
-use Rattle.mux_plan.specs.declared.task.Action.{Action}
 use Rattle.mux_plan.specs.declared.task.Action.TheVariants as action
-use Rattle.mux_plan.specs.declared.task.NextMsg.{NextMsg}
-use Rattle.seg_locks.specs.Locks.{IsLockIn}
-use Rattle.core_laws.proofs.Laws.{take-wants}
-use Rattle.core_laws.specs.Steps.{next_of}
-use Rattle.bus_core.specs.Kept.{run_of, whole_of, IsKept, ComesAt, HasMessage, HasShift}
-use Rattle.bus_core.specs.Looks.{AreLooked}
+use Rattle.bus_core.specs.Kept.{HasShift}
 use Rattle.bus_core.specs.Seats.{TellsAction}
-use Rattle.bus_core.specs.Places.{walk_left, place_of}
-use Rattle.bus_core.specs.declared.parts.CoreInside.{CoreInside}
-use Rattle.bus_core.specs.declared.seat.Seat.{Seat}
 use Rattle.bus_core.proofs.ActionLemmas.{take-of, free-of, send-of, line-of, settle-of}
 use Rattle.bus_core.proofs.Kept.{place-here}
 use Rattle.bus_core.proofs.Looking.{next-looked}

@@ -1,45 +1,24 @@
 -- A core that was just opened is kept: each caller's first transfer is loaded, and nothing was done.
-use Rattle.std.proofs.Common.{◌≡◌, ℕ, ◌+◌, ◌*◌, ◌<◌, ◌≤◌, List, [], ◌∷◌, length, reverse, map, Option, Some, None, refl, sym, ◌∙◌, ap, subst, arith}
-use Rattle.std.specs.Prelude.{slice_get}
-use Rattle.std.specs.Option.{option_map_or}
+use Rattle.bus_core.proofs.Cited.{◌≡◌, ℕ, ◌+◌, ◌<◌, ◌≤◌, List, [], ◌∷◌, length, reverse, map, Option, Some, None, refl, sym, ◌∙◌, ap, subst}
+use Rattle.bus_core.proofs.Cited.{arith, slice_get, option_map_or, length-map, LockId, Reply, BoardView, MOST_CALLERS, TransferView}
+use Rattle.bus_core.proofs.Cited.{IsPlainBoard, MeetsRules, JournalView, root_port, RootPort, walk_for, begun, WalkTree, Ends, Place, Run}
+use Rattle.bus_core.proofs.Cited.{IsFairRun, Whole, AreDepths, opened, roots_of, run_of, whole_of, IsCore, IsSetUp, callers_scripts}
+use Rattle.bus_core.proofs.Cited.{MayOpen, IsSeatOf, AreSeated, place_of, places_of, script_of, scripts_of, script_at, walk_left, owed_by}
+use Rattle.bus_core.proofs.Cited.{got_by, CoreInside, Decided, Seat, over_ends, map_from, map_at}
+use Rattle.std.proofs.Common.{◌*◌}
 use Rattle.std.specs.List.{sum_by}
-use Rattle.std.proofs.lemmas.List.{length-map}
 use Rattle.std.proofs.lemmas.List.Sums.{sum_by-cons}
 use Rattle.i2c_base.specs.declared.caller.Caller.{Ghosts as CallerGhosts}
-use Rattle.i2c_base.specs.declared.ids.LockId.{LockId}
 use Rattle.i2c_base.specs.declared.reply.Cut.TheVariants as cut_at
-use Rattle.i2c_base.specs.declared.reply.Reply.{Reply}
-use Rattle.i2c_base.specs.Board.{BoardView}
-use Rattle.i2c_base.specs.Limits.{MOST_CALLERS}
-use Rattle.i2c_base.specs.Transfer.{TransferView}
 use Rattle.ports.specs.declared.port.Port.{Ghosts as PortGhosts}
-use Rattle.i2c_spec.specs.Plain.{IsPlainBoard}
-use Rattle.i2c_spec.specs.Rules.{MeetsRules}
 use Rattle.i2c_spec.specs.World.{opening_world}
-use Rattle.bus_journal.specs.View.{JournalView}
-use Rattle.bus_message.specs.Ports.{root_port}
-use Rattle.bus_spec.specs.Grammar.{walk_for}
-use Rattle.bus_spec.specs.Past.{begun}
-use Rattle.bus_spec.specs.Walk.{WalkTree, Ends}
-use Rattle.core_laws.specs.Core.{Place, Run, IsFairRun, Whole, SeatKept}
-use Rattle.core_laws.specs.Opens.{AreDepths, IsOpened}
+use Rattle.core_laws.specs.Core.{SeatKept}
+use Rattle.core_laws.specs.Opens.{IsOpened}
 use Rattle.core_laws.specs.Owed.{total}
-use Rattle.bus_message.specs.Ports.{RootPort}
 use Rattle.core_laws.proofs.Laws.{core-opened, seat-loaded, seat-over}
-use Rattle.seg_locks.specs.Locks.{opened}
-use Rattle.bus_core.specs.Kept.{roots_of, run_of, whole_of, IsCore}
-use Rattle.bus_core.specs.Opening.{IsSetUp}
-use Rattle.bus_core.specs.Opens.{callers_scripts, MayOpen, IsSeatOf, AreSeated}
-use Rattle.bus_core.specs.Places.{place_of, places_of, script_of, scripts_of, script_at, walk_left, owed_by, got_by}
-use Rattle.bus_core.specs.declared.parts.CoreInside.{CoreInside}
-use Rattle.bus_core.specs.declared.replies.Decided.{Decided}
-use Rattle.bus_core.specs.declared.seat.Seat.{Seat}
 use Rattle.bus_core.proofs.Kept.{fair-run, script-own}
 use Rattle.bus_core.proofs.SeatLemmas.{asks_or_not}
 use Rattle.bus_core.proofs.Seating.{seated-all}
-use Rattle.bus_laws.proofs.past.StandsFacts.{over_ends}
-use Rattle.i2c_base.proofs.ListLemmas.{map_from}
-use Rattle.i2c_base.proofs.ListLemmas.{map_at}
 
 -- where a caller begins
 abbrev starting : ℕ → TransferView → WalkTree → Place

@@ -1,15 +1,14 @@
 -- What a transfer has read, with its next message, is within its limits. The induction goes over its messages.
-use Rattle.std.proofs.Common.{◌≡◌, ◌≤◌, ◌<◌, ◌+◌, ℕ, Bool, true, false, List, length, refl, ◌∙◌, ap, arith}
-use Rattle.std.specs.Prelude.{take, drop, get_or, sum_by, if◌then◌else◌}
+use Rattle.bus_core.proofs.Cited.{◌≡◌, ◌≤◌, ◌<◌, ◌+◌, ℕ, Bool, true, false, List, length, refl, ◌∙◌, ap, arith, take, drop, sum_by}
+use Rattle.bus_core.proofs.Cited.{if◌then◌else◌, All-get_or, FitsReads, IsTransfer, TransferView, written_of, bytes_most}
+use Rattle.std.specs.Prelude.{get_or}
 use Rattle.std.proofs.lemmas.List.{take_more}
-use Rattle.std.proofs.lemmas.List.Elements.{All-take, All-get_or}
+use Rattle.std.proofs.lemmas.List.Elements.{All-take}
 use Rattle.std.proofs.lemmas.List.Sums.{sum_by_push, sum_by-take-le}
 use Rattle.i2c_base.specs.declared.transfer.Msg.{Msg}
-use Rattle.i2c_base.specs.Fitting.{FitsReads}
 use Rattle.i2c_base.specs.Limits.{MOST_BYTES}
-use Rattle.i2c_base.specs.Transfer.{IsTransfer, IsMessage, TransferView, is_counted, size_of, written_of, COUNTED_SIZE}
+use Rattle.i2c_base.specs.Transfer.{IsMessage, is_counted, size_of, COUNTED_SIZE}
 use Rattle.i2c_spec.specs.Messages.{message_with}
-use Rattle.i2c_spec.specs.Messages.{bytes_most}
 use Rattle.bus_message.proofs.PartwayLemmas.{nth_is}
 use Rattle.bus_message.specs.Sends.{call_message}
 use Rattle.i2c_base.proofs.FittingLemmas.{reads-size}

@@ -1,33 +1,17 @@
 -- A refused transfer of the caller at a place: its lone settle, and the next one loaded.
-use Rattle.std.proofs.Common.{◌≡◌, ℕ, ◌+◌, ◌-◌, IsTrue, List, [], ◌∷◌, ◌++◌, length, reverse, set, Option, Some, None, refl, sym, ◌∙◌, ap, subst, arith}
-use Rattle.std.specs.Prelude.{slice_get}
-use Rattle.std.proofs.lemmas.List.{reverse-append, length-append}
+use Rattle.bus_core.proofs.Cited.{◌≡◌, ℕ, ◌+◌, ◌-◌, IsTrue, List, [], ◌∷◌, ◌++◌, length, reverse, set, Option, Some, None, refl, sym, ◌∙◌}
+use Rattle.bus_core.proofs.Cited.{ap, subst, arith, slice_get, reverse-append, length-append, Entry, Errno, LockId, Reply, MOST_CALLERS}
+use Rattle.bus_core.proofs.Cited.{TransferView, walk_for, IsStepwise, Settle, Then, Ends, root_ports, with_place, begun_with, Place, Whole}
+use Rattle.bus_core.proofs.Cited.{CoreKept, IsLone, next_of, settle-errs, going-asks, room-one, roots_of, IsKept, HasStepped, walk_left}
+use Rattle.bus_core.proofs.Cited.{place_of, MayRefuse, IsRefusedIn, CoreInside, Seat, over_ends}
 use Rattle.i2c_base.specs.declared.caller.Caller.{Ghosts as CallerGhosts}
-use Rattle.i2c_base.specs.declared.entry.Entry.{Entry}
 use Rattle.i2c_base.specs.declared.entry.Entry.TheVariants as entry
-use Rattle.i2c_base.specs.declared.errno.Errno.{Errno}
-use Rattle.i2c_base.specs.declared.ids.LockId.{LockId}
-use Rattle.i2c_base.specs.declared.reply.Reply.{Reply}
 use Rattle.i2c_base.specs.declared.reply.Reply.TheVariants as answer
-use Rattle.i2c_base.specs.Limits.{MOST_CALLERS}
-use Rattle.i2c_base.specs.Transfer.{TransferView}
 use Rattle.ports.specs.declared.port.Port.{Ghosts as PortGhosts}
-use Rattle.bus_spec.specs.Grammar.{plain, walk_for}
-use Rattle.bus_spec.specs.Stepwise.{IsStepwise}
-use Rattle.bus_spec.specs.Walk.{Settle, Then, Ends}
-use Rattle.bus_message.specs.Ports.{root_ports}
-use Rattle.core_laws.specs.Behind.{with_place, begun_with}
-use Rattle.core_laws.specs.Core.{Place, Whole, CoreKept, IsLone}
-use Rattle.core_laws.specs.Steps.{next_of}
-use Rattle.core_laws.proofs.Laws.{core-lone, core-lone-finished, settle-lone, settle-errs, going-asks, lone-due, turn-lone, room-one}
-use Rattle.bus_core.specs.Kept.{roots_of, IsKept, HasStepped}
-use Rattle.bus_core.specs.Places.{walk_left, place_of}
-use Rattle.bus_core.specs.Seats.{MayRefuse, IsRefusedIn}
-use Rattle.bus_core.specs.declared.parts.CoreInside.{CoreInside}
-use Rattle.bus_core.specs.declared.seat.Seat.{Seat}
+use Rattle.bus_spec.specs.Grammar.{plain}
+use Rattle.core_laws.proofs.Laws.{core-lone, core-lone-finished, settle-lone, lone-due, turn-lone}
 use Rattle.bus_core.proofs.Kept.{standing, fair, seated-here, asks-here, wired-here, new-scripts, kept-whole}
 use Rattle.bus_core.proofs.Locks.{ended-place}
-use Rattle.bus_laws.proofs.past.StandsFacts.{over_ends}
 
 module _ {P C S : Type 0} (g : PortGhosts P) (c : CallerGhosts C S) (x : CoreInside P C) (kept : IsKept g c x) (place : ℕ) (s : Seat C)
     (here : slice_get x.seats.items place ≡ Some s)

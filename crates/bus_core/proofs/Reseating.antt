@@ -1,38 +1,17 @@
 -- A seat after two steps on it, by what each of them leaves.
-use Rattle.std.proofs.Common.{◌≡◌, ◌⊎◌, ◌<◌, ℕ, ◌+◌, ◌≤◌, true, false, List, [], ◌∷◌, ◌++◌, length, Option, Some, refl, sym, ◌∙◌, ap, subst}
-use Rattle.std.specs.Prelude.{take, sum_by, if◌then◌else◌}
+use Rattle.bus_core.proofs.Cited.{◌≡◌, ◌⊎◌, ◌<◌, ℕ, ◌+◌, ◌≤◌, true, false, List, [], ◌∷◌, ◌++◌, length, Option, Some, refl, sym, ◌∙◌, ap}
+use Rattle.bus_core.proofs.Cited.{subst, take, sum_by, if◌then◌else◌, Errno, Cut, Reply, BoardView, Fits, written_of, JournalView, is_over}
+use Rattle.bus_core.proofs.Cited.{seen, rest_of, message_cut, reply_by, WalkTree, Look, ActOutcome, Passed, Sent, Then, Ends, buses, IsLone}
+use Rattle.bus_core.proofs.Cited.{NextMsg, is_call_through, RouteView, slots_of, behind_of, LocksView, MsgResult, IsSeated, walk_left}
+use Rattle.bus_core.proofs.Cited.{owed_by, reply_decided, WentOn, got_heard, HasHeard, HasSettled, HasEnded, HasFreed, MayEnd, MayRefuse}
+use Rattle.bus_core.proofs.Cited.{Decided, Seat, seen_of}
 use Rattle.i2c_base.specs.declared.caller.Caller.{Ghosts as CallerGhosts}
 use Rattle.i2c_base.specs.declared.entry.Entry.TheVariants as entry
-use Rattle.i2c_base.specs.declared.errno.Errno.{Errno}
-use Rattle.i2c_base.specs.declared.reply.Cut.{Cut}
 use Rattle.i2c_base.specs.declared.reply.Cut.TheVariants as cut_at
-use Rattle.i2c_base.specs.declared.reply.Reply.{Reply}
 use Rattle.i2c_base.specs.declared.reply.Reply.TheVariants as reply
-use Rattle.i2c_base.specs.Board.{BoardView}
-use Rattle.i2c_base.specs.Fitting.{Fits}
-use Rattle.i2c_base.specs.Transfer.{written_of}
-use Rattle.bus_journal.specs.View.{JournalView}
-use Rattle.bus_spec.specs.Grammar.{is_over, seen, rest_of}
-use Rattle.bus_spec.specs.Readings.{message_cut}
 use Rattle.bus_spec.specs.Slots.{Slots}
-use Rattle.bus_spec.specs.Stepwise.{reply_by}
-use Rattle.bus_spec.specs.Walk.{WalkTree, Look, ActOutcome, Passed, Sent, Then, Ends}
-use Rattle.i2c_spec.specs.Tree.{buses}
-use Rattle.core_laws.specs.Core.{IsLone}
-use Rattle.mux_plan.specs.declared.task.NextMsg.{NextMsg}
-use Rattle.mux_plan.specs.Plans.{is_call_through}
-use Rattle.core_laws.specs.Steps.{behind_of}
-use Rattle.mux_plan.specs.Plans.{RouteView, slots_of}
-use Rattle.seg_locks.specs.Locks.{LocksView}
-use Rattle.bus_message.specs.declared.message.MsgResult.{MsgResult}
-use Rattle.bus_core.specs.Kept.{IsSeated}
-use Rattle.bus_core.specs.Places.{HasCounted, walk_left, owed_by}
-use Rattle.bus_core.specs.Replies.{reply_decided}
-use Rattle.bus_core.specs.Seats.{WentOn, got_heard, HasHeard, HasSettled, HasEnded, HasFreed, MayEnd, MayRefuse}
-use Rattle.bus_core.specs.declared.replies.Decided.{Decided}
-use Rattle.bus_core.specs.declared.seat.Seat.{Seat}
+use Rattle.bus_core.specs.Places.{HasCounted}
 use Rattle.bus_core.proofs.There.{there-behind}
-use Rattle.core_laws.specs.Spots.{seen_of}
 
 -- a walk that goes on after a step went on before it
 pub still_going : (v : Slots) (w : WalkTree) (out : ActOutcome) → is_over (rest_of (seen v w) out) ≡ false → is_over w ≡ false

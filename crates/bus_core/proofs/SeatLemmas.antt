@@ -1,17 +1,9 @@
 -- The seat at a place of the list, and another one there.
-use Rattle.std.proofs.Common.{◌≡◌, ◌<◌, ℕ, length, nat_eq, true, false, List, [], ◌∷◌, get_or, Option, Some, None, refl, sym, ◌∙◌, ap, subst, inl, inr}
-use Rattle.std.specs.Prelude.{slice_get, is_some}
-use Rattle.std.proofs.lemmas.Option.{get_or_from_slice_get, slice_get-get_or}
-use Rattle.std.proofs.lemmas.Bool.Decides.{eqb_tells}
-use Rattle.i2c_base.specs.declared.reply.Reply.{Reply}
-use Rattle.bus_spec.specs.Walk.{Act}
-use Rattle.core_laws.specs.Steps.{next_of}
-use Rattle.bus_core.specs.Kept.{ComesAt}
-use Rattle.bus_core.specs.Places.{owed_by, walk_left}
-use Rattle.bus_core.specs.declared.parts.CoreInside.{CoreInside}
-use Rattle.bus_core.specs.declared.seat.Seat.{Seat}
-use Rattle.bus_core.specs.Replies.{RepliesView, reply_decided}
-use Rattle.bus_core.specs.declared.replies.Decided.{Decided}
+use Rattle.bus_core.proofs.Cited.{◌≡◌, ◌<◌, ℕ, length, true, false, List, [], ◌∷◌, get_or, Option, Some, None, refl, sym, ◌∙◌, ap, subst}
+use Rattle.bus_core.proofs.Cited.{inl, inr, slice_get, get_or_from_slice_get, slice_get-get_or, eqb_tells, Reply, Act, next_of, ComesAt}
+use Rattle.bus_core.proofs.Cited.{owed_by, walk_left, CoreInside, Seat, RepliesView, reply_decided, Decided}
+use Rattle.std.proofs.Common.{nat_eq}
+use Rattle.std.specs.Prelude.{is_some}
 
 -- what was read at a place is what the list has there
 pub read_here : {X : Type 0} (xs : List X) (i : ℕ) (x y : X) → slice_get xs i ≡ Some x → y ≡ get_or xs i y → y ≡ x

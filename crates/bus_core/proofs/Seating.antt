@@ -1,23 +1,16 @@
 -- The callers take their seats, one after the other: each finds its number without a place, and so at most eight do.
-use Rattle.std.proofs.Common.{◌≡◌, ◌⊎◌, ℕ, zero, suc, ◌+◌, ◌<◌, ◌≤◌, List, [], ◌∷◌, ◌++◌, length, map, set, get_or, replicate, Option, Some, None, refl, sym, ◌∙◌, ap, subst, arith, inl, inr}
-use Rattle.std.specs.Prelude.{slice_get}
+use Rattle.bus_core.proofs.Cited.{◌≡◌, ◌⊎◌, ℕ, zero, suc, ◌+◌, ◌<◌, ◌≤◌, List, [], ◌∷◌, ◌++◌, length, map, set, get_or, Option, Some, None}
+use Rattle.bus_core.proofs.Cited.{refl, sym, ◌∙◌, ap, subst, arith, inl, inr, slice_get, length-append, length-map, length-set}
+use Rattle.bus_core.proofs.Cited.{slice_get_within, get_or_from_slice_get, BoardView, MOST_CALLERS, at_set, callers_scripts, IsFreshSeat}
+use Rattle.bus_core.proofs.Cited.{IsSeatOf, AreSeated, script_of, scripts_of, Seat, there, map_from, map_at}
+use Rattle.std.proofs.Common.{replicate}
 use Rattle.std.specs.List.{sum_by}
-use Rattle.std.proofs.lemmas.List.{length-append, length-map, length-set}
 use Rattle.std.proofs.lemmas.List.Sums.{sum_by-set, get_or-le-sum_by}
-use Rattle.std.proofs.lemmas.Option.{slice_get_within, get_or_from_slice_get}
 use Rattle.i2c_base.specs.declared.caller.Caller.{Ghosts as CallerGhosts}
-use Rattle.i2c_base.specs.Board.{BoardView}
-use Rattle.i2c_base.specs.Limits.{MOST_CALLERS}
 use Rattle.core_laws.specs.Table.{AreDistinct}
-use Rattle.core_laws.proofs.Core.{at_set}
-use Rattle.bus_core.specs.Opens.{numbers_in, callers_scripts, untaken, without_place, IsFreshSeat, IsSeatOf, AreSeated}
-use Rattle.bus_core.specs.Places.{script_of, scripts_of}
+use Rattle.bus_core.specs.Opens.{numbers_in, untaken, without_place}
 use Rattle.bus_core.specs.State.{taken_of}
-use Rattle.bus_core.specs.declared.seat.Seat.{Seat}
-use Rattle.i2c_base.proofs.ListLemmas.{there, map_from}
-use Rattle.i2c_base.proofs.ListLemmas.{map_at}
-use Rattle.i2c_base.proofs.ListLemmas.{set_elsewhere}
-use Rattle.i2c_base.proofs.ListLemmas.{set_here}
+use Rattle.i2c_base.proofs.ListLemmas.{set_elsewhere, set_here}
 
 -- a seat is that of a caller which is what it was, but for its room
 pub fresh_as : {C S : Type 0} (c : CallerGhosts C S) (b : BoardView) (roots : List ℕ) (number : ℕ) (was is : C) (s : Seat C)

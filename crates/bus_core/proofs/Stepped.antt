@@ -1,24 +1,12 @@
 -- A step of two entries, a message or a line step with its settle; and the ports after a step on one of them.
-use Rattle.std.proofs.Common.{◌≡◌, ℕ, ◌+◌, true, IsTrue, List, [], ◌∷◌, ◌++◌, length, reverse, map, set, Some, refl, sym, ◌∙◌, ap, arith}
-use Rattle.std.specs.Prelude.{slice_get}
-use Rattle.std.proofs.lemmas.List.{length-append, map-set}
+use Rattle.bus_core.proofs.Cited.{◌≡◌, ℕ, ◌+◌, true, IsTrue, List, [], ◌∷◌, ◌++◌, length, reverse, map, set, Some, refl, sym, ◌∙◌, ap}
+use Rattle.bus_core.proofs.Cited.{arith, slice_get, length-append, map-set, Entry, MOST_CALLERS, caller_of, is_settle, IsStepwise}
+use Rattle.bus_core.proofs.Cited.{root_ports, RootPort, set_same, roots_of, asks_in, IsKept, HasStepped, CoreInside, Seat, map_at}
 use Rattle.i2c_base.specs.declared.caller.Caller.{Ghosts as CallerGhosts}
-use Rattle.i2c_base.specs.declared.entry.Entry.{Entry}
-use Rattle.i2c_base.specs.Limits.{MOST_CALLERS}
 use Rattle.ports.specs.declared.port.Port.{Ghosts as PortGhosts}
 use Rattle.bus_spec.specs.Legal.{is_stepping}
-use Rattle.bus_spec.specs.Readings.{caller_of}
-use Rattle.bus_spec.specs.Schedule.{is_settle}
-use Rattle.bus_spec.specs.Stepwise.{IsStepwise}
-use Rattle.bus_message.specs.Ports.{root_ports}
-use Rattle.bus_message.specs.Ports.{RootPort}
-use Rattle.core_laws.proofs.Core.{set_same}
 use Rattle.core_laws.proofs.Laws.{turn-two}
-use Rattle.bus_core.specs.Kept.{roots_of, asks_in, IsKept, HasStepped}
-use Rattle.bus_core.specs.declared.parts.CoreInside.{CoreInside}
-use Rattle.bus_core.specs.declared.seat.Seat.{Seat}
 use Rattle.bus_core.proofs.Kept.{new-scripts}
-use Rattle.i2c_base.proofs.ListLemmas.{map_at}
 
 -- the roots of ports are those of what is told of them
 sockets-roots : {P : Type 0} (g : PortGhosts P) (ports : List (ℕ × P))

@@ -1,62 +1,39 @@
 -- A line step of the caller at a place: it may be done, and after it all is kept, with the settle that it decides.
-use Rattle.std.proofs.Common.{◌≡◌, ◌⊎◌, ℕ, ◌+◌, ◌<◌, ◌≤◌, Bool, true, false, IsTrue, List, [], ◌∷◌, ◌++◌, length, reverse, set, Option, Some, None, refl, sym, ◌∙◌, ap, subst, arith, inl, inr}
-use Rattle.std.specs.Prelude.{slice_get, unwrap_or}
+use Rattle.bus_core.proofs.Cited.{◌≡◌, ◌⊎◌, ℕ, ◌+◌, ◌<◌, ◌≤◌, Bool, true, false, IsTrue, List, [], ◌∷◌, ◌++◌, length, reverse, set, Option}
+use Rattle.bus_core.proofs.Cited.{Some, None, refl, sym, ◌∙◌, ap, subst, arith, inl, inr, slice_get, reverse-append, append_assoc, Entry}
+use Rattle.bus_core.proofs.Cited.{Errno, Reply, BoardView, MOST_CALLERS, TransferView, buses, root_of, World, JournalView, first_act}
+use Rattle.bus_core.proofs.Cited.{first_note, is_over, rest_of, seen, now, reply_by, Act, Job, Shift, Settle, Lined, Passed, WalkTree}
+use Rattle.bus_core.proofs.Cited.{line_mux, line_level, IsJobOf, root_ports, MayShift, Shifted, RootPort, tells-after, on-after, MayMark}
+use Rattle.bus_core.proofs.Cited.{SeenView, slots_of, LocksView, Place, has_reply, IsLeft, IsDecided, seen_of, turned_to, WantsIn, next_of}
+use Rattle.bus_core.proofs.Cited.{behind_of, AreMarked, lone_act, locks-here, not_over, kept-after, length-applied_kept, room-one}
+use Rattle.bus_core.proofs.Cited.{held-wants, next-same, roots_of, IsSeated, IsKept, HasStepped, AreHeld, words_after, walk_left, place_of}
+use Rattle.bus_core.proofs.Cited.{WentOn, MaySettle, IsSettledIn, updates_of, cut_of_line, CoreInside, Seat, bytes_given}
+use Rattle.std.specs.Prelude.{unwrap_or}
 use Rattle.std.specs.Option.{option_map}
-use Rattle.std.proofs.lemmas.List.{reverse-append, append_assoc}
 use Rattle.i2c_base.specs.declared.board.MuxKind.{MuxKind}
 use Rattle.i2c_base.specs.declared.board.MuxKind.TheVariants.{Gpio}
 use Rattle.i2c_base.specs.declared.board.MuxSpec.{MuxSpec}
 use Rattle.i2c_base.specs.declared.caller.Caller.{Ghosts as CallerGhosts}
-use Rattle.i2c_base.specs.declared.entry.Entry.{Entry}
 use Rattle.i2c_base.specs.declared.entry.Entry.TheVariants as entry
-use Rattle.i2c_base.specs.declared.errno.Errno.{Errno}
 use Rattle.i2c_base.specs.declared.reply.Cut.TheVariants as cut_at
-use Rattle.i2c_base.specs.declared.reply.Reply.{Reply}
 use Rattle.i2c_base.specs.declared.reply.Reply.TheVariants as answer
-use Rattle.i2c_base.specs.Board.{BoardView}
-use Rattle.i2c_base.specs.Limits.{MOST_CALLERS}
 use Rattle.i2c_base.specs.Muxes.{facts_of}
-use Rattle.i2c_base.specs.Transfer.{TransferView}
 use Rattle.ports.specs.declared.port.Port.{Ghosts as PortGhosts}
 use Rattle.ports.specs.LineCalls.{HasLine}
-use Rattle.i2c_spec.specs.Tree.{buses, root_of, home_of_mux, of_mux}
-use Rattle.i2c_spec.specs.World.{World}
-use Rattle.bus_journal.specs.View.{JournalView}
-use Rattle.bus_spec.specs.Grammar.{first_act, first_note, is_over, rest_of, seen}
-use Rattle.bus_spec.specs.Past.{now}
+use Rattle.i2c_spec.specs.Tree.{home_of_mux, of_mux}
 use Rattle.bus_spec.specs.Readings.{cut_told}
-use Rattle.bus_spec.specs.Stepwise.{reply_by}
-use Rattle.bus_spec.specs.Walk.{Act, Job, Shift, Settle, Lined, Passed, WalkTree, job_bus, line_mux, line_level}
-use Rattle.bus_laws.specs.Jobs.{IsJobOf}
+use Rattle.bus_spec.specs.Walk.{job_bus}
 use Rattle.bus_laws.specs.Next.{HasLineIn}
 use Rattle.bus_laws.proofs.Laws.{next-line, quiet-next}
 use Rattle.bus_laws.proofs.past.Laws.{past-stands}
-use Rattle.bus_message.specs.Ports.{root_ports, MayShift, Shifted}
-use Rattle.mux_plan.proofs.MuxUpdates.{tells-after, on-after}
-use Rattle.mux_plan.specs.Marks.{MayMark}
-use Rattle.mux_plan.specs.Plans.{SeenView, slots_of}
-use Rattle.seg_locks.specs.Locks.{LocksView}
 use Rattle.core_laws.specs.Behind.{line_entry, switched}
-use Rattle.core_laws.specs.Core.{Place, IsShifted, has_reply}
-use Rattle.core_laws.specs.Seats.{IsLeft, IsDecided}
-use Rattle.core_laws.specs.Spots.{seen_of, turned_to}
-use Rattle.bus_message.specs.Ports.{RootPort}
-use Rattle.core_laws.specs.Wants.{WantsIn}
-use Rattle.core_laws.specs.Steps.{next_of, behind_of, AreMarked}
-use Rattle.core_laws.proofs.Core.{lone_act, locks-here, not_over}
-use Rattle.core_laws.proofs.Laws.{kept-after, length-applied_kept, lined-leaves, core-lined, core-line-settled, room-line, room-one, log-line, line-wants, shift-wants, shift-root, held-wants, next-same}
-use Rattle.bus_core.specs.Kept.{roots_of, IsSeated, IsKept, HasStepped}
-use Rattle.bus_core.specs.Marks.{AreHeld, words_after}
-use Rattle.bus_core.specs.Places.{walk_left, place_of}
-use Rattle.bus_core.specs.Seats.{WentOn, MaySettle, IsSettledIn, updates_of, cut_of_line}
-use Rattle.bus_core.specs.declared.parts.CoreInside.{CoreInside}
-use Rattle.bus_core.specs.declared.seat.Seat.{Seat}
+use Rattle.core_laws.specs.Core.{IsShifted}
+use Rattle.core_laws.proofs.Laws.{lined-leaves, core-lined, core-line-settled, room-line, log-line, line-wants, shift-wants, shift-root}
 use Rattle.bus_core.proofs.Kept.{standing, fair, seated-here, kept-whole, stepped-one}
 use Rattle.bus_core.proofs.Converse.{port, length-applied, holds_mux, updates-held, switched-on, marks-on}
 use Rattle.bus_core.proofs.Heard.{went-on-place, settle-first, settled-place}
 use Rattle.bus_core.proofs.Reseating.{seated_on, seated_settled}
 use Rattle.bus_core.proofs.Stepped.{roots-stay, stepped-two}
-use Rattle.i2c_base.specs.Need.{bytes_given}
 
 -- a gpio mux is switched by a line
 by-line : (o : Option MuxSpec) → unwrap_or (option_map (λ (m : MuxSpec). Some m.kind) o) None ≡ Some Gpio

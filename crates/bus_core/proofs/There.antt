@@ -1,17 +1,9 @@
 -- A transfer on a bus that isn't there is refused, so no message of it comes next.
-use Rattle.std.proofs.Common.{◌≡◌, ◌⊎◌, ◌<◌, ℕ, true, false, Option, Some, None, refl, sym, ◌∙◌, ap, inl, inr}
-use Rattle.std.proofs.lemmas.Bool.{ltb-true}
+use Rattle.bus_core.proofs.Cited.{◌≡◌, ◌⊎◌, ◌<◌, ℕ, true, false, Option, Some, None, refl, sym, ◌∙◌, ap, inl, inr, ltb-true, Errno}
+use Rattle.bus_core.proofs.Cited.{BoardView, TransferView, buses, is_over, walk_for, ActOutcome, WalkTree, IsLone, behind_of, LocksView}
 use Rattle.bus_laws.proofs.tree.Law.{refusal-none}
-use Rattle.i2c_base.specs.declared.errno.Errno.{Errno}
-use Rattle.i2c_base.specs.Board.{BoardView}
-use Rattle.i2c_base.specs.Transfer.{TransferView}
-use Rattle.i2c_spec.specs.Tree.{buses}
 use Rattle.i2c_spec.specs.Flat.{refusal}
-use Rattle.bus_spec.specs.Grammar.{is_over, walk_by, walk_for}
-use Rattle.bus_spec.specs.Walk.{ActOutcome, WalkTree}
-use Rattle.core_laws.specs.Core.{IsLone}
-use Rattle.core_laws.specs.Steps.{behind_of}
-use Rattle.seg_locks.specs.Locks.{LocksView}
+use Rattle.bus_spec.specs.Grammar.{walk_by}
 
 -- a transfer that isn't refused is on a bus that is there
 bus-there : (b : BoardView) (t : TransferView) → refusal b t ≡ None → t.bus < buses b

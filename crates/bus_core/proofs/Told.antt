@@ -1,46 +1,26 @@
 -- The state of a core, read off what it keeps.
-use Rattle.std.proofs.Common.{◌≡◌, ℕ, zero, suc, Bool, true, false, IsTrue, List, [], ◌∷◌, ◌++◌, append-nil, map, reverse, Option, Some, None, inl, inr, refl, sym, ◌∙◌, ap, subst, arith}
-use Rattle.std.specs.Prelude.{slice_get, if◌then◌else◌}
+use Rattle.bus_core.proofs.Cited.{◌≡◌, ℕ, zero, suc, Bool, true, false, IsTrue, List, [], ◌∷◌, ◌++◌, map, reverse, Option, Some, None, inl}
+use Rattle.bus_core.proofs.Cited.{inr, refl, sym, ◌∙◌, ap, subst, arith, slice_get, if◌then◌else◌, eqb_tells, LockId, Reply, BoardView}
+use Rattle.bus_core.proofs.Cited.{World, CallerTold, IsStuck, over_ends, first_act, current, root_port, next-same, take-wants, Place}
+use Rattle.bus_core.proofs.Cited.{spot_of, next_of, holder_in, HasAdded, WaitsFor, HasUsedUp, IsLeast, IsOverIn, AreLooked, asks_in}
+use Rattle.bus_core.proofs.Cited.{roots_of, run_of, whole_of, IsKept, IsCore, ArePlaced, HasStepped, HasCome, walk_left, owed_by, place_of}
+use Rattle.bus_core.proofs.Cited.{places_of, script_of, scripts_of, HasPlace, HasMade, RepliesView, reply_decided, CoreState, CoreTold}
+use Rattle.bus_core.proofs.Cited.{has_caller, logs_of, roots_in, state_of, IsBlockedAt, HasEndedAt, CoreInside, Decided, Seat, StepAnswer}
+use Rattle.bus_core.proofs.Cited.{map_from, map_at}
+use Rattle.std.proofs.Common.{append-nil}
 use Rattle.std.specs.Option.{is_some}
-use Rattle.std.proofs.lemmas.Bool.Decides.{eqb_tells}
 use Rattle.i2c_base.specs.declared.caller.Caller.{Ghosts as CallerGhosts}
-use Rattle.i2c_base.specs.declared.ids.LockId.{LockId}
 use Rattle.i2c_base.specs.declared.port.PortCall.{PortCall}
-use Rattle.i2c_base.specs.declared.reply.Reply.{Reply}
-use Rattle.i2c_base.specs.Board.{BoardView}
 use Rattle.ports.specs.declared.port.Port.{Ghosts as PortGhosts}
-use Rattle.i2c_spec.specs.World.{World}
-use Rattle.bus_laws.specs.Others.{CallerTold}
-use Rattle.bus_laws.specs.Ready.{IsStuck}
-use Rattle.bus_laws.proofs.past.StandsFacts.{over_ends}
-use Rattle.bus_spec.specs.Grammar.{first_act}
-use Rattle.bus_spec.specs.Past.{current}
-use Rattle.bus_message.specs.Ports.{root_port}
-use Rattle.core_laws.proofs.Laws.{finished-asks, free-ready, holder-same, next-same, take-wants}
-use Rattle.core_laws.specs.Core.{Place, spot_of}
-use Rattle.core_laws.specs.Steps.{next_of}
-use Rattle.seg_locks.specs.Locks.{holder_in}
-use Rattle.bus_core.specs.Answers.{HasAdded, WaitsFor, HasUsedUp, IsLeast, IsOverIn}
-use Rattle.bus_core.specs.Looks.{AreLooked}
-use Rattle.bus_core.specs.Kept.{asks_in, roots_of, run_of, whole_of, IsKept, IsCore, ArePlaced, HasStepped, HasCome}
+use Rattle.core_laws.proofs.Laws.{finished-asks, free-ready, holder-same}
 use Rattle.bus_core.specs.Opens.{IsOpenedWith, opening_of, uncalled}
-use Rattle.bus_core.specs.Places.{walk_left, owed_by, place_of, places_of, script_of, scripts_of}
-use Rattle.bus_core.specs.Ready.{HasPlace, IsLeastReady}
-use Rattle.bus_core.specs.Runs.{HasMade}
-use Rattle.bus_core.specs.Replies.{RepliesView, reply_decided}
-use Rattle.bus_core.specs.State.{AreHanded, CoreState, CoreTold, has_caller, logs_of, now_in, roots_in, state_of, worlds_of}
-use Rattle.bus_core.specs.Steps.{IsBlockedAt, HasEndedAt}
-use Rattle.bus_core.specs.declared.parts.CoreInside.{CoreInside}
-use Rattle.bus_core.specs.declared.replies.Decided.{Decided}
-use Rattle.bus_core.specs.declared.seat.Seat.{Seat}
-use Rattle.bus_core.specs.declared.steps.StepAnswer.{StepAnswer}
+use Rattle.bus_core.specs.Ready.{IsLeastReady}
+use Rattle.bus_core.specs.State.{AreHanded, now_in, worlds_of}
 use Rattle.bus_core.specs.declared.steps.StepAnswer.TheVariants as answer
 use Rattle.bus_core.proofs.Advances.{numbered, over-none, has-made}
 use Rattle.bus_core.proofs.Kept.{place-here}
 use Rattle.bus_core.proofs.Locks.{same_seat}
 use Rattle.bus_core.proofs.Loops.{come-refl, stuck-below, walk-ended}
-use Rattle.i2c_base.proofs.ListLemmas.{map_from}
-use Rattle.i2c_base.proofs.ListLemmas.{map_at}
 
 -- a number that a caller has stands at a place
 pub has-at : {S : Type 0} (scripts : List (ℕ × S)) (n : ℕ) → has_caller scripts n ≡ true

@@ -1,13 +1,13 @@
 -- Homes part the roots as finely as can be. The inductions go over the callers' masks, and over the roots.
-use Rattle.std.proofs.Common.{◌≡◌, ℕ, zero, suc, ◌+◌, ◌<◌, ◌≤◌, eqb, Bool, true, false, cond, ◌&&◌, ◌||◌, List, [], ◌∷◌, ◌++◌, length, map, get_or, fold, nat_lt, All, Some, None, slice_get, refl, sym, ◌∙◌, ap, ap₂, subst, arith, ◌⊎◌, inl, inr, true≢false, ltb-true, ltb-false, lt-ltb, le-ltb, eqb-true, eq-eqb}
-use Rattle.std.specs.List.{range_with_len, list_any}
-use Rattle.std.proofs.lemmas.Bool.Decides.{eqb_tells}
-use Rattle.std.proofs.lemmas.List.{length-map, get_or-map}
-use Rattle.std.proofs.lemmas.List.Elements.{All-from_get_or}
-use Rattle.std.proofs.lemmas.List.FromFn.{length-range_with_len, get_or-range_with_len}
+use Rattle.bus_groups.proofs.Cited.{◌≡◌, ℕ, zero, suc, ◌+◌, ◌<◌, ◌≤◌, eqb, Bool, true, false, cond, ◌&&◌, ◌||◌, List, [], ◌∷◌, ◌++◌, length}
+use Rattle.bus_groups.proofs.Cited.{map, get_or, fold, All, Some, None, refl, sym, ◌∙◌, ap, ap₂, subst, arith, inl, inr, true≢false}
+use Rattle.bus_groups.proofs.Cited.{eqb-true, eq-eqb, range_with_len, list_any, eqb_tells, length-map, get_or-map, All-from_get_or}
+use Rattle.bus_groups.proofs.Cited.{length-range_with_len, get_or-range_with_len, names, names_home, lower, least_home, brought, homes_of}
+use Rattle.bus_groups.proofs.Cited.{caller_home}
+use Rattle.std.proofs.Common.{nat_lt, slice_get, ◌⊎◌, ltb-true, ltb-false, lt-ltb, le-ltb}
 use Rattle.std.proofs.lemmas.List.Sums.{fold-append}
 use Rattle.std.proofs.lemmas.List.Folds.{list_any-append}
-use Rattle.bus_groups.specs.Homes.{names, names_home, lower, least_home, brought, homes_of, caller_home, IsOneMark, AreHomes}
+use Rattle.bus_groups.specs.Homes.{IsOneMark, AreHomes}
 use Rattle.std.proofs.lemmas.Bool.{and_parts, or_right, or_cases}
 use Rattle.i2c_base.proofs.ListLemmas.{range_more}
 
@@ -121,7 +121,8 @@ record AreKept (roots : ℕ) (homes : List ℕ) : Type 0 where
 
 first : (roots : ℕ) → AreKept roots (range_with_len 0 roots)
 first roots =
-    let at : (r : ℕ) → r < roots → get_or (range_with_len 0 roots) r 0 ≡ r = λ r there. get_or-range_with_len 0 roots r 0 there ∙ omega arith in
+    let at : (r : ℕ) → r < roots → get_or (range_with_len 0 roots) r 0 ≡ r = λ r there. get_or-range_with_len 0 roots r 0 there
+    ∙ omega arith in
     record {
       count = length-range_with_len 0 roots;
       least = λ r there. let e = at r there in omega (arith, e);
@@ -163,7 +164,8 @@ module _ (roots : ℕ) (homes : List ℕ) (mask : ℕ) (kept : AreKept roots hom
             let lt = low u.0 u.1 in
             ap (λ k. get_or (brought homes mask) k 0) to ∙ at (get_or homes u.0 0) lt
             ∙ ap (goes homes mask) (kept.own u.0 u.1)
-            ∙ ap (λ (b : Bool). cond b (least_home homes mask) (get_or homes u.0 0)) (is-named homes mask u.0 (here u.0 u.1) u.2) ∙ sym is.1)
+            ∙ ap (λ (b : Bool). cond b (least_home homes mask) (get_or homes u.0 0)) (is-named homes mask u.0 (here u.0 u.1) u.2)
+            ∙ sym is.1)
         | inr same ↦ ap (λ k. get_or (brought homes mask) k 0) same ∙ at h small ∙ ap (goes homes mask) own
       ]
 
@@ -173,7 +175,8 @@ module _ (roots : ℕ) (homes : List ℕ) (mask : ℕ) (kept : AreKept roots hom
         count = length-map homes (goes homes mask) ∙ kept.count;
         least = λ r there. let e = at r there in let le = goes-least (get_or homes r 0) (low r there) in let was =
             kept.least r there in omega (arith, e, le, was);
-        own = λ r there. ap (λ k. get_or (brought homes mask) k 0) (at r there) ∙ goes-stays (get_or homes r 0) (low r there) (kept.own r there)
+        own = λ r there. ap (λ k. get_or (brought homes mask) k 0) (at r there) ∙ goes-stays (get_or homes r 0) (low r there)
+            (kept.own r there)
             ∙ sym (at r there);
       }
 
@@ -182,10 +185,12 @@ module _ (roots : ℕ) (homes : List ℕ) (mask : ℕ) (kept : AreKept roots hom
   joins r s there too is also = under-one r there is ∙ sym (under-one s too also)
     where
       under-one : (k : ℕ) → k < roots → names mask k ≡ true → get_or (brought homes mask) k 0 ≡ least_home homes mask
-      under-one k lt named = at k lt ∙ ap (λ (b : Bool). cond b (least_home homes mask) (get_or homes k 0)) (is-named homes mask k (here k lt) named)
+      under-one k lt named = at k lt ∙ ap (λ (b : Bool). cond b (least_home homes mask) (get_or homes k 0))
+          (is-named homes mask k (here k lt) named)
 
   -- roots of one home stay together
-  stay : (r s : ℕ) → r < roots → s < roots → get_or homes r 0 ≡ get_or homes s 0 → get_or (brought homes mask) r 0 ≡ get_or (brought homes mask) s 0
+  stay : (r s : ℕ) → r < roots → s < roots → get_or homes r 0 ≡ get_or homes s 0 → get_or (brought homes mask) r 0 ≡ get_or
+      (brought homes mask) s 0
   stay r s there too same = at r there ∙ ap (goes homes mask) same ∙ sym (at s too)
 
   -- what joins the caller's roots doesn't tell a root from its home
@@ -204,7 +209,8 @@ all-kept : (roots : ℕ) (masks homes : List ℕ) → AreKept roots homes → Ar
 all-kept roots [] homes kept = kept
 all-kept roots (m ∷ ms) homes kept = all-kept roots ms (brought homes m) (next roots homes m kept)
 
-all-stay : (roots : ℕ) (masks homes : List ℕ) → AreKept roots homes → (r s : ℕ) → r < roots → s < roots → get_or homes r 0 ≡ get_or homes s 0
+all-stay : (roots : ℕ) (masks homes : List ℕ) → AreKept roots homes → (r s : ℕ) → r < roots → s < roots
+    → get_or homes r 0 ≡ get_or homes s 0
     → get_or (fold brought homes masks) r 0 ≡ get_or (fold brought homes masks) s 0
 all-stay roots [] homes kept r s there too same = same
 all-stay roots (m ∷ ms) homes kept r s there too same = all-stay roots ms (brought homes m) (next roots homes m kept) r s there too
@@ -259,8 +265,10 @@ range-more n = ap (range_with_len 0) (let e : n + 1 ≡ suc n = omega arith in e
 pub fold-range : (f : ℕ → ℕ → ℕ) (low n : ℕ) → fold f low (range_with_len 0 (n + 1)) ≡ f (fold f low (range_with_len 0 n)) n
 fold-range f low n = ap (fold f low) (range-more n) ∙ fold-append f low (range_with_len 0 n) (n ∷ [])
 
-pub none-range : (p : ℕ → Bool) (n : ℕ) → list_any p (range_with_len 0 n) ≡ false → p n ≡ false → list_any p (range_with_len 0 (n + 1)) ≡ false
-none-range p n none isnt = ap (list_any p) (range-more n) ∙ list_any-append p (range_with_len 0 n) (n ∷ []) ∙ ap₂ (λ b c. b || (c || false)) none isnt
+pub none-range : (p : ℕ → Bool) (n : ℕ) → list_any p (range_with_len 0 n) ≡ false → p n ≡ false
+    → list_any p (range_with_len 0 (n + 1)) ≡ false
+none-range p n none isnt = ap (list_any p) (range-more n) ∙ list_any-append p (range_with_len 0 n) (n ∷ [])
+    ∙ ap₂ (λ b c. b || (c || false)) none isnt
 
 pub some-range : (p : ℕ → Bool) (n many : ℕ) → n < many → p n ≡ true → list_any p (range_with_len 0 many) ≡ true
 some-range p n many there is = in-any p 0 many n (omega arith) (omega (arith, there)) is

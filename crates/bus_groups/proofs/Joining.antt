@@ -1,40 +1,30 @@
 -- What is left of the cores of all homes, put together, is as of one core that ran.
-use Rattle.std.proofs.Common.{◌≡◌, ℕ, zero, suc, ◌+◌, ◌<◌, eqb, Bool, true, false, cond, ◌||◌, IsTrue, IsSome, rules, List, [], ◌∷◌, ◌++◌, length, map, take, drop, set, get_or, flat_map, All, Option, Some, None, refl, sym, ◌∙◌, ap, ap₂, subst, arith, inl, inr, true≢false, eq-eqb}
-use Rattle.std.specs.Prelude.{slice_get}
-use Rattle.std.specs.List.{range_with_len, AllZip}
-use Rattle.std.proofs.lemmas.Bool.Decides.{eqb_tells}
-use Rattle.std.proofs.lemmas.List.{length-map, map-set, map-append}
-use Rattle.std.proofs.lemmas.Option.{get_or_from_slice_get}
-use Rattle.i2c_base.proofs.ListLemmas.{map_from, map_at, map_map}
+use Rattle.bus_groups.proofs.Cited.{◌≡◌, ℕ, zero, suc, ◌+◌, ◌<◌, eqb, Bool, true, false, cond, ◌||◌, IsTrue, rules, List, [], ◌∷◌, ◌++◌}
+use Rattle.bus_groups.proofs.Cited.{length, map, take, drop, set, get_or, flat_map, All, Option, Some, None, refl, sym, ◌∙◌, ap, ap₂, subst}
+use Rattle.bus_groups.proofs.Cited.{arith, inl, inr, true≢false, eq-eqb, slice_get, range_with_len, AllZip, eqb_tells, length-map}
+use Rattle.bus_groups.proofs.Cited.{map-append, get_or_from_slice_get, map_from, map_at, map_map, Entry, Reply, BoardView, root_of, IsTree}
+use Rattle.bus_groups.proofs.Cited.{AreDistinct, roots_of, numbers_in, script_at, CoreState, AllThrough, roots_in, has_caller, caller_of}
+use Rattle.bus_groups.proofs.Cited.{joined, ArePartsApart, homes_of, caller_home, AreByHomes, of_home, parts_by, joined_by, HasRun, IsTold}
+use Rattle.bus_groups.proofs.Cited.{IsOpenedWith, AreLeftOf, MayRun, has_root, part_of, IsOfGroup, AreOfGroups, IsWhole, Share}
+use Rattle.bus_groups.proofs.Cited.{length-map-range_with_len}
+use Rattle.std.proofs.Common.{IsSome}
+use Rattle.std.proofs.lemmas.List.{map-set}
 use Rattle.i2c_base.specs.declared.caller.Caller.{Ghosts as CallerGhosts}
-use Rattle.i2c_base.specs.declared.entry.Entry.{Entry}
 use Rattle.i2c_base.specs.declared.port.PortCall.{PortCall}
-use Rattle.i2c_base.specs.declared.reply.Reply.{Reply}
-use Rattle.i2c_base.specs.Board.{BoardView}
 use Rattle.ports.specs.declared.port.Port.{Ghosts as PortGhosts}
-use Rattle.i2c_spec.specs.Tree.{root_of}
-use Rattle.i2c_spec.specs.TreeFacts.{IsTree}
 use Rattle.i2c_spec.specs.World.{World}
-use Rattle.core_laws.specs.Table.{AreDistinct}
 use Rattle.bus_journal.specs.View.{JournalView}
-use Rattle.bus_core.specs.Kept.{roots_of}
-use Rattle.bus_core.specs.Opens.{numbers_in, callers_scripts, opening_of}
+use Rattle.bus_core.specs.Opens.{callers_scripts, opening_of}
 use Rattle.bus_core.specs.Opening.{Opening}
-use Rattle.bus_core.specs.Places.{scripts_of, script_of, script_at}
-use Rattle.bus_core.specs.State.{CoreState, CoreTold, AllThrough, roots_in, has_caller, worlds_of, taken_of}
+use Rattle.bus_core.specs.Places.{scripts_of, script_of}
+use Rattle.bus_core.specs.State.{CoreTold, worlds_of, taken_of}
 use Rattle.bus_core.specs.declared.bus.ClosedCore.{ClosedCore}
 use Rattle.bus_core.specs.declared.seat.Seat.{Seat}
 use Rattle.bus_core.proofs.Told.{roots-told, has-by, has-at}
-use Rattle.bus_spec.specs.Readings.{caller_of}
-use Rattle.group_laws.specs.Groups.{joined, ArePartsApart, IsApartFrom, AreApart, IsOwn, AreOwn}
-use Rattle.bus_groups.specs.Homes.{homes_of, caller_home, caller_home_at, AreByHomes}
-use Rattle.bus_groups.specs.Shares.{of_home, parts_by, joined_by}
-use Rattle.bus_groups.specs.Slots.{HasRun, IsTold}
-use Rattle.bus_groups.specs.Rounds.{IsOpenedWith, IsLeftOf, AreLeftOf, left_of, CameOut, AreBegun, MayRun}
-use Rattle.bus_groups.specs.Whole.{has_root, part_of, IsOfGroup, AreOfGroups, IsWhole}
-use Rattle.bus_groups.specs.declared.rounds.Share.{Share}
+use Rattle.group_laws.specs.Groups.{IsApartFrom, AreApart, IsOwn, AreOwn}
+use Rattle.bus_groups.specs.Homes.{caller_home_at}
+use Rattle.bus_groups.specs.Rounds.{IsLeftOf, left_of, CameOut, AreBegun}
 use Rattle.std.proofs.lemmas.List.Elements.{All-cons}
-use Rattle.std.proofs.lemmas.List.FromFn.{length-map-range_with_len}
 use Rattle.bus_groups.proofs.ShareLemmas.{undone, zip-length}
 use Rattle.bus_groups.proofs.RoundLemmas.{of-from, map-of, counts, may-share, homes-below}
 use Rattle.bus_groups.proofs.HomeLemmas.{are-homes}
@@ -67,12 +57,14 @@ map-joined {X} {Y} f (h ∷ hs) xss =
     (drop-one f (get_or xss h []) ∙ ap (drop 1) (sym (get-map f xss h)))))
 
 -- an element of parts that are put together is of one of them
-pub joined-from : {X : Type 0} (hs : List ℕ) (xss : List (List X)) (i : ℕ) (y : X) → slice_get (joined_by hs xss) i ≡ Some y → (h : ℕ) × (k : ℕ)
+pub joined-from : {X : Type 0} (hs : List ℕ) (xss : List (List X)) (i : ℕ) (y : X) → slice_get (joined_by hs xss) i ≡ Some y
+    → (h : ℕ) × (k : ℕ)
     × (slice_get (get_or xss h []) k ≡ Some y)
 joined-from [] xss i y at = absurd (let f : None ≡ Some y = at in cc)
 joined-from {X} (h ∷ hs) xss i y at = by (λ zss n e. joined-from hs zss n y e) (get_or xss h []) refl i at
   where
-    later : (xs : List X) (xss : List (List X)) (h n k : ℕ) → get_or xss h [] ≡ xs → slice_get (get_or (set xss h (drop 1 xs)) n []) k ≡ Some y
+    later : (xs : List X) (xss : List (List X)) (h n k : ℕ) → get_or xss h [] ≡ xs → slice_get
+        (get_or (set xss h (drop 1 xs)) n []) k ≡ Some y
         → (g : ℕ) × (j : ℕ) × (slice_get (get_or xss g []) j ≡ Some y)
     later xs [] h n k e at = (n, k, at)
     later [] (zs ∷ zss) zero zero k e at = absurd (let f : None ≡ Some y = at in cc)
@@ -81,7 +73,8 @@ joined-from {X} (h ∷ hs) xss i y at = by (λ zss n e. joined-from hs zss n y e
     later xs (zs ∷ zss) (suc h) zero k e at = (zero, k, at)
     later xs (zs ∷ zss) (suc h) (suc n) k e at = (let r = later xs zss h n k e at in (suc r.0, r.1, r.2))
 
-    by : ((zss : List (List X)) (n : ℕ) → slice_get (joined_by hs zss) n ≡ Some y → (g : ℕ) × (k : ℕ) × (slice_get (get_or zss g []) k ≡ Some y))
+    by : ((zss : List (List X)) (n : ℕ) → slice_get (joined_by hs zss) n ≡ Some y → (g : ℕ) × (k : ℕ)
+        × (slice_get (get_or zss g []) k ≡ Some y))
         → (xs : List X) → get_or xss h [] ≡ xs → (i : ℕ) → slice_get
         (take 1 (get_or xss h []) ++ joined_by hs (set xss h (drop 1 (get_or xss h [])))) i ≡ Some y
         → (g : ℕ) × (k : ℕ) × (slice_get (get_or xss g []) k ≡ Some y)
@@ -94,7 +87,8 @@ joined-from {X} (h ∷ hs) xss i y at = by (λ zss n e. joined-from hs zss n y e
           ∙ sym (ap (λ (l : List X). slice_get (take 1 l ++ joined_by hs (set xss h (drop 1 l))) zero) e) ∙ at,
     )
     by next (x ∷ xs) e (suc i) at = (let r = next (set xss h xs) i (sym
-        (ap (λ (l : List X). slice_get (take 1 l ++ joined_by hs (set xss h (drop 1 l))) (suc i)) e) ∙ at) in later (x ∷ xs) xss h r.0 r.1 e r.2)
+        (ap (λ (l : List X). slice_get (take 1 l ++ joined_by hs (set xss h (drop 1 l))) (suc i)) e) ∙ at) in
+        later (x ∷ xs) xss h r.0 r.1 e r.2)
 
 -- an element of a list of lists that another list tells
 list-at : {X Y : Type 0} (f : X → List Y) (xs : List X) (h k : ℕ) (y : Y) → slice_get (get_or (map f xs) h []) k ≡ Some y → (x : X)
@@ -103,7 +97,8 @@ list-at f [] h k y at = absurd (let e : None ≡ Some y = at in cc)
 list-at f (x ∷ xs) zero k y at = (x, refl, at)
 list-at f (x ∷ xs) (suc h) k y at = list-at f xs h k y at
 
-zip-maps : {X Y Z : Type 0} (R : X → Y → Type 0) (f : Y → Z) (g : X → Z) → ((x : X) (y : Y) → R x y → f y ≡ g x) → (xs : List X) (ys : List Y)
+zip-maps : {X Y Z : Type 0} (R : X → Y → Type 0) (f : Y → Z) (g : X → Z) → ((x : X) (y : Y) → R x y → f y ≡ g x)
+    → (xs : List X) (ys : List Y)
     → AllZip R xs ys → map f ys ≡ map g xs
 zip-maps R f g tells [] [] are = refl
 zip-maps R f g tells [] (y ∷ ys) are = absurd are
@@ -173,7 +168,10 @@ module _ {P C S : Type 0} (p : PortGhosts P) (c : CallerGhosts C S) (b : BoardVi
   is-left x v board l =
       ap (λ (k : BoardView). record v { opening = record v.opening { board = k } }) board
       ∙ ap (λ (ss : List (ℕ × S)). record v { opening = record v.opening { board = b; scripts = ss } }) (sym l.scripts)
-      ∙ ap (λ (ts : List (ℕ × List Reply)). record v { opening = record v.opening { board = b; scripts = scripts_of c x.seats.items }; taken = ts })
+      ∙ ap (λ (ts : List (ℕ × List Reply)). record v {
+        opening = record v.opening { board = b; scripts = scripts_of c x.seats.items };
+        taken = ts;
+      })
       (sym l.taken)
       ∙ ap (λ (j : JournalView). record v {
         opening = record v.opening { board = b; scripts = scripts_of c x.seats.items };
@@ -208,7 +206,8 @@ module _ {P C S : Type 0} (p : PortGhosts P) (c : CallerGhosts C S) (b : BoardVi
   firsts = map (λ (w : ℕ × World). w.0)
 
   -- a share that was opened, ran, and was taken apart
-  one-ran : (s : Share P C) (o n : Option (CoreState S)) (x : ClosedCore P C) → IsOpenedWith p c b s o → HasRun c.asked p.tells o n → AreLeftOf p c n x
+  one-ran : (s : Share P C) (o n : Option (CoreState S)) (x : ClosedCore P C) → IsOpenedWith p c b s o → HasRun c.asked p.tells o n
+      → AreLeftOf p c n x
       → CameOut p c b s.ports.items s.callers.items x
   one-ran s None n x opened ran left = absurd opened
   one-ran s (Some v) None x opened ran left = absurd ran
@@ -223,7 +222,8 @@ module _ {P C S : Type 0} (p : PortGhosts P) (c : CallerGhosts C S) (b : BoardVi
         through = λ u. again-through x w u (subst (AllThrough c.asked p.tells) same ran.through);
       }
 
-  pub all-ran : (ss : List (Share P C)) (os ns : List (Option (CoreState S))) (xs : List (ClosedCore P C)) → AllZip (λ s o. IsOpenedWith p c b s o) ss os
+  pub all-ran : (ss : List (Share P C)) (os ns : List (Option (CoreState S))) (xs : List (ClosedCore P C))
+      → AllZip (λ s o. IsOpenedWith p c b s o) ss os
       → AllZip (λ o n. HasRun c.asked p.tells o n) os ns → AllZip (λ n x. AreLeftOf p c n x) ns xs
       → AllZip (λ s x. CameOut p c b s.ports.items s.callers.items x) ss xs
   all-ran [] [] [] [] a r l = tt
@@ -283,11 +283,13 @@ module _ {P C S : Type 0} (p : PortGhosts P) (c : CallerGhosts C S) (b : BoardVi
       once : AreDistinct (map (λ (s : ℕ × S). s.0) scripts)
       once = subst AreDistinct (sym (map_map (λ (s : ℕ × S). s.0) (λ (y : ℕ × C). (y.0, c.script y.1)) callers)) runs.may.distinct
 
-      of-group : (h : ℕ) (x : ClosedCore P C) → CameOut p c b (of_home rh h ports) (of_home ch h callers) x → IsOfGroup c.asked p.tells b scripts (left x)
+      of-group : (h : ℕ) (x : ClosedCore P C) → CameOut p c b (of_home rh h ports) (of_home ch h callers) x
+          → IsOfGroup c.asked p.tells b scripts (left x)
       of-group h x came =
           record {
             board = refl;
-            same = λ n. subst (λ (ss : List (ℕ × S)). has_caller ss n ≡ true → script_at scripts n ≡ script_at ss n) (sym (part-scripts h x came))
+            same = λ n. subst (λ (ss : List (ℕ × S)). has_caller ss n ≡ true → script_at scripts n ≡ script_at ss n)
+                (sym (part-scripts h x came))
                 (script-of-home ch h scripts once n);
             wired = λ i y rs t at asks bus.
                 let z = map_from (λ (q : ℕ × C). (q.0, c.script q.1)) (of_home ch h callers) i y
@@ -322,7 +324,8 @@ module _ {P C S : Type 0} (p : PortGhosts P) (c : CallerGhosts C S) (b : BoardVi
       groups-from h [] are = tt
       groups-from h (x ∷ xs) are = (of-group h x are.0, groups-from (h + 1) xs are.1)
 
-      from-rest : (a d : ℕ) (x : ClosedCore P C) (xs : List (ClosedCore P C)) → a < d → CameOut p c b (of_home rh a ports) (of_home ch a callers) x
+      from-rest : (a d : ℕ) (x : ClosedCore P C) (xs : List (ClosedCore P C)) → a < d → CameOut p c b (of_home rh a ports)
+          (of_home ch a callers) x
           → AreRan d xs → IsApartFrom (part_of c.asked (left x)) (map (part_of c.asked) (map left xs))
       from-rest a d x [] less came are = tt
       from-rest a d x (y ∷ ys) less came are = (
@@ -362,7 +365,8 @@ module _ {P C S : Type 0} (p : PortGhosts P) (c : CallerGhosts C S) (b : BoardVi
                         (has-by (scripts_of c y.0.seats.items) j.1 s.0.number (c.script s.0.caller)
                         (map_at (script_of c) y.0.seats.items j.1 s.0 y.2)),
                     j.1,
-                    map_at (λ (s : Seat C). (s.number, c.taken s.caller)) y.0.seats.items j.1 s.0 y.2 ∙ ap (λ (q : ℕ × List Reply). Some q) s.2,
+                    map_at (λ (s : Seat C). (s.number, c.taken s.caller)) y.0.seats.items j.1 s.0 y.2
+                        ∙ ap (λ (q : ℕ × List Reply). Some q) s.2,
                   );
                 };
             worlds = λ i r w at.
@@ -414,7 +418,8 @@ module _ {P C S : Type 0} (p : PortGhosts P) (c : CallerGhosts C S) (b : BoardVi
         let same : scripts_of c x.seats.items ≡ scripts =
         ap (scripts_of c) se ∙ map-joined (script_of c) ch (map (λ y. y.seats.items) xs)
         ∙ ap (joined_by ch) (map_map (map (script_of c)) (λ y. y.seats.items) xs
-        ∙ zip-maps (λ s y. CameOut p c b s.ports.items s.callers.items y) (λ y. scripts_of c y.seats.items) (λ s. callers_scripts c s.callers.items)
+        ∙ zip-maps (λ s y. CameOut p c b s.ports.items s.callers.items y) (λ y. scripts_of c y.seats.items)
+        (λ s. callers_scripts c s.callers.items)
         (λ s y r. r.scripts) ss xs ran
         ∙ sym (map_map (map g) (λ s. s.callers.items) ss) ∙ ap (map (map g)) callers_of)
         ∙ sym (map-joined g ch (parts_by ch many callers)) ∙ ap (map g)
@@ -430,9 +435,11 @@ module _ {P C S : Type 0} (p : PortGhosts P) (c : CallerGhosts C S) (b : BoardVi
               ∙ sym (map_map (map first) (λ s. s.ports.items) ss) ∙ ap (map (map first)) ports_of)
               ∙ sym (map-joined first rh (parts_by rh many ports)) ∙ ap (map first)
               (undone rh ports many (count_ports ∙ sym (are-homes many masks).count) (homes-below many masks));
-          told = λ v tell. whole-told c.asked p.tells b scripts tree (map (left v) xs) (groups-from v 0 xs are) (apart-from v 0 xs are) (left v x)
+          told = λ v tell. whole-told c.asked p.tells b scripts tree (map (left v) xs) (groups-from v 0 xs are) (apart-from v 0 xs are)
+              (left v x)
               (whole v x xs ps se es) same tell;
-          through = λ v. whole-through c.asked p.tells b scripts tree (map (left v) xs) (groups-from v 0 xs are) (apart-from v 0 xs are) (left v x)
+          through = λ v. whole-through c.asked p.tells b scripts tree (map (left v) xs) (groups-from v 0 xs are) (apart-from v 0 xs are)
+              (left v x)
               (whole v x xs ps se es) same;
         }
 
@@ -476,7 +483,8 @@ module _ {P C S : Type 0} (p : PortGhosts P) (c : CallerGhosts C S) (b : BoardVi
         subst (AreByHomes (caller_home_at rh masks)) (sym es) (by-homes v 0 xs are own)
 
 -- so many cores were opened
-pub begun-count : {P C S : Type 0} (p : PortGhosts P) (c : CallerGhosts C S) (b : BoardView) (homes callers_at : List ℕ) (many : ℕ) (ports : List (ℕ × P))
+pub begun-count : {P C S : Type 0} (p : PortGhosts P) (c : CallerGhosts C S) (b : BoardView) (homes callers_at : List ℕ) (many : ℕ)
+    (ports : List (ℕ × P))
     (callers : List (ℕ × C)) (os : List (Option (CoreState S)))
     → AreBegun p c b homes callers_at many ports callers os → length os ≡ many
 begun-count p c b homes callers_at many ports callers os begun =
@@ -493,7 +501,8 @@ ran-count p c b homes callers_at many ports callers core old new begun ran =
     ∙ begun-count p c b homes callers_at many ports callers (map core old) begun
 
 -- each is there when it ran
-pub all-full : {P C S Y : Type 0} (p : PortGhosts P) (c : CallerGhosts C S) (b : BoardView) (core : Y → Option (CoreState S)) (ss : List (Share P C))
+pub all-full : {P C S Y : Type 0} (p : PortGhosts P) (c : CallerGhosts C S) (b : BoardView) (core : Y → Option (CoreState S))
+    (ss : List (Share P C))
     (xs ys : List Y)
     → AllZip (λ s o. IsOpenedWith p c b s o) ss (map core xs) → AllZip (λ x y. HasRun c.asked p.tells (core x) (core y)) xs ys
     → All (λ y. IsSome (core y)) ys

@@ -9,3 +9,5 @@ pub mod OrderLemmas
 pub mod Joining
 -- The cores of groups are as one core.
 pub mod Whole
+-- What the proofs of this crate cite from elsewhere.
+mod Cited

@@ -1,10 +1,8 @@
 -- Journals of groups one after the other: the inductions go over entries.
-use Rattle.std.proofs.Common.{◌≡◌, ℕ, zero, suc, ◌≤◌, Bool, true, List, [], ◌∷◌, ◌++◌, reverse, Some, None, subst, arith}
-use Rattle.std.specs.Prelude.{slice_get}
+use Rattle.bus_groups.proofs.Cited.{◌≡◌, ℕ, zero, suc, ◌≤◌, Bool, true, List, [], ◌∷◌, ◌++◌, reverse, Some, None, subst, arith, slice_get}
+use Rattle.bus_groups.proofs.Cited.{Entry, caller_of, AreByHomes}
 use Rattle.std.proofs.lemmas.List.{reverse-append}
-use Rattle.i2c_base.specs.declared.entry.Entry.{Entry}
-use Rattle.bus_spec.specs.Readings.{caller_of, Everywhere}
-use Rattle.bus_groups.specs.Homes.{AreByHomes}
+use Rattle.bus_spec.specs.Readings.{Everywhere}
 
 -- each entry is of a caller of this home
 abbrev pub AreOfHome : (ℕ → ℕ) → ℕ → List Entry → Type 0
@@ -15,7 +13,8 @@ abbrev pub AreFrom : (ℕ → ℕ) → ℕ → List Entry → Type 0
 AreFrom home h entries = (i : ℕ) (e : Entry) → slice_get entries i ≡ Some e → h ≤ home (caller_of e)
 
 -- what holds of each entry of a past
-last-own : (Q : Entry → Type 0) (xs : List Entry) (x : Entry) → Everywhere (λ e before. Q e) (xs ++ x ∷ []) → Everywhere (λ e before. Q e) xs × Q x
+last-own : (Q : Entry → Type 0) (xs : List Entry) (x : Entry) → Everywhere (λ e before. Q e) (xs ++ x ∷ [])
+    → Everywhere (λ e before. Q e) xs × Q x
 last-own Q [] x own = (tt, own.0)
 last-own Q (y ∷ ys) x own = (let rest = last-own Q ys x own.1 in ((own.0, rest.0), rest.1))
 

@@ -1,26 +1,16 @@
 -- Shares of the homes: each may open a core, and what is left of all is as of one core. The inductions go over places, over
 -- callers and over groups.
-use Rattle.std.proofs.Common.{◌≡◌, ℕ, zero, suc, ◌+◌, ◌<◌, ◌≤◌, eqb, Bool, true, false, cond, List, [], ◌∷◌, ◌++◌, length, map, take, drop, get_or, flat_map, sum_by, All, Some, None, refl, sym, ◌∙◌, ap, subst, arith, inl, inr, eq-eqb}
-use Rattle.std.specs.Prelude.{slice_get}
-use Rattle.std.specs.List.{range_with_len, AllZip}
-use Rattle.std.proofs.lemmas.Bool.Decides.{eqb_tells}
-use Rattle.std.proofs.lemmas.List.{length-map, get_or-map, map-append}
-use Rattle.std.proofs.lemmas.List.Elements.{All-from_get_or}
-use Rattle.std.proofs.lemmas.List.Sums.{sum_by-cons}
-use Rattle.std.proofs.lemmas.List.FromFn.{length-range_with_len, get_or-range_with_len, length-map-range_with_len, get_or-map-range_with_len}
-use Rattle.std.proofs.lemmas.Option.{slice_get_within, get_or_from_slice_get}
-use Rattle.i2c_base.proofs.ListLemmas.{there, map_from, map_at}
+use Rattle.bus_groups.proofs.Cited.{◌≡◌, ℕ, zero, suc, ◌+◌, ◌<◌, ◌≤◌, eqb, Bool, true, false, cond, List, [], ◌∷◌, ◌++◌, length, map, take}
+use Rattle.bus_groups.proofs.Cited.{drop, get_or, flat_map, sum_by, All, Some, None, refl, sym, ◌∙◌, ap, subst, arith, inl, inr, eq-eqb}
+use Rattle.bus_groups.proofs.Cited.{slice_get, range_with_len, AllZip, eqb_tells, length-map, get_or-map, map-append, All-from_get_or}
+use Rattle.bus_groups.proofs.Cited.{sum_by-cons, length-range_with_len, get_or-range_with_len, length-map-range_with_len}
+use Rattle.bus_groups.proofs.Cited.{get_or-map-range_with_len, get_or_from_slice_get, map_from, map_at, BoardView, root_of, AreDistinct}
+use Rattle.bus_groups.proofs.Cited.{roots_of, MayOpen, numbers_in, names, homes_of, caller_home, of_home, cost_of_home, parts_by, MayRun}
+use Rattle.bus_groups.proofs.Cited.{Share}
+use Rattle.std.proofs.lemmas.Option.{slice_get_within}
+use Rattle.i2c_base.proofs.ListLemmas.{there}
 use Rattle.i2c_base.specs.declared.caller.Caller.{Ghosts as CallerGhosts}
-use Rattle.i2c_base.specs.Board.{BoardView}
 use Rattle.ports.specs.declared.port.Port.{Ghosts as PortGhosts}
-use Rattle.i2c_spec.specs.Tree.{root_of}
-use Rattle.core_laws.specs.Table.{AreDistinct}
-use Rattle.bus_core.specs.Kept.{roots_of}
-use Rattle.bus_core.specs.Opens.{MayOpen, numbers_in}
-use Rattle.bus_groups.specs.Homes.{names, homes_of, caller_home}
-use Rattle.bus_groups.specs.Shares.{of_home, cost_of_home, parts_by}
-use Rattle.bus_groups.specs.Rounds.{MayRun}
-use Rattle.bus_groups.specs.declared.rounds.Share.{Share}
 use Rattle.bus_groups.proofs.ShareLemmas.{part-at, of-sum}
 use Rattle.bus_groups.proofs.HomeLemmas.{are-homes, range-more}
 
@@ -33,7 +23,8 @@ of-from {X} (j ∷ js) h (x ∷ xs) k y at =
     elim (eqb_tells j h) [
       | inl same ↦ here k (ap (λ (b : Bool). slice_get (cond b (x ∷ of_home js h xs) (of_home js h xs)) k) (sym same.0) ∙ at) same.1
           (λ n e. of-from js h xs n y e)
-      | inr other ↦ (let r = of-from js h xs k y (ap (λ (b : Bool). slice_get (cond b (x ∷ of_home js h xs) (of_home js h xs)) k) (sym other.0)
+      | inr other ↦ (let r = of-from js h xs k y (ap (λ (b : Bool). slice_get (cond b (x ∷ of_home js h xs) (of_home js h xs)) k)
+          (sym other.0)
           ∙ at) in (suc r.0, r.1, r.2))
     ]
   where
@@ -64,14 +55,16 @@ map-of f [] h xs = refl
 map-of f (j ∷ js) h [] = refl
 map-of {X} {Y} f (j ∷ js) h (x ∷ xs) = by (eqb j h) ∙ ap (λ (ys : List Y). cond (eqb j h) (f x ∷ ys) ys) (map-of f js h xs)
   where
-    by : (b : Bool) → map f (cond b (x ∷ of_home js h xs) (of_home js h xs)) ≡ cond b (f x ∷ map f (of_home js h xs)) (map f (of_home js h xs))
+    by : (b : Bool) → map f (cond b (x ∷ of_home js h xs) (of_home js h xs)) ≡ cond b (f x ∷ map f (of_home js h xs))
+        (map f (of_home js h xs))
     by true = refl
     by false = refl
 
 pub of-distinct : (hs : List ℕ) (h : ℕ) (ns : List ℕ) → AreDistinct ns → AreDistinct (of_home hs h ns)
 of-distinct [] h ns once = λ i k n at to. absurd (let f : None ≡ Some n = at in cc)
 of-distinct (j ∷ js) h [] once = λ i k n at to. absurd (let f : None ≡ Some n = at in cc)
-of-distinct (j ∷ js) h (x ∷ xs) once = by (eqb j h) (of-distinct js h xs (λ i k n at to. (let e = once (suc i) (suc k) n at to in omega (arith, e))))
+of-distinct (j ∷ js) h (x ∷ xs) once = by (eqb j h) (of-distinct js h xs
+    (λ i k n at to. (let e = once (suc i) (suc k) n at to in omega (arith, e))))
     (λ k n at. of-from js h xs k n at)
   where
     with-first : AreDistinct (of_home js h xs) → ((k n : ℕ) → slice_get (of_home js h xs) k ≡ Some n → (i : ℕ) × (slice_get xs i ≡ Some n)
@@ -82,7 +75,8 @@ of-distinct (j ∷ js) h (x ∷ xs) once = by (eqb j h) (of-distinct js h xs (λ
     with-first rest from (suc i) zero n at to = (let r = from i n at in let e = once (suc r.0) zero n r.1 to in absurd (omega (arith, e)))
     with-first rest from (suc i) (suc k) n at to = ap suc (rest i k n at to)
 
-    by : (b : Bool) → AreDistinct (of_home js h xs) → ((k n : ℕ) → slice_get (of_home js h xs) k ≡ Some n → (i : ℕ) × (slice_get xs i ≡ Some n)
+    by : (b : Bool) → AreDistinct (of_home js h xs) → ((k n : ℕ) → slice_get (of_home js h xs) k ≡ Some n
+        → (i : ℕ) × (slice_get xs i ≡ Some n)
         × (slice_get js i ≡ Some h))
         → AreDistinct (cond b (x ∷ of_home js h xs) (of_home js h xs))
     by false rest from = rest
@@ -90,7 +84,8 @@ of-distinct (j ∷ js) h (x ∷ xs) once = by (eqb j h) (of-distinct js h xs (λ
 
 -- what those of a home have is within what they cost
 pub of-cover : {X : Type 0} (f : X → ℕ) (hs : List ℕ) (h : ℕ) (xs : List X) (costs : List ℕ) → length xs ≡ length costs
-    → ((i n : ℕ) (x : X) → slice_get costs i ≡ Some n → slice_get xs i ≡ Some x → f x ≤ n) → sum_by f (of_home hs h xs) ≤ cost_of_home hs h costs
+    → ((i n : ℕ) (x : X) → slice_get costs i ≡ Some n → slice_get xs i ≡ Some x → f x ≤ n) → sum_by f
+    (of_home hs h xs) ≤ cost_of_home hs h costs
 of-cover f [] h xs costs same le = omega arith
 of-cover f (j ∷ js) h [] [] same le = omega arith
 of-cover f (j ∷ js) h [] (n ∷ ns) same le = absurd (omega (arith, same))
@@ -158,7 +153,8 @@ module _ {P C S : Type 0} (p : PortGhosts P) (c : CallerGhosts C S) (b : BoardVi
             let on = may.wired r.0 x rs t r.1 asks bus in
             let count = counts (roots_of ports) many on.place (root_of b t.bus) roots on.here in
             let low : root_of b t.bus < many = (let e = count.0 in let lt = count.1 in omega (arith, e, lt)) in
-            let mine : get_or rh (root_of b t.bus) 0 ≡ h = sym (homes.callers m.0 (root_of b t.bus) low does (homes.one r.0 m.0 m.1)) ∙ m.2 in
+            let mine : get_or rh (root_of b t.bus) 0 ≡ h = sym (homes.callers m.0 (root_of b t.bus) low does (homes.one r.0 m.0 m.1))
+            ∙ m.2 in
             let port = map_from (λ (q : ℕ × P). q.0) ports on.place (root_of b t.bus) on.here in
             let here : slice_get rh on.place ≡ Some h = ap (slice_get rh) (sym count.0)
             ∙ get-there rh (root_of b t.bus) h (let n = homes.count in omega (arith, low, n)) mine in
@@ -187,7 +183,8 @@ module _ {P C S : Type 0} (p : PortGhosts P) (c : CallerGhosts C S) (b : BoardVi
       (subst (λ (ys : List (ℕ × C)). MayOpen p c b (of_home rh k ports) ys (get_or shares k d).limit) (sym cs)
       (subst (MayOpen p c b (of_home rh k ports) (of_home ch k callers)) (sym ls) (may-share k)))
 
-pub zip-map : {X Y Z : Type 0} (R : X → Z → Type 0) (f : Y → Z) (xs : List X) (ys : List Y) → AllZip (λ x y. R x (f y)) xs ys → AllZip R xs (map f ys)
+pub zip-map : {X Y Z : Type 0} (R : X → Z → Type 0) (f : Y → Z) (xs : List X) (ys : List Y) → AllZip (λ x y. R x (f y)) xs ys
+    → AllZip R xs (map f ys)
 zip-map R f [] [] are = tt
 zip-map R f [] (y ∷ ys) are = absurd are
 zip-map R f (x ∷ xs) [] are = absurd are
@@ -205,7 +202,11 @@ pub zip-by : {X : Type 0} (R : X → X → Type 0) (xs ys : List X) → length y
 zip-by R [] [] same are = tt
 zip-by R [] (y ∷ ys) same are = absurd (omega (arith, same))
 zip-by R (x ∷ xs) [] same are = absurd (omega (arith, same))
-zip-by R (x ∷ xs) (y ∷ ys) same are = (are 0 x (omega arith), zip-by R xs ys (omega (arith, same)) (λ i d low. are (suc i) d (omega (arith, low))))
+zip-by R (x ∷ xs) (y ∷ ys) same are = (
+  are 0 x (omega arith),
+  zip-by R xs ys (omega (arith, same))
+      (λ i d low. are (suc i) d (omega (arith, low))),
+)
 
 -- homes are below the number of roots
 pub homes-below : (many : ℕ) (masks : List ℕ) → All (λ h. h < many) (homes_of many masks)

@@ -1,13 +1,12 @@
 -- A list parted by homes and put together again. The inductions go over the places.
-use Rattle.std.proofs.Common.{◌≡◌, ◌≢◌, ℕ, zero, suc, ◌+◌, ◌<◌, ◌≤◌, eqb, Bool, true, false, cond, List, [], ◌∷◌, ◌++◌, length, map, take, drop, set, get_or, sum_by, All, refl, sym, ◌∙◌, ap, subst, arith, inl, inr, eq-eqb, true≢false}
-use Rattle.std.specs.List.{AllZip}
-use Rattle.std.proofs.lemmas.Bool.Decides.{eqb_tells}
-use Rattle.std.proofs.lemmas.List.{length-map, get_or-map, get_or-set_same, get_or-set_other, length-set, length-append, set-get_or, drop_more, drop_all}
-use Rattle.std.proofs.lemmas.List.Sums.{sum_by-cons}
-use Rattle.std.proofs.lemmas.Bool.{ne_eqb}
+use Rattle.bus_groups.proofs.Cited.{◌≡◌, ℕ, zero, suc, ◌+◌, ◌<◌, ◌≤◌, eqb, Bool, true, false, cond, List, [], ◌∷◌, ◌++◌, length, map, take}
+use Rattle.bus_groups.proofs.Cited.{drop, set, get_or, sum_by, All, refl, sym, ◌∙◌, ap, subst, arith, inl, inr, eq-eqb, true≢false, AllZip}
+use Rattle.bus_groups.proofs.Cited.{eqb_tells, length-map, get_or-map, length-set, length-append, sum_by-cons, ne_eqb}
+use Rattle.bus_groups.proofs.Cited.{length-map-range_with_len, get_or-map-range_with_len, of_home, cost_of_home, parts_by, joined_by}
+use Rattle.std.proofs.Common.{◌≢◌}
+use Rattle.std.proofs.lemmas.List.{get_or-set_same, get_or-set_other, set-get_or, drop_more, drop_all}
 use Rattle.std.proofs.lemmas.List.Elements.{All-tail, All-head}
-use Rattle.std.proofs.lemmas.List.FromFn.{length-map-range_with_len, get_or-map-range_with_len, fill_by_all}
-use Rattle.bus_groups.specs.Shares.{of_home, cost_of_home, parts_by, joined_by}
+use Rattle.std.proofs.lemmas.List.FromFn.{fill_by_all}
 
 module _ {X : Type 0} where
   -- a part, one element further
@@ -23,7 +22,8 @@ module _ {X : Type 0} where
       ap (λ (zs : List X). cond (eqb k h) (y ∷ zs) zs) (of-more ks h ys x (omega (arith, room)))
       ∙ both (eqb k h) (eqb (get_or ks (length ys) 0) h) (of_home ks h ys)
     where
-      both : (a b : Bool) (zs : List X) → cond a (y ∷ cond b (zs ++ x ∷ []) zs) (cond b (zs ++ x ∷ []) zs) ≡ cond b (cond a (y ∷ zs) zs ++ x ∷ [])
+      both : (a b : Bool) (zs : List X) → cond a (y ∷ cond b (zs ++ x ∷ []) zs) (cond b (zs ++ x ∷ []) zs) ≡ cond b
+          (cond a (y ∷ zs) zs ++ x ∷ [])
           (cond a (y ∷ zs) zs)
       both true true zs = refl
       both true false zs = refl
@@ -39,7 +39,8 @@ module _ {X : Type 0} where
       by true le = omega (arith, le)
       by false le = omega (arith, le)
 
-  pub part-at : (homes : List ℕ) (many : ℕ) (xs : List X) (h : ℕ) (d : List X) → h < many → get_or (parts_by homes many xs) h d ≡ of_home homes h xs
+  pub part-at : (homes : List ℕ) (many : ℕ) (xs : List X) (h : ℕ) (d : List X) → h < many → get_or
+      (parts_by homes many xs) h d ≡ of_home homes h xs
   part-at homes many xs h d there = get_or-map-range_with_len (λ k. of_home homes k xs) 0 many h h d there (omega arith)
 
   -- the parts, where one of them is set as another list has it and the others agree
@@ -57,7 +58,8 @@ module _ {X : Type 0} where
       ])
 
   -- the parts, one element further
-  pub parts-more : (homes : List ℕ) (many : ℕ) (xs : List X) (x : X) (h : ℕ) → length xs < length homes → h < many → h ≡ get_or homes (length xs) 0
+  pub parts-more : (homes : List ℕ) (many : ℕ) (xs : List X) (x : X) (h : ℕ) → length xs < length homes → h < many
+      → h ≡ get_or homes (length xs) 0
       → set (parts_by homes many xs) h (of_home homes h xs ++ x ∷ []) ≡ parts_by homes many (xs ++ x ∷ [])
   parts-more homes many xs x h room there is =
       set-parts homes homes many xs (xs ++ x ∷ []) h (of_home homes h xs ++ x ∷ []) there
@@ -92,7 +94,8 @@ module _ {X : Type 0} where
   pub next-joined : (homes : List ℕ) (i : ℕ) (xss : List (List X)) (h : ℕ) → i < length homes → h ≡ get_or homes i 0
       → joined_by (drop i homes) xss ≡ take 1 (get_or xss h []) ++ joined_by (drop (i + 1) homes) (set xss h (drop 1 (get_or xss h [])))
   next-joined [] i xss h there is = absurd (omega (arith, there))
-  next-joined (k ∷ ks) zero xss h there is = ap (λ j. take 1 (get_or xss j []) ++ joined_by ks (set xss j (drop 1 (get_or xss j [])))) (sym is)
+  next-joined (k ∷ ks) zero xss h there is = ap (λ j. take 1 (get_or xss j []) ++ joined_by ks (set xss j (drop 1 (get_or xss j []))))
+      (sym is)
   next-joined (k ∷ ks) (suc i) xss h there is =
       next-joined ks i xss h (omega (arith, there)) is
       ∙ ap (λ n. take 1 (get_or xss h []) ++ joined_by (drop n (k ∷ ks)) (set xss h (drop 1 (get_or xss h []))))
@@ -137,14 +140,16 @@ come-room came items rest all x goes steps =
 pub at-part : {X Y : Type 0} (f : Y → List X) (homes : List ℕ) (many : ℕ) (came : List X) (ys : List Y) (h : ℕ) (v : Y)
     → map f ys ≡ parts_by homes many came → length ys ≡ many → h < many → v ≡ get_or ys h v → f v ≡ of_home homes h came
 at-part f homes many came ys h v parts count there is =
-    ap f is ∙ sym (get_or-map f ys h v [] (omega (arith, there, count))) ∙ ap (λ zss. get_or zss h []) parts ∙ part-at homes many came h [] there
+    ap f is ∙ sym (get_or-map f ys h v [] (omega (arith, there, count))) ∙ ap (λ zss. get_or zss h []) parts
+    ∙ part-at homes many came h [] there
 
 pub some-left : (n : ℕ) → eqb n 0 ≡ false → 0 < n
 some-left zero e = absurd (true≢false e)
 some-left (suc n) e = omega arith
 
 -- what all have, the next one has
-pub all-next : {X : Type 0} (P : X → Type 0) (came items rest all : List X) (x : X) → came ++ items ≡ all → items ≡ x ∷ rest → All P all → P x
+pub all-next : {X : Type 0} (P : X → Type 0) (came items rest all : List X) (x : X) → came ++ items ≡ all → items ≡ x ∷ rest → All P all
+    → P x
 all-next {X} P came items rest all x goes steps has =
     by came (subst (λ (xs : List X). All P (came ++ xs)) steps (subst (λ (xs : List X). All P xs) (sym goes) has))
   where
@@ -206,7 +211,8 @@ pub cost_elsewhere : (homes costs : List ℕ) (h i : ℕ) → i < length costs �
     → cost_of_home (drop i homes) h (drop i costs) ≡ cost_of_home (drop (i + 1) homes) h (drop (i + 1) costs)
 cost_elsewhere homes costs h i low same other =
     let more = cost-more homes costs h i low same
-    ∙ ap (λ b. cond b (get_or costs i 0) 0 + cost_of_home (drop (i + 1) homes) h (drop (i + 1) costs)) (ne_eqb (get_or homes i 0) h other) in
+    ∙ ap (λ b. cond b (get_or costs i 0) 0 + cost_of_home (drop (i + 1) homes) h (drop (i + 1) costs))
+    (ne_eqb (get_or homes i 0) h other) in
     omega (arith, more)
 
 -- and after the last place

@@ -1,25 +1,20 @@
 -- The cores of groups that ran are as one core that ran. The inductions go over scripts and over groups.
-use Rattle.std.proofs.Common.{◌≡◌, ℕ, zero, suc, ◌<◌, Bool, true, false, cond, IsTrue, List, [], ◌∷◌, map, reverse, Option, Some, None, refl, sym, ◌∙◌, ap, subst, inl, inr}
-use Rattle.std.specs.Prelude.{slice_get}
+use Rattle.bus_groups.proofs.Cited.{◌≡◌, ℕ, zero, suc, ◌<◌, Bool, true, false, cond, IsTrue, List, [], ◌∷◌, map, reverse, Option, Some}
+use Rattle.bus_groups.proofs.Cited.{None, refl, sym, ◌∙◌, ap, subst, inl, inr, slice_get, eqb_tells, Entry, Reply, BoardView, root_of}
+use Rattle.bus_groups.proofs.Cited.{IsTree, script_at, CoreState, AllThrough, roots_in, has_caller, joined, ArePartsApart, IsTold, has_root}
+use Rattle.bus_groups.proofs.Cited.{part_of, IsOfGroup, AreOfGroups, IsWhole}
 use Rattle.std.specs.Option.{option_map_or}
-use Rattle.std.proofs.lemmas.Bool.Decides.{eqb_tells}
-use Rattle.i2c_base.specs.declared.entry.Entry.{Entry}
-use Rattle.i2c_base.specs.declared.reply.Reply.{Reply}
-use Rattle.i2c_base.specs.Board.{BoardView}
 use Rattle.i2c_base.specs.Limits.{MOST_CALLERS}
 use Rattle.i2c_base.specs.Transfer.{TransferView}
-use Rattle.i2c_spec.specs.Tree.{buses, root_of}
-use Rattle.i2c_spec.specs.TreeFacts.{IsTree}
+use Rattle.i2c_spec.specs.Tree.{buses}
 use Rattle.i2c_spec.specs.History.{Asks}
 use Rattle.bus_spec.specs.Past.{Now, now}
 use Rattle.bus_spec.specs.Walk.{Ends}
 use Rattle.bus_spec.specs.Stepwise.{IsStepwise}
-use Rattle.bus_core.specs.Places.{script_at, asks_of}
-use Rattle.bus_core.specs.State.{CoreState, AllThrough, IsThrough, asks_in_state, roots_in, has_caller}
-use Rattle.group_laws.specs.Groups.{IsGroup, IsAlike, joined, IsPart, ArePartsApart, AreParts, AreAlikeIn, AreJoined}
+use Rattle.bus_core.specs.Places.{asks_of}
+use Rattle.bus_core.specs.State.{IsThrough, asks_in_state}
+use Rattle.group_laws.specs.Groups.{IsGroup, IsAlike, IsPart, AreParts, AreAlikeIn, AreJoined}
 use Rattle.group_laws.proofs.Joins.{are-joined}
-use Rattle.bus_groups.specs.Slots.{IsTold}
-use Rattle.bus_groups.specs.Whole.{has_root, part_of, IsOfGroup, AreOfGroups, IsWhole}
 use Rattle.bus_core.proofs.Kept.{script-found}
 
 -- who isn't there has no script
@@ -60,11 +55,13 @@ module _ {S : Type 0} (asked : S → List Reply → Option TransferView) (tells 
         let told : IsTold asked v = of.told tell in
         record {
           group = is-group;
-          stepwise = subst (λ (k : BoardView). IsStepwise k MOST_CALLERS (asks_in_state asked v) (reverse v.journal.entries)) of.board told.stepwise;
+          stepwise = subst (λ (k : BoardView). IsStepwise k MOST_CALLERS (asks_in_state asked v)
+              (reverse v.journal.entries)) of.board told.stepwise;
           rests = subst (λ (k : BoardView). (now k (asks_in_state asked v) (reverse v.journal.entries)).due ≡ None) of.board told.rests;
         }
 
-  are-parts : IsTrue tells → (vs : List (CoreState S)) → AreOfGroups asked tells b scripts vs → AreParts b MOST_CALLERS all (map (part_of asked) vs)
+  are-parts : IsTrue tells → (vs : List (CoreState S)) → AreOfGroups asked tells b scripts vs
+      → AreParts b MOST_CALLERS all (map (part_of asked) vs)
   are-parts tell [] are = tt
   are-parts tell (v ∷ vs) are = (is-part v are.0 tell, are-parts tell vs are.1)
 
@@ -74,7 +71,8 @@ module _ {S : Type 0} (asked : S → List Reply → Option TransferView) (tells 
   group-at (x ∷ xs) are zero v here = subst (IsOfGroup asked tells b scripts) (let f : Some x ≡ Some v = here in cc) are.0
   group-at (x ∷ xs) are (suc i) v here = group-at xs are.1 i v here
 
-  alike-at : (n : Now) (vs : List (CoreState S)) → AreAlikeIn b n (map (part_of asked) vs) → (i : ℕ) (v : CoreState S) → slice_get vs i ≡ Some v
+  alike-at : (n : Now) (vs : List (CoreState S)) → AreAlikeIn b n (map (part_of asked) vs) → (i : ℕ) (v : CoreState S)
+      → slice_get vs i ≡ Some v
       → IsAlike b (has_root (roots_in v)) (has_caller v.opening.scripts) n (now b (asks_in_state asked v) (reverse v.journal.entries))
   alike-at n [] are i v here = absurd (let f : None ≡ Some v = here in cc)
   alike-at n (x ∷ xs) are zero v here =
@@ -84,7 +82,8 @@ module _ {S : Type 0} (asked : S → List Reply → Option TransferView) (tells 
       (now b (asks_in_state asked y) (reverse y.journal.entries))) e are.0
   alike-at n (x ∷ xs) are (suc i) v here = alike-at n xs are.1 i v here
 
-  module _ (tree : IsTree b) (vs : List (CoreState S)) (are : AreOfGroups asked tells b scripts vs) (apart : ArePartsApart (map (part_of asked) vs))
+  module _ (tree : IsTree b) (vs : List (CoreState S)) (are : AreOfGroups asked tells b scripts vs)
+      (apart : ArePartsApart (map (part_of asked) vs))
       (w : CoreState S)
       (whole : IsWhole b asked vs w) (same : w.opening.scripts ≡ scripts) where
     abbrev past : List Entry
@@ -94,7 +93,8 @@ module _ {S : Type 0} (asked : S → List Reply → Option TransferView) (tells 
     joins tell = are-joined b tree MOST_CALLERS all (map (part_of asked) vs) (are-parts tell vs are) apart
 
     -- all as the whole has it
-    as-whole : (P : BoardView → Asks → List Entry → Type 0) → P b all past → P w.opening.board (asks_in_state asked w) (reverse w.journal.entries)
+    as-whole : (P : BoardView → Asks → List Entry → Type 0) → P b all past → P w.opening.board (asks_in_state asked w)
+        (reverse w.journal.entries)
     as-whole P h =
         subst (λ (k : BoardView). P k (asks_in_state asked w) (reverse w.journal.entries)) (sym whole.board)
         (subst (λ (ss : List (ℕ × S)). P b (asks_of asked ss) (reverse w.journal.entries)) (sym same)

@@ -1,5 +1,5 @@
 -- What is put into a room after a text, piece by piece, stands behind it in the order of the pieces.
-use Rattle.std.proofs.Common.{◌≡◌, ℕ, List, ◌++◌, append_assoc, sym, ap, ◌∙◌}
+use Rattle.bus_journal.proofs.Cited.{◌≡◌, ℕ, List, ◌++◌, append_assoc, sym, ap, ◌∙◌}
 
 -- the end of a line, after its front
 pub put_behind : (out new room all front more : List ℕ) → new ++ room ≡ out ++ front → all ≡ room ++ more

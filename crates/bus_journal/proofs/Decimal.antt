@@ -1,6 +1,7 @@
 -- A number's digits: the last one stands behind those of its tenth; and how many there are.
-use Rattle.std.proofs.Common.{◌≡◌, ℕ, List, ◌+◌, ◌^◌, ◌<◌, ◌≤◌, ◌/◌, ◌%◌, [], ◌∷◌, ◌++◌, length, arith, ap, ◌∙◌, length-append, append_assoc}
-use Rattle.std.specs.Fmt.{decimal}
+use Rattle.bus_journal.proofs.Cited.{◌≡◌, ℕ, List, ◌+◌, ◌^◌, ◌<◌, ◌≤◌, ◌/◌, ◌%◌, [], ◌∷◌, ◌++◌, length, arith, ap, ◌∙◌, append_assoc}
+use Rattle.bus_journal.proofs.Cited.{decimal}
+use Rattle.std.proofs.Common.{length-append}
 use Rattle.std.proofs.lemmas.Fmt.{decimal_step, length-decimal-le}
 
 pub digits_more : (was : List ℕ) (n : ℕ) → 10 ≤ n → n < 2 ^ 64 → (was ++ decimal (n / 10)) ++ (48 + n % 10) ∷ [] ≡ was ++ decimal n

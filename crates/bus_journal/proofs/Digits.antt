@@ -1,8 +1,8 @@
 -- The table of digits has what each number below 16 is written with.
-use Rattle.std.proofs.Common.{◌≡◌, ℕ, ◌<◌, map, get_or, refl, ap, ◌∙◌, arith}
+use Rattle.bus_journal.proofs.Cited.{◌≡◌, ℕ, ◌<◌, get_or, refl, ap, ◌∙◌, arith, hex_digit}
+use Rattle.std.proofs.Common.{map}
 use Rattle.std.proofs.lemmas.List.FromFn.{get_or-map-range_with_len}
 use Rattle.std.specs.List.{range_with_len}
-use Rattle.bus_spec.specs.Lines.{hex_digit}
 use Rattle.bus_journal.specs.declared.text.TheConstants.{DIGITS}
 
 -- computed for all of them

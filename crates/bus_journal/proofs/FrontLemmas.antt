@@ -1,14 +1,13 @@
 -- The bytes at the front of a text, one after the other, and its first line.
-use Rattle.std.proofs.Common.{◌≡◌, ℕ, zero, suc, ◌+◌, ◌<◌, ◌≤◌, ◌⊎◌, inl, inr, ◌==◌, ◌&&◌, ◌||◌, Bool, true, false, List, [], ◌∷◌, ◌++◌, length, take, drop, min, Option, Some, None, refl, sym, ◌∙◌, ap, arith}
-use Rattle.std.specs.List.{list_any}
-use Rattle.std.proofs.lemmas.List.{length-append, length-take}
+use Rattle.bus_journal.proofs.Cited.{◌≡◌, ℕ, zero, suc, ◌+◌, ◌<◌, ◌≤◌, ◌==◌, Bool, true, false, List, [], ◌∷◌, ◌++◌, length, take, drop}
+use Rattle.bus_journal.proofs.Cited.{refl, sym, ◌∙◌, ap, arith, list_any, length-append, byte_at, is_hex, bytes_of, IsLine, IsFirstByte}
+use Rattle.bus_journal.proofs.Cited.{is_byte}
+use Rattle.std.proofs.Common.{◌⊎◌, inl, inr, ◌&&◌, ◌||◌, min, Option, Some, None}
+use Rattle.std.proofs.lemmas.List.{length-take}
 use Rattle.std.proofs.lemmas.Bool.{cases_lt, and_parts}
-use Rattle.bus_journal.specs.Guess.{byte_at, is_hex, bytes_of}
-use Rattle.bus_journal.specs.Reports.{IsLine}
 use Rattle.bus_journal.proofs.Nexts.{bytes_next, bytes_end, bytes_end_low, hex_is_third}
 use Rattle.bus_journal.specs.Fronts.{begins_with_byte}
 use Rattle.i2c_base.specs.Limits.{MOST_BYTES}
-use Rattle.memchr.specs.Find.{IsFirstByte, is_byte}
 
 -- neither of two tests, and both
 parts : (a b : Bool) → a || b ≡ false → (a ≡ false) × (b ≡ false)

@@ -1,27 +1,20 @@
 -- No line feed stands in the line of an entry. Over the digits of a number, and over the bytes of a run.
-use Rattle.std.proofs.Common.{◌≡◌, ℕ, zero, suc, List, ◌<◌, ◌/◌, ◌%◌, Bool, true, false, [], ◌∷◌, ◌++◌, ◌==◌, arith, refl, ◌∙◌, cond}
-use Rattle.std.specs.Prelude.{codes, Option, Some, None}
-use Rattle.std.specs.Fmt.{decimal, digits, digits_onto, digit_glyph}
+use Rattle.bus_journal.proofs.Cited.{◌≡◌, ℕ, zero, suc, List, ◌<◌, ◌/◌, ◌%◌, Bool, true, false, [], ◌∷◌, ◌++◌, ◌==◌, arith, refl, ◌∙◌, cond}
+use Rattle.bus_journal.proofs.Cited.{codes, Option, Some, None, decimal, nat_tests, hex_digit, two_digits, spaced_digits, spaced, joined}
+use Rattle.bus_journal.proofs.Cited.{lock_text, purpose_text, direction_text, heard_text, end_text, errno_text, reply_text, cut_text}
+use Rattle.bus_journal.proofs.Cited.{level_end, place_text, part_text, data_text, result_text, entry_line, IsLine, LockId, Node, Errno, Eio}
+use Rattle.bus_journal.proofs.Cited.{Enxio, Ebadf, Ebusy, Enodev, Einval, Eproto, Ebadmsg, Eopnotsupp, Etimedout, Eremoteio, Reply, Cut}
+use Rattle.bus_journal.proofs.Cited.{Purpose, End, Entry}
+use Rattle.std.specs.Fmt.{digits, digits_onto, digit_glyph}
 use Rattle.std.proofs.lemmas.Bool.{or_from}
-use Rattle.std.proofs.lemmas.Bool.Decides.{nat_tests}
 use Rattle.std.proofs.lemmas.List.Folds.{list_any-append}
-use Rattle.bus_spec.specs.Lines.{hex_digit, two_digits, spaced_digits, spaced, joined, lock_text, purpose_text, direction_text, heard_text, end_text, errno_text, reply_text, cut_text, level_end, level_text, place_text, part_text, data_text, result_text, entry_line}
-use Rattle.bus_journal.specs.Reports.{IsLine}
-use Rattle.i2c_base.specs.declared.ids.LockId.{LockId}
+use Rattle.bus_spec.specs.Lines.{level_text}
 use Rattle.i2c_base.specs.declared.ids.LockId.TheVariants as lock
-use Rattle.i2c_base.specs.declared.ids.Node.{Node}
 use Rattle.i2c_base.specs.declared.ids.Node.TheVariants as node
-use Rattle.i2c_base.specs.declared.errno.Errno.{Errno}
-use Rattle.i2c_base.specs.declared.errno.Errno.TheVariants.{Eio, Enxio, Ebadf, Ebusy, Enodev, Einval, Eproto, Ebadmsg, Eopnotsupp, Etimedout, Eremoteio}
-use Rattle.i2c_base.specs.declared.reply.Reply.{Reply}
 use Rattle.i2c_base.specs.declared.reply.Reply.TheVariants as reply
-use Rattle.i2c_base.specs.declared.reply.Cut.{Cut}
 use Rattle.i2c_base.specs.declared.reply.Cut.TheVariants as cut
-use Rattle.i2c_base.specs.declared.entry.Purpose.{Purpose}
 use Rattle.i2c_base.specs.declared.entry.Purpose.TheVariants as purpose
-use Rattle.i2c_base.specs.declared.entry.End.{End}
 use Rattle.i2c_base.specs.declared.entry.End.TheVariants as end
-use Rattle.i2c_base.specs.declared.entry.Entry.{Entry}
 use Rattle.i2c_base.specs.declared.entry.Entry.TheVariants as entry
 
 pub line-append : (a b : List ℕ) → IsLine a → IsLine b → IsLine (a ++ b)

@@ -1,10 +1,7 @@
 -- What a message's line gives when it is read part by part.
-use Rattle.std.proofs.Common.{◌≡◌, ℕ, List, ◌%◌, Bool, ◌==◌, ◌∷◌, take, drop, get_or, ap}
-use Rattle.std.specs.Prelude.{Option, Some}
-use Rattle.bus_journal.specs.Guess.{number_from, behind_number, bytes_of, behind_list, purpose_of, behind_purpose, heard_of, behind_heard, end_of, message_of}
-use Rattle.i2c_base.specs.declared.ids.Node.{Node}
-use Rattle.i2c_base.specs.declared.entry.Purpose.{Purpose}
-use Rattle.i2c_base.specs.declared.entry.End.{End}
+use Rattle.bus_journal.proofs.Cited.{◌≡◌, ℕ, List, ◌%◌, Bool, ◌==◌, ◌∷◌, take, drop, get_or, ap, Option, Some, number_from, behind_number}
+use Rattle.bus_journal.proofs.Cited.{bytes_of, Node, Purpose, End}
+use Rattle.bus_journal.specs.Guess.{behind_list, purpose_of, behind_purpose, heard_of, behind_heard, end_of, message_of}
 use Rattle.i2c_base.specs.declared.entry.Entry.TheVariants as entry
 
 -- the rests of the text are named by what comes next in them

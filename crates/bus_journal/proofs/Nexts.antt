@@ -1,7 +1,8 @@
 -- What the next sign of a text tells of the number, or of the bytes, at its front.
-use Rattle.std.proofs.Common.{◌≡◌, ℕ, List, ◌+◌, ◌-◌, ◌*◌, ◌<◌, ◌≤◌, ◌%◌, true, false, [], ◌∷◌, ◌++◌, length, take, drop, arith, append_assoc, refl}
-use Rattle.std.proofs.lemmas.List.{append-nil, take_all, take-append-le}
-use Rattle.bus_journal.specs.Guess.{byte_at, is_digit, is_hex, hex_value, number_from, behind_number, bytes_of, behind_bytes}
+use Rattle.bus_journal.proofs.Cited.{◌≡◌, ℕ, List, ◌+◌, ◌-◌, ◌*◌, ◌<◌, ◌≤◌, ◌%◌, true, false, [], ◌∷◌, ◌++◌, length, take, drop, arith}
+use Rattle.bus_journal.proofs.Cited.{append_assoc, refl, append-nil, take_all, byte_at, is_digit, is_hex, hex_value}
+use Rattle.std.proofs.lemmas.List.{take-append-le}
+use Rattle.bus_journal.specs.Guess.{number_from, behind_number, bytes_of, behind_bytes}
 
 pub number_next : (n : ℕ) (text : List ℕ) → is_digit (byte_at 0 text) ≡ true
     → number_from n text ≡ number_from ((10 * n + (byte_at 0 text - 48)) % 65536) (drop 1 text)

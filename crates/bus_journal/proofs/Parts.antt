@@ -1,30 +1,21 @@
 -- Each part of a line is read back from its text, whatever stands behind it. Over the digits of a number, and over
 -- the bytes of a run.
-use Rattle.std.proofs.Common.{◌≡◌, ℕ, List, ◌+◌, ◌-◌, ◌*◌, ◌<◌, ◌≤◌, ◌/◌, ◌%◌, true, false, [], ◌∷◌, ◌++◌, take, drop, arith, append_assoc, refl, sym, ap, ◌∙◌}
-use Rattle.std.specs.Prelude.{codes, Option, Some, None}
-use Rattle.std.specs.Fmt.{decimal}
-use Rattle.std.specs.List.{flat_map}
-use Rattle.std.proofs.lemmas.Bool.Decides.{nat_tests}
+use Rattle.bus_journal.proofs.Cited.{◌≡◌, ℕ, List, ◌+◌, ◌-◌, ◌*◌, ◌<◌, ◌≤◌, ◌/◌, ◌%◌, true, false, [], ◌∷◌, ◌++◌, take, drop, arith}
+use Rattle.bus_journal.proofs.Cited.{append_assoc, refl, sym, ap, ◌∙◌, codes, Option, Some, None, decimal, flat_map, nat_tests, append-nil}
+use Rattle.bus_journal.proofs.Cited.{take_all, All-head, All-tail, hex_digit, two_digits, spaced_digits, joined, lock_text, purpose_text}
+use Rattle.bus_journal.proofs.Cited.{heard_text, end_text, errno_text, reply_text, cut_text, is_digit, is_hex, hex_value, IsLock, IsReply}
+use Rattle.bus_journal.proofs.Cited.{IsCut, LockId, Node, Errno, Eio, Enxio, Ebadf, Ebusy, Enodev, Einval, Eproto, Ebadmsg, Eopnotsupp}
+use Rattle.bus_journal.proofs.Cited.{Etimedout, Eremoteio, Reply, Cut, Purpose, End}
 use Rattle.std.proofs.lemmas.Fmt.{decimal_by_steps}
-use Rattle.std.proofs.lemmas.List.{append-nil, take_all}
-use Rattle.std.proofs.lemmas.List.Elements.{All-head, All-tail}
-use Rattle.bus_spec.specs.Lines.{hex_digit, two_digits, spaced_digits, joined, lock_text, purpose_text, heard_text, end_text, errno_text, reply_text, cut_text}
-use Rattle.bus_journal.specs.Guess.{is_digit, is_hex, hex_value, number_from, behind_number, bytes_of, behind_bytes, behind_list, lock_of, purpose_of, behind_purpose, heard_of, behind_heard, end_of, errno_of, reply_of, behind_reply, cut_of}
-use Rattle.bus_journal.specs.Ranges.{IsLock, IsPurpose, IsHeard, IsEnd, IsRun, IsReply, IsCut}
+use Rattle.bus_journal.specs.Guess.{number_from, behind_number, bytes_of, behind_bytes, behind_list, lock_of, purpose_of, behind_purpose}
+use Rattle.bus_journal.specs.Guess.{heard_of, behind_heard, end_of, errno_of, reply_of, behind_reply, cut_of}
+use Rattle.bus_journal.specs.Ranges.{IsPurpose, IsHeard, IsEnd, IsRun}
 use Rattle.i2c_base.specs.Bytes.{IsByte, AreBytes}
-use Rattle.i2c_base.specs.declared.ids.LockId.{LockId}
 use Rattle.i2c_base.specs.declared.ids.LockId.TheVariants as lock
-use Rattle.i2c_base.specs.declared.ids.Node.{Node}
 use Rattle.i2c_base.specs.declared.ids.Node.TheVariants as node
-use Rattle.i2c_base.specs.declared.errno.Errno.{Errno}
-use Rattle.i2c_base.specs.declared.errno.Errno.TheVariants.{Eio, Enxio, Ebadf, Ebusy, Enodev, Einval, Eproto, Ebadmsg, Eopnotsupp, Etimedout, Eremoteio}
-use Rattle.i2c_base.specs.declared.reply.Reply.{Reply}
 use Rattle.i2c_base.specs.declared.reply.Reply.TheVariants as reply
-use Rattle.i2c_base.specs.declared.reply.Cut.{Cut}
 use Rattle.i2c_base.specs.declared.reply.Cut.TheVariants as cut
-use Rattle.i2c_base.specs.declared.entry.Purpose.{Purpose}
 use Rattle.i2c_base.specs.declared.entry.Purpose.TheVariants as purpose
-use Rattle.i2c_base.specs.declared.entry.End.{End}
 use Rattle.i2c_base.specs.declared.entry.End.TheVariants as end
 
 is_digit-at : (d : ℕ) → d < 10 → is_digit (48 + d) ≡ true

@@ -1,19 +1,13 @@
 -- A report's bytes tell its journal: the line above it is the first of its kind, and below it stands a line for each
 -- entry. Over the lines before it, and over the entries.
-use Rattle.std.proofs.Common.{◌≡◌, ℕ, List, ◌+◌, true, false, [], ◌∷◌, ◌++◌, ◌==◌, get_or, append_assoc, refl, sym, ap, ◌∙◌}
-use Rattle.std.specs.Prelude.{codes}
-use Rattle.std.specs.Fmt.{decimal}
-use Rattle.std.specs.List.{All, flat_map, list_any}
-use Rattle.std.proofs.lemmas.Bool.{or_parts}
-use Rattle.std.proofs.lemmas.Grind.{flat_map-append}
-use Rattle.std.proofs.lemmas.List.Elements.{All-nil, All-head, All-tail, All-cons, All-append}
-use Rattle.bus_spec.specs.Lines.{entry_line}
-use Rattle.bus_spec.specs.Report.{sections, ended_line}
-use Rattle.bus_journal.specs.Ranges.{IsEntry}
-use Rattle.bus_journal.specs.Reports.{IsLine, line_ended, IsSectionLine, HasNoJournalLine, ReportsAreDistinct}
+use Rattle.bus_journal.proofs.Cited.{◌≡◌, ℕ, List, ◌+◌, true, false, [], ◌∷◌, ◌++◌, ◌==◌, get_or, append_assoc, refl, sym, ap, ◌∙◌, codes}
+use Rattle.bus_journal.proofs.Cited.{decimal, All, flat_map, list_any, or_parts, flat_map-append, All-nil, All-head, All-tail, entry_line}
+use Rattle.bus_journal.proofs.Cited.{ended_line, IsEntry, IsLine, Entry}
+use Rattle.std.proofs.lemmas.List.Elements.{All-cons, All-append}
+use Rattle.bus_spec.specs.Report.{sections}
+use Rattle.bus_journal.specs.Reports.{line_ended, IsSectionLine, HasNoJournalLine, ReportsAreDistinct}
 use Rattle.bus_journal.proofs.LineFeeds.{line-append, decimal-line, entry-line}
 use Rattle.bus_journal.proofs.Whole.{lines_are_distinct}
-use Rattle.i2c_base.specs.declared.entry.Entry.{Entry}
 use Rattle.i2c_base.specs.declared.entry.Entry.TheVariants as entry
 
 feed_in : (c : ℕ) (a : List ℕ) → c ≡ 10 → IsLine (c ∷ a) → true ≡ false
@@ -35,7 +29,8 @@ first_lines (c ∷ a) (d ∷ b) x y is_a is_b same =
     (cc, rest.1)
 
 -- a line, those behind it, and a text
-pub lines-text : (l : List ℕ) (ls : List (List ℕ)) (text : List ℕ) → flat_map line_ended (l ∷ ls) ++ text ≡ l ++ 10 ∷ (flat_map line_ended ls ++ text)
+pub lines-text : (l : List ℕ) (ls : List (List ℕ)) (text : List ℕ) → flat_map line_ended (l ∷ ls) ++ text ≡ l ++ 10
+    ∷ (flat_map line_ended ls ++ text)
 lines-text l ls text = simp append_assoc
 
 pub entries-text : (e : Entry) (es : List Entry) (text : List ℕ)
@@ -127,6 +122,7 @@ reports_are_distinct texts others es fs all_t all_o all_e all_f same =
     let t = sections-lines 0 texts all_t in
     let o = sections-lines 0 others all_o in
     let below = λ (xs : List Entry). flat_map ended_line xs ++ codes "end\n" in
-    let at : flat_map line_ended t.lines ++ (codes "journal\n" ++ below es) ≡ flat_map line_ended o.lines ++ (codes "journal\n" ++ below fs) =
+    let at : flat_map line_ended t.lines ++ (codes "journal\n" ++ below es) ≡ flat_map line_ended o.lines
+    ++ (codes "journal\n" ++ below fs) =
     rw (← t.text_is, ← o.text_is) same in
     entries_are_distinct es fs all_e all_f (below_journal t.lines o.lines (below es) (below fs) t.others o.others at)

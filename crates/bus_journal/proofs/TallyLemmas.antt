@@ -1,22 +1,15 @@
 -- The counts of the entries that are left: each entry counts no more than its line has signs, so that no sum passes the length of
 -- the text. By induction over the bytes of a reply.
-use Rattle.std.proofs.Common.{◌≡◌, ℕ, ◌+◌, ◌-◌, ◌^◌, ◌<◌, ◌≤◌, ◌==◌, true, false, All, List, [], ◌∷◌, ◌++◌, length, sym, ◌∙◌, ap, subst, arith, ne_eqb}
-use Rattle.std.specs.Prelude.{codes}
-use Rattle.std.specs.Fmt.{decimal}
-use Rattle.std.specs.List.{flat_map, sum_by}
-use Rattle.std.proofs.lemmas.List.{append_assoc, length-append}
+use Rattle.bus_journal.proofs.Cited.{◌≡◌, ℕ, ◌+◌, ◌-◌, ◌^◌, ◌<◌, ◌≤◌, ◌==◌, true, false, List, [], ◌∷◌, ◌++◌, length, sym, ◌∙◌, ap, subst}
+use Rattle.bus_journal.proofs.Cited.{arith, codes, decimal, flat_map, length-append, All-head, All-tail, entry_of, IsEntry, IsLine}
+use Rattle.bus_journal.proofs.Cited.{entry_line, cut_text, spaced, ended_line, plus, Fits, Tally, Entry}
+use Rattle.std.proofs.Common.{All, ne_eqb}
+use Rattle.std.specs.List.{sum_by}
+use Rattle.std.proofs.lemmas.List.{append_assoc}
 use Rattle.std.proofs.lemmas.List.Sums.{sum_by-cons}
-use Rattle.std.proofs.lemmas.List.Elements.{All-head, All-tail}
-use Rattle.bus_journal.specs.Guess.{entry_of}
-use Rattle.bus_journal.specs.Ranges.{IsEntry}
-use Rattle.bus_journal.specs.Reports.{IsLine}
 use Rattle.bus_journal.proofs.LineFeeds.{entry-line}
 use Rattle.bus_journal.proofs.Whole.{entry-read}
-use Rattle.bus_spec.specs.Lines.{entry_line, cut_text, spaced}
-use Rattle.bus_spec.specs.Report.{ended_line}
-use Rattle.bus_journal.specs.Tallies.{transfers_in, messages_in, locks_in, errors_in, bytes_in, tally_of, plus, IsAtMost, Fits}
-use Rattle.bus_journal.specs.declared.tally.Tally.{Tally}
-use Rattle.i2c_base.specs.declared.entry.Entry.{Entry}
+use Rattle.bus_journal.specs.Tallies.{transfers_in, messages_in, locks_in, errors_in, bytes_in, tally_of, IsAtMost}
 use Rattle.i2c_base.specs.declared.entry.Entry.TheVariants as entry
 use Rattle.i2c_base.specs.declared.reply.Reply.TheVariants as reply
 

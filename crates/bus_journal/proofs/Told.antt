@@ -1,24 +1,16 @@
 -- The text of entries tells these entries, and with a line more at its end one entry more. Over the letters of a line, and
 -- over the entries.
-use Rattle.std.proofs.Common.{◌≡◌, ℕ, List, ◌-◌, ◌<◌, [], ◌∷◌, ◌++◌, ◌==◌, cond, length, drop, arith, append_assoc, append-nil, length-append, refl, sym, ap, subst, ◌∙◌}
-use Rattle.std.specs.Prelude.{Option, Some, None}
-use Rattle.std.specs.List.{All, flat_map, last_or}
-use Rattle.std.proofs.lemmas.Bool.{or_parts}
-use Rattle.std.proofs.lemmas.Grind.{flat_map-append}
-use Rattle.std.proofs.lemmas.List.{drop_at}
-use Rattle.std.proofs.lemmas.List.Elements.{All-nil, All-head, All-tail, All-push}
-use Rattle.bus_spec.specs.Lines.{entry_line}
-use Rattle.bus_spec.specs.Report.{ended_line}
-use Rattle.bus_journal.specs.Borrowed.{entry_by}
-use Rattle.bus_journal.specs.Guess.{entry_of}
-use Rattle.bus_journal.specs.Ranges.{IsEntry}
-use Rattle.bus_journal.specs.Reports.{IsLine}
-use Rattle.bus_journal.specs.Told.{entries_from, entries_of, head_of, IsTextOf}
+use Rattle.bus_journal.proofs.Cited.{◌≡◌, ℕ, List, ◌-◌, ◌<◌, [], ◌∷◌, ◌++◌, ◌==◌, cond, length, drop, arith, append_assoc, refl, sym, ap}
+use Rattle.bus_journal.proofs.Cited.{subst, ◌∙◌, Option, Some, None, All, flat_map, or_parts, flat_map-append, drop_at, All-nil, All-head}
+use Rattle.bus_journal.proofs.Cited.{All-tail, entry_line, ended_line, entry_by, entry_of, IsEntry, IsLine, entries_of, IsTextOf, Entry}
+use Rattle.bus_journal.proofs.Cited.{Head}
+use Rattle.std.proofs.Common.{append-nil, length-append}
+use Rattle.std.specs.List.{last_or}
+use Rattle.std.proofs.lemmas.List.Elements.{All-push}
+use Rattle.bus_journal.specs.Told.{entries_from, head_of}
 use Rattle.bus_journal.proofs.LineFeeds.{entry-line}
 use Rattle.bus_journal.proofs.Whole.{entry-read}
-use Rattle.i2c_base.specs.declared.entry.Entry.{Entry}
 use Rattle.i2c_base.specs.declared.reply.ReplyHead.TheVariants as answer
-use Rattle.bus_journal.specs.declared.borrowed.Head.{Head}
 use Rattle.bus_journal.specs.declared.borrowed.Head.TheVariants as head
 
 entries_from-line : (front line text : List ℕ) → IsLine line

@@ -1,18 +1,13 @@
 -- An entry is read back from its line, so its line tells it.
-use Rattle.std.proofs.Common.{◌≡◌, ℕ, List, subst, ◌<◌, Bool, true, false, ◌∷◌, ◌++◌, get_or, ◌==◌, arith, append_assoc, refl, sym, ap, ◌∙◌}
-use Rattle.std.specs.Prelude.{codes, Option, Some}
-use Rattle.std.specs.Fmt.{decimal}
-use Rattle.bus_spec.specs.Lines.{two_digits, joined, lock_text, purpose_text, direction_text, heard_text, end_text, reply_text, cut_text, level_end, entry_line}
+use Rattle.bus_journal.proofs.Cited.{◌≡◌, ℕ, List, subst, ◌<◌, Bool, true, false, ◌∷◌, ◌++◌, get_or, ◌==◌, arith, append_assoc, refl, sym}
+use Rattle.bus_journal.proofs.Cited.{ap, ◌∙◌, codes, Option, Some, decimal, two_digits, joined, lock_text, purpose_text, direction_text}
+use Rattle.bus_journal.proofs.Cited.{heard_text, end_text, reply_text, cut_text, level_end, entry_line, IsLock, IsReply, IsCut, IsEntry}
+use Rattle.bus_journal.proofs.Cited.{LockId, Node, Reply, Cut, Purpose, End, Entry}
 use Rattle.bus_journal.specs.Guess.{message_of, line_of, settle_of, entry_of}
-use Rattle.bus_journal.specs.Ranges.{IsSmall, IsWide, IsLock, IsMessage, IsReply, IsCut, IsEntry, LinesAreDistinct}
-use Rattle.bus_journal.proofs.Parts.{caller_of-then, number_of-then, behind_number-then, bytes_of-byte, run-joined, behind_list-joined, lock-read, purpose-read, behind_purpose-read, heard-read, behind_heard-read, end-read, reply-read, behind_reply-read, cut-read}
-use Rattle.i2c_base.specs.declared.ids.LockId.{LockId}
-use Rattle.i2c_base.specs.declared.ids.Node.{Node}
-use Rattle.i2c_base.specs.declared.reply.Reply.{Reply}
-use Rattle.i2c_base.specs.declared.reply.Cut.{Cut}
-use Rattle.i2c_base.specs.declared.entry.Purpose.{Purpose}
-use Rattle.i2c_base.specs.declared.entry.End.{End}
-use Rattle.i2c_base.specs.declared.entry.Entry.{Entry}
+use Rattle.bus_journal.specs.Ranges.{IsSmall, IsWide, IsMessage, LinesAreDistinct}
+use Rattle.bus_journal.proofs.Parts.{caller_of-then, number_of-then, behind_number-then, bytes_of-byte, run-joined, behind_list-joined}
+use Rattle.bus_journal.proofs.Parts.{lock-read, purpose-read, behind_purpose-read, heard-read, behind_heard-read, end-read, reply-read}
+use Rattle.bus_journal.proofs.Parts.{behind_reply-read, cut-read}
 use Rattle.i2c_base.specs.declared.entry.Entry.TheVariants as entry
 
 take-read : (caller : ℕ) (l : LockId) → IsSmall caller → IsLock l → entry_of (entry_line (entry.Take caller l)) ≡ entry.Take caller l

@@ -12,3 +12,5 @@ pub mod past
 pub mod schedule
 -- The devices law: one message over a root's world and over the flat world.
 pub mod device
+-- What the proofs of this crate cite from elsewhere.
+mod Cited

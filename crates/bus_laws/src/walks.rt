@@ -43,7 +43,7 @@ pub fn each_walk_keeps_to_its_cost()
     an_accepted_board_is_a_tree();
 }
 
-/// All that a walk sends, and each line that it shifts, is after its transfer's root.
+/// All that a walk sends, and each line that it shifts, is behind its transfer's root.
 ///
 /// It sends its messages, and selects and deselects muxes on its path; a mux is closed there too where it is marked.
 pub fn each_walk_stays_on_its_root()

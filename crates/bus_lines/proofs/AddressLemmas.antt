@@ -1,27 +1,17 @@
 -- All targets, while an address byte comes in, at its last bit, and at the start before it.
-use Rattle.std.proofs.Common.{◌≡◌, ℕ, suc, ◌/◌, ◌==◌, ◌<◌, Bool, true, false, ◌&&◌, ◌||◌, cond, List, [], ◌∷◌, map, get_or, Some, refl, sym, ap, ◌∙◌, subst, ◌⊎◌, inl, inr, arith}
-use Rattle.std.specs.Prelude.{slice_get}
-use Rattle.std.specs.List.{list_all}
-use Rattle.std.specs.Option.{option_map_or}
-use Rattle.std.proofs.lemmas.Bool.Decides.{eqb_tells}
-use Rattle.wire_spec.specs.declared.mode.Mode.TheVariants.{Out}
-use Rattle.wire_spec.specs.Wires.{Bit, stands, called, other, is_named, is_reading, shifted, rise, fall, tick, begin}
-use Rattle.wire_spec.specs.Roots.{where_joined, some_one, pulls_line}
-use Rattle.wire_spec.specs.Bus.{holds_line}
-use Rattle.wire_spec.specs.Calls.{released}
-use Rattle.wire_spec.specs.Sites.{NodeState, NO_ADDRESS, node_table}
-use Rattle.bus_lines.specs.declared.edges.Edge.TheVariants.{Leave, Address}
-use Rattle.bus_lines.specs.Edges.{seen, joined_at}
-use Rattle.bus_lines.specs.Joins.{PlaceView, states_on, joins_by}
-use Rattle.bus_lines.specs.Numbers.{is_among}
-use Rattle.bus_lines.specs.Units.{by_number, to_those, shared, addressed, IsCalm, IsUnit, AreUnits}
+use Rattle.bus_lines.proofs.Cited.{◌≡◌, ℕ, suc, ◌/◌, ◌==◌, ◌<◌, Bool, true, false, ◌&&◌, ◌||◌, cond, List, [], ◌∷◌, map, get_or, Some, refl}
+use Rattle.bus_lines.proofs.Cited.{sym, ap, ◌∙◌, subst, ◌⊎◌, inl, inr, arith, slice_get, list_all, option_map_or, eqb_tells, Out, Bit}
+use Rattle.bus_lines.proofs.Cited.{stands, called, other, is_named, is_reading, shifted, rise, fall, tick, begin, where_joined, some_one}
+use Rattle.bus_lines.proofs.Cited.{pulls_line, holds_line, released, NodeState, NO_ADDRESS, node_table, Leave, Address, seen, joined_at}
+use Rattle.bus_lines.proofs.Cited.{PlaceView, states_on, joins_by, is_among, by_number, to_those, shared, addressed, IsCalm, IsUnit}
+use Rattle.bus_lines.proofs.Cited.{AreUnits, or_parts, map_map}
 use Rattle.bus_lines.proofs.KindLemmas.{addr_kept, joined_kept, doors, doors_kept, states_numbered, joins_kept}
 use Rattle.bus_lines.proofs.NumberedLemmas.{map_numbered}
-use Rattle.bus_lines.proofs.UnitLemmas.{done_none, calm_other, shared_rises, shared_last, shared_falls, shared_ticks, shared_holds, shared_pulls, shared_begins, addressed_all, address_holds}
+use Rattle.bus_lines.proofs.UnitLemmas.{done_none, calm_other, shared_rises, shared_last, shared_falls, shared_ticks, shared_holds}
+use Rattle.bus_lines.proofs.UnitLemmas.{shared_pulls, shared_begins, addressed_all, address_holds}
 use Rattle.bus_lines.proofs.TargetsLemmas.{IsTouched, touched_all, stays_out, stays_calm}
-use Rattle.std.proofs.lemmas.Bool.{and_parts, or_parts}
+use Rattle.std.proofs.lemmas.Bool.{and_parts}
 use mathlib.Core.Bool.{and-true}
-use Rattle.i2c_base.proofs.ListLemmas.{map_map}
 
 map_each : {A B : Type 0} (f g : A → B) (xs : List A) → ((x : A) → f x ≡ g x) → map f xs ≡ map g xs
 map_each f g [] same = refl
@@ -83,11 +73,13 @@ unnamed_calm byte b false is names calm = ap (λ j. cond j (seen (Address byte) 
 pub joined_here : (bs : List (Bit NodeState)) (k : ℕ) (b : Bit NodeState) → slice_get bs k ≡ Some b → joined_at bs k ≡ b.site.joined
 joined_here bs k b is = ap (λ o. option_map_or (λ (c : Bit NodeState). c.site.joined) o false) is
 
-module _ (left v : ℕ) (level : Bool) (live started live_new started_new : List ℕ) (at : List (List ℕ)) (ps : List PlaceView) (bs : List (Bit NodeState))
+module _ (left v : ℕ) (level : Bool) (live started live_new started_new : List ℕ) (at : List (List ℕ)) (ps : List PlaceView)
+    (bs : List (Bit NodeState))
     (low : shifted v level / 2 < NO_ADDRESS)
     (units : AreUnits left live started at (joins_by ps (states_on bs)) bs)
     (live_has : (k : ℕ) → is_among live_new k ≡ (is_among live k || (is_among (get_or at (shifted v level / 2) []) k && joined_at bs k)))
-    (started_has : (k : ℕ) → is_among started_new k ≡ (is_among started k || (is_among (get_or at (shifted v level / 2) []) k && joined_at bs k))) where
+    (started_has : (k : ℕ) → is_among started_new k ≡ (is_among started k
+    || (is_among (get_or at (shifted v level / 2) []) k && joined_at bs k))) where
   abbrev byte : ℕ
   byte = shifted v level
 
@@ -102,7 +94,8 @@ module _ (left v : ℕ) (level : Bool) (live started live_new started_new : List
       addressed_all (is_among started_new k) (is_among at_it k) byte b ((units k b is).listed (byte / 2) low)
       (λ out. (units k b is).calm (or_parts (is_among started k) (is_among at_it k && joined_at bs k) (sym (started_has k) ∙ out)).0)
 
-  pub called_seen : (w : ℕ) → left ≡ 1 → map (shared 0 w) (by_number call_to 0 bs) ≡ map (where_joined (λ b. rise node_table b level)) (map (shared left v) bs)
+  pub called_seen : (w : ℕ) → left ≡ 1 → map (shared 0 w) (by_number call_to 0 bs) ≡ map (where_joined (λ b. rise node_table b level))
+      (map (shared left v) bs)
   called_seen w last =
       seen_numbered call_to (shared 0 w) (shared 1 v) (where_joined (λ b. rise node_table b level)) bs
       (λ k b is. call_is k b is ∙ shared_last v level b)
@@ -135,14 +128,16 @@ module _ (left v : ℕ) (level : Bool) (live started live_new started_new : List
 
   pub called_units : AreUnits 0 live_new started_new at (joins_by ps (states_on (by_number call_to 0 bs))) (by_number call_to 0 bs)
   called_units =
-      touched_all left 0 live started live_new started_new at (joins_by ps (states_on bs)) (joins_by ps (states_on (by_number call_to 0 bs))) call_to bs
+      touched_all left 0 live started live_new started_new at (joins_by ps (states_on bs)) (joins_by ps
+      (states_on (by_number call_to 0 bs))) call_to bs
       (joins_kept ps (states_on (by_number call_to 0 bs)) (states_on bs) called_doors) units called_touched
 
   pub called_all : (w : ℕ) → map (shared 0 w) (by_number call_to 0 bs) ≡ map (where_joined (seen (Address byte))) bs
   called_all w = map_numbered call_to (shared 0 w) (where_joined (seen (Address byte))) bs call_is
 
   pub called_holds : (w : ℕ) → some_one holds_line (map (shared 0 w) (by_number call_to 0 bs)) ≡ false
-  called_holds w = ap (some_one holds_line) (called_all w) ∙ some_mapped holds_line (where_joined (seen (Address byte))) bs (address_holds byte)
+  called_holds w = ap (some_one holds_line) (called_all w) ∙ some_mapped holds_line (where_joined (seen (Address byte))) bs
+      (address_holds byte)
 
 pub same_of : (k n : ℕ) → (k == n) ≡ true → k ≡ n
 same_of k n at = elim (eqb_tells k n) [
@@ -219,5 +214,6 @@ module _ (left v : ℕ) (live started : List ℕ) (at : List (List ℕ)) (ps : L
 
   pub left_units : AreUnits 8 live_left started at (joins_by ps (states_on (by_number leave_to 0 bs))) (by_number leave_to 0 bs)
   left_units =
-      touched_all left 8 live started live_left started at (joins_by ps (states_on bs)) (joins_by ps (states_on (by_number leave_to 0 bs))) leave_to bs
+      touched_all left 8 live started live_left started at (joins_by ps (states_on bs)) (joins_by ps
+      (states_on (by_number leave_to 0 bs))) leave_to bs
       (joins_kept ps (states_on (by_number leave_to 0 bs)) (states_on bs) left_doors) units left_touched

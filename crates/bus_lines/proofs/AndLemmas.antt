@@ -1,19 +1,12 @@
 -- The AND of what some of a list give, by their numbers, as a loop over the numbers makes it. The inductions go over the list, and over
 -- the numbers.
-use Rattle.std.proofs.Common.{◌≡◌, ℕ, zero, suc, ◌+◌, ◌<◌, ◌==◌, Bool, true, false, ◌||◌, cond, List, [], ◌∷◌, length, map, drop, set, get_or, Some, refl, sym, ap, ◌∙◌, subst, inl, inr, arith, bit_and}
+use Rattle.bus_lines.proofs.Cited.{◌≡◌, ℕ, zero, suc, ◌+◌, ◌<◌, ◌==◌, Bool, true, false, ◌||◌, cond, List, [], ◌∷◌, length, map, drop, set}
+use Rattle.bus_lines.proofs.Cited.{get_or, Some, refl, sym, ap, ◌∙◌, subst, inl, inr, arith, bit_and, slice_get, and_self, ne_eqb}
+use Rattle.bus_lines.proofs.Cited.{eqb_tells, drop_more, and_all, is_among, by_number, and_by, given_by, eq_self}
 use Rattle.std.proofs.lemmas.Grind.{common_steps}
-use Rattle.std.specs.Prelude.{slice_get}
 use Rattle.std.specs.List.{IsDistinct}
-use Rattle.std.specs.Int.Bits.{and_self}
 use Rattle.std.proofs.lemmas.Nat.{and_comm, and_assoc}
-use Rattle.std.proofs.lemmas.Bool.{ne_eqb}
-use Rattle.std.proofs.lemmas.Bool.Decides.{eqb_tells}
-use Rattle.std.proofs.lemmas.List.{drop_more}
-use Rattle.wire_spec.specs.Roots.{and_all}
-use Rattle.bus_lines.specs.Numbers.{is_among}
-use Rattle.bus_lines.specs.Units.{by_number, and_by, given_by}
 use Rattle.bus_lines.proofs.NumberedLemmas.{set_number, first_apart, rest_apart}
-use Rattle.wire_spec.proofs.WorldLemmas.{eq_self}
 
 -- ---- all ones
 pub byte_ones : (n : ℕ) → n < 256 → bit_and 255 n ≡ n
@@ -44,14 +37,16 @@ and_nobody : {A : Type 0} (q : A → ℕ) (k : ℕ) (xs : List A) → and_by (gi
 and_nobody q k [] = refl
 and_nobody q k (x ∷ xs) = ap (bit_and 255) (and_nobody q (k + 1) xs) ∙ and_self 255
 
-and_after : {A : Type 0} (q : ℕ → A → ℕ) (f : ℕ → A → A) (k : ℕ) (xs : List A) → and_by q k (by_number f k xs) ≡ and_by (λ j x. q j (f j x)) k xs
+and_after : {A : Type 0} (q : ℕ → A → ℕ) (f : ℕ → A → A) (k : ℕ) (xs : List A) → and_by q k (by_number f k xs) ≡ and_by
+    (λ j x. q j (f j x)) k xs
 and_after q f k [] = refl
 and_after q f k (x ∷ xs) = ap (bit_and (q k (f k x))) (and_after q f (k + 1) xs)
 
 -- one list beside another
 and_four : (a b c d : ℕ) → bit_and (bit_and a b) (bit_and c d) ≡ bit_and (bit_and c a) (bit_and b d)
 and_four a b c d =
-    sym (and_assoc d (bit_and a b) c) ∙ ap (λ x. bit_and x d) (and_comm (bit_and a b) c ∙ sym (and_assoc b c a)) ∙ and_assoc d (bit_and c a) b
+    sym (and_assoc d (bit_and a b) c) ∙ ap (λ x. bit_and x d) (and_comm (bit_and a b) c ∙ sym (and_assoc b c a))
+    ∙ and_assoc d (bit_and c a) b
 
 and_both : {A : Type 0} (p q : ℕ → A → ℕ) (k : ℕ) (xs : List A)
     → bit_and (and_by p k xs) (and_by q k xs) ≡ and_by (λ j x. bit_and (q j x) (p j x)) k xs
@@ -107,7 +102,8 @@ either_given true true z = ap (bit_and 255) (and_self z)
 either_given true false z = ap (bit_and 255) (and_comm z 255) ∙ ones_twice z
 either_given false c z = ones_twice (cond c z 255)
 
-told_old : {A : Type 0} (f : A → A) (q : A → ℕ) (sofar : ℕ) (ns : List ℕ) (xs : List A) → bit_and 255 sofar ≡ sofar → IsDistinct (λ k m. k == m) ns
+told_old : {A : Type 0} (f : A → A) (q : A → ℕ) (sofar : ℕ) (ns : List ℕ) (xs : List A) → bit_and 255 sofar ≡ sofar
+    → IsDistinct (λ k m. k == m) ns
     → told_and f q sofar ns xs ≡ bit_and (and_by (given_by ns q) 0 xs) sofar
 told_old f q sofar [] xs ones d = sym (ap (λ o. bit_and o sofar) (and_nobody q 0 xs) ∙ ones)
 told_old {A} f q sofar (n ∷ ns) xs ones d =
@@ -115,7 +111,8 @@ told_old {A} f q sofar (n ∷ ns) xs ones d =
     let those : ℕ → A → ℕ = given_by ns q in
     let first : ℕ → A → ℕ = λ j x. cond (j == n) (q x) 255 in
     let apart = first_apart n ns d in
-    told_old f q (bit_and (and_by first 0 xs) sofar) ns (by_number one 0 xs) (ones_inside (and_by first 0 xs) sofar ones) (rest_apart n ns d)
+    told_old f q (bit_and (and_by first 0 xs) sofar) ns (by_number one 0 xs) (ones_inside (and_by first 0 xs) sofar ones)
+    (rest_apart n ns d)
     ∙ ap (λ b. bit_and b (bit_and (and_by first 0 xs) sofar))
     (and_after those one 0 xs ∙ and_same (λ j x. those j (one j x)) those 0 xs
     (λ j x. ap (bit_and 255) (one_given f q n j ns x (j == n) refl apart)))
@@ -132,7 +129,8 @@ told_and_each f q ns xs d =
     told_old f q 255 ns xs (and_self 255) d ∙ and_comm (and_by (given_by ns q) 0 xs) 255 ∙ and_ones (given_by ns q) 0 xs
 
 -- a loop over some numbers
-module _ {A : Type 0} (f : A → A) (ns : List ℕ) (i n : ℕ) (lt : i < length ns) (at : n ≡ get_or ns i 0) (xs : List A) (d y : A) (low : n < length xs)
+module _ {A : Type 0} (f : A → A) (ns : List ℕ) (i n : ℕ) (lt : i < length ns) (at : n ≡ get_or ns i 0) (xs : List A) (d y : A)
+    (low : n < length xs)
     (is : y ≡ f (get_or xs n d)) where
   pub and_next : (q : A → ℕ) (sofar now : ℕ) → sofar < 256 → now ≡ bit_and sofar (q (get_or xs n d))
       → told_and f q now (drop (i + 1) ns) (set xs n y) ≡ told_and f q sofar (drop i ns) xs

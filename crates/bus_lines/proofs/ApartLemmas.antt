@@ -1,25 +1,22 @@
 -- The targets of a root off its lines: chips, and then devices, one of which is taken out.
-use Rattle.std.proofs.Common.{◌≡◌, ℕ, zero, suc, ◌+◌, ◌-◌, ◌<◌, Bool, true, false, cond, count_by, List, [], ◌∷◌, ◌++◌, length, map, drop, set, get_or, Option, Some, None, refl, sym, ap, ◌∙◌, subst, arith}
-use Rattle.std.specs.Prelude.{IsSome, if◌then◌else◌, slice_get, slice_set, replicate}
-use Rattle.std.specs.Option.{option_map, option_map_or}
-use Rattle.std.proofs.lemmas.List.{length-map, length-append, map-set, get_or-map, get_or-append-add, set-append_right}
+use Rattle.bus_lines.proofs.Cited.{◌≡◌, ℕ, zero, suc, ◌+◌, ◌-◌, ◌<◌, Bool, true, false, cond, count_by, List, [], ◌∷◌, ◌++◌, length, map}
+use Rattle.bus_lines.proofs.Cited.{drop, set, get_or, Option, Some, None, refl, sym, ap, ◌∙◌, subst, arith, IsSome, if◌then◌else◌}
+use Rattle.bus_lines.proofs.Cited.{slice_get, replicate, option_map_or, length-map, length-append, BoardView, DeviceView, ChipView}
+use Rattle.bus_lines.proofs.Cited.{TargetState, Silent, opening_state, Site, Bit, NodeState, Chip, Device, site_with, both, chip_by}
+use Rattle.bus_lines.proofs.Cited.{chips_in, states_of, world_of, PartsOfBoth, Rooted, PlaceView, mux_place, device_place, places_of}
+use Rattle.bus_lines.proofs.Cited.{is_chip, kinds_of, states_on, is_wired, opened_at, rested, whole_at, whole_on, by_number, is_own}
+use Rattle.bus_lines.proofs.Cited.{own_device, without, apart_of, world_apart, device_of}
+use Rattle.std.specs.Prelude.{slice_set}
+use Rattle.std.specs.Option.{option_map}
+use Rattle.std.proofs.lemmas.List.{map-set, get_or-map, get_or-append-add, set-append_right}
 use Rattle.std.proofs.lemmas.List.Sums.{sum_by-cons}
 use Rattle.std.proofs.lemmas.Option.{slice_get-map, slice_get-get_or}
 use Rattle.i2c_base.specs.declared.ids.Node.{Node}
 use Rattle.i2c_base.specs.declared.ids.Node.TheVariants as node
-use Rattle.i2c_base.specs.Board.{BoardView, DeviceView}
-use Rattle.i2c_spec.specs.Chips.{ChipView}
-use Rattle.i2c_spec.specs.Targets.{TargetState, Silent, opening_state}
-use Rattle.wire_spec.specs.Wires.{Site, Bit}
 use Rattle.wire_spec.specs.Roots.{hearing}
-use Rattle.wire_spec.specs.Sites.{NodeState, Chip, Device, site_with, both, chip_by, device_by, chips_in, devices_in, names_of, states_of, world_by, world_of}
-use Rattle.wire_spec.specs.WorldLaws.{PartsOfBoth}
-use Rattle.i2c_bits.specs.Wiring.{Rooted}
-use Rattle.bus_lines.specs.Joins.{PlaceView, mux_place, device_place, places_of, is_chip, kinds_of, states_on}
-use Rattle.bus_lines.specs.Away.{is_wired, opened_at, rested, whole_at, whole_on}
-use Rattle.bus_lines.specs.Units.{by_number}
-use Rattle.bus_lines.specs.Owned.{is_of, is_own, own_device, without}
-use Rattle.bus_lines.specs.Aparts.{apart_of, world_apart, device_of, emptied}
+use Rattle.wire_spec.specs.Sites.{device_by, devices_in, names_of, world_by}
+use Rattle.bus_lines.specs.Owned.{is_of}
+use Rattle.bus_lines.specs.Aparts.{emptied}
 use Rattle.bus_lines.proofs.MaskLemmas.{Kinds, sites_on}
 use Rattle.bus_lines.proofs.NumberedLemmas.{length-numbered}
 
@@ -73,7 +70,8 @@ parts_cons : (s : Site NodeState) (x : NodeState) (nodes : List NodeState) (ss :
     (ds : List (Site TargetState)) (n m : ℕ) → s.state ≡ x → Kinds n m (x ∷ nodes)
     → ((n m : ℕ) → Kinds n m nodes → Parts ss cs ds n m) → Parts (s ∷ ss) (chip_by s x cs) (device_by s x ds) n m
 parts_cons s (Chip x) nodes ss cs ds zero zero state is same = let g : (true ∷ map is_chip nodes) ≡ [] = is in cc
-parts_cons s (Chip x) nodes ss cs ds zero (suc m) state is same = let g : (true ∷ map is_chip nodes) ≡ (false ∷ replicate m false) = is in cc
+parts_cons s (Chip x) nodes ss cs ds zero (suc m) state is same = let g : (true ∷ map is_chip nodes) ≡ (false ∷ replicate m false) = is in
+    cc
 parts_cons s (Chip x) nodes ss cs ds (suc n) m state is same =
     let g : (true ∷ map is_chip nodes) ≡ (true ∷ (replicate n true ++ replicate m false)) = is in
     let e : map is_chip nodes ≡ replicate n true ++ replicate m false = cc in
@@ -101,7 +99,8 @@ pub parts_are : (bs : List (Bit NodeState)) (n m : ℕ) → Kinds n m (states_on
     → Parts (sites_on bs) (chips_in (sites_on bs)) (devices_in (sites_on bs)) n m
 parts_are [] n m is = no_parts n m is
 parts_are (b ∷ bs) n m is =
-    parts_cons b.site b.site.state (states_on bs) (sites_on bs) (chips_in (sites_on bs)) (devices_in (sites_on bs)) n m refl is (parts_are bs)
+    parts_cons b.site b.site.state (states_on bs) (sites_on bs) (chips_in (sites_on bs)) (devices_in (sites_on bs)) n m refl is
+    (parts_are bs)
 
 -- so many chips there are
 counted_cons : (x : NodeState) (bs : List (Bit NodeState)) (n m : ℕ) → Kinds n m (x ∷ states_on bs)
@@ -121,20 +120,24 @@ counted_cons (Device x) bs zero (suc m) is same =
 counted_cons (Device x) bs (suc n) m is same =
     let g : (false ∷ map is_chip (states_on bs)) ≡ (true ∷ (replicate n true ++ replicate m false)) = is in cc
 
-pub chips_counted : (bs : List (Bit NodeState)) (n m : ℕ) → Kinds n m (states_on bs) → count_by (λ (b : Bit NodeState). is_chip b.site.state) bs ≡ n
+pub chips_counted : (bs : List (Bit NodeState)) (n m : ℕ) → Kinds n m (states_on bs) → count_by
+    (λ (b : Bit NodeState). is_chip b.site.state) bs ≡ n
 chips_counted [] zero m is = refl
 chips_counted [] (suc n) m is = let g : [] ≡ (true ∷ (replicate n true ++ replicate m false)) = is in cc
-chips_counted (b ∷ bs) n m is = sum_by-cons (λ (c : Bit NodeState). cond (is_chip c.site.state) 1 0) b bs ∙ counted_cons b.site.state bs n m is (chips_counted bs)
+chips_counted (b ∷ bs) n m is = sum_by-cons (λ (c : Bit NodeState). cond (is_chip c.site.state) 1 0) b bs
+    ∙ counted_cons b.site.state bs n m is (chips_counted bs)
 
 -- ---- what is kept of a target that is there is what is seen of it
-get_numbered : {A : Type 0} (f : ℕ → A → A) (k i : ℕ) (xs : List A) (d : A) → i < length xs → get_or (by_number f k xs) i d ≡ f (k + i) (get_or xs i d)
+get_numbered : {A : Type 0} (f : ℕ → A → A) (k i : ℕ) (xs : List A) (d : A) → i < length xs
+    → get_or (by_number f k xs) i d ≡ f (k + i) (get_or xs i d)
 get_numbered f k i [] d lt = absurd (omega (arith, lt))
 get_numbered f k zero (x ∷ xs) d lt = let e : k ≡ k + 0 = omega arith in ap (λ n. f n x) e
 get_numbered f k (suc i) (x ∷ xs) d lt =
     let e : k + 1 + i ≡ k + suc i = omega arith in
     get_numbered f (k + 1) i xs d (omega (arith, lt)) ∙ ap (λ n. f n (get_or xs i d)) e
 
-set_numbered : {A : Type 0} (f : ℕ → A → A) (k i : ℕ) (xs : List A) (y : A) → by_number f k (set xs i y) ≡ set (by_number f k xs) i (f (k + i) y)
+set_numbered : {A : Type 0} (f : ℕ → A → A) (k i : ℕ) (xs : List A) (y : A) → by_number f k (set xs i y) ≡ set (by_number f k xs) i
+    (f (k + i) y)
 set_numbered f k i [] y = refl
 set_numbered f k zero (x ∷ xs) y = let e : k ≡ k + 0 = omega arith in ap (λ n. f n y ∷ by_number f (k + 1) xs) e
 set_numbered f k (suc i) (x ∷ xs) y =
@@ -144,7 +147,8 @@ set_numbered f k (suc i) (x ∷ xs) y =
 there_whole : (b : BoardView) (ps : List PlaceView) (i : ℕ) (c : Bit NodeState) → is_wired ps i ≡ true → whole_at b ps i c ≡ c
 there_whole b ps i c wired = ap (λ t. cond t c (rested b i c)) wired
 
-pub get_whole : (b : BoardView) (ps : List PlaceView) (i : ℕ) (bs : List (Bit NodeState)) (d : Bit NodeState) → is_wired ps i ≡ true → i < length bs
+pub get_whole : (b : BoardView) (ps : List PlaceView) (i : ℕ) (bs : List (Bit NodeState)) (d : Bit NodeState) → is_wired ps i ≡ true
+    → i < length bs
     → get_or (whole_on b ps bs) i d ≡ get_or bs i d
 get_whole b ps i bs d wired lt =
     let e : 0 + i ≡ i = omega arith in
@@ -186,7 +190,8 @@ pub long_whole : (b : BoardView) (ps : List PlaceView) (bs : List (Bit NodeState
 long_whole b ps bs = length-numbered (whole_at b ps) 0 bs
 
 -- who is in the message stays so, where one is replaced by one that is in it alike
-names_set : {X : Type 0} (name : ℕ → Node) (j k : ℕ) (ds : List (Site X)) (d s : Site X) → hearing s ≡ hearing (get_or ds k d) → k < length ds
+names_set : {X : Type 0} (name : ℕ → Node) (j k : ℕ) (ds : List (Site X)) (d s : Site X) → hearing s ≡ hearing (get_or ds k d)
+    → k < length ds
     → names_of name j (set ds k s) ≡ names_of name j ds
 names_set name j k [] d s is lt = absurd (omega (arith, lt))
 names_set name j zero (x ∷ ds) d s is lt = ap (λ h. if h then name j ∷ names_of name (j + 1) ds else names_of name (j + 1) ds) is
@@ -262,7 +267,8 @@ module _ (parts : (cs : List (Site ChipView)) (ds : List (Site TargetState)) →
   pub device_is : device_of (get_or bs (m + number) d).site.state ≡ slice_get (states_of ds) number
   device_is =
       ap (λ (s : Site NodeState). device_of s.state) site_is
-      ∙ sym (slice_get-map (λ (s : Site TargetState). s.state) ds number ∙ ap (option_map (λ (s : Site TargetState). s.state)) (slice_get-get_or ds number nobody low))
+      ∙ sym (slice_get-map (λ (s : Site TargetState). s.state) ds number ∙ ap (option_map (λ (s : Site TargetState). s.state))
+      (slice_get-get_or ds number nobody low))
 
   pub device_there : IsSome (device_of (get_or bs (m + number) d).site.state)
   device_there = subst (λ (s : Site NodeState). IsSome (device_of s.state)) (sym site_is) refl
@@ -282,12 +288,14 @@ module _ (parts : (cs : List (Site ChipView)) (ds : List (Site TargetState)) →
         map-set (λ (b : Bit NodeState). b.site) bs (m + number) y
         ∙ ap (λ ts. set ts (m + number) y.site) p.0
         ∙ ap (λ (s : Site NodeState). set (both cs ds) (m + number) s) (taken ∙ ap emptied_site site_is)
-        ∙ set-append_right (map (site_with Chip) cs) (map (site_with Device) ds) m (m + number) (site_with Device left) chips_long (omega arith)
+        ∙ set-append_right (map (site_with Chip) cs) (map (site_with Device) ds) m (m + number) (site_with Device left) chips_long
+        (omega arith)
         ∙ (let e : m + number - m ≡ number = omega arith in
         ap (λ i. map (site_with Chip) cs ++ set (map (site_with Device) ds) i (site_with Device left)) e)
         ∙ ap (λ ts. map (site_with Chip) cs ++ ts) (sym (map-set (site_with Device) ds number left))
 
-    pub world_after : (busy : Bool) → world_apart busy (apart_of k (set bs (m + number) y)) ≡ without (world_apart busy (apart_of k bs)) number
+    pub world_after : (busy : Bool) → world_apart busy (apart_of k (set bs (m + number) y)) ≡ without
+        (world_apart busy (apart_of k bs)) number
     world_after busy =
         let w = world_by k.board k.root busy cs ds in
         ap (world_of k.board k.root busy) sites_after

@@ -1,31 +1,16 @@
 -- The devices of other roots, of which nothing is kept: what is done to the targets that are kept is done to all that are seen.
-use Rattle.std.proofs.Common.{◌≡◌, ℕ, zero, suc, ◌+◌, ◌-◌, ◌==◌, Bool, true, false, ◌&&◌, ◌||◌, cond, List, [], ◌∷◌, ◌++◌, length, map, Option, Some, None, refl, sym, ap, ◌∙◌, subst, arith}
-use Rattle.std.specs.Prelude.{slice_get}
-use Rattle.std.specs.List.{list_all}
-use Rattle.std.specs.Option.{option_map_or}
-use Rattle.wire_spec.specs.declared.mode.Mode.TheVariants.{Out, In}
-use Rattle.i2c_base.specs.declared.board.MuxSpec.{MuxSpec}
-use Rattle.i2c_base.specs.Board.{BoardView, DeviceView}
-use Rattle.i2c_base.proofs.ListLemmas.{map_at, map_from}
-use Rattle.i2c_spec.specs.Targets.{TargetState, Silent, opening_state}
-use Rattle.i2c_spec.specs.Tree.{root_of}
-use Rattle.wire_spec.specs.Wires.{Bit, site_of, stands}
-use Rattle.wire_spec.specs.Roots.{where_joined, some_one}
-use Rattle.wire_spec.specs.Bus.{rejoin_from, rejoined}
-use Rattle.wire_spec.specs.Sites.{NodeState, Chip, Device, NO_ADDRESS, mask_of}
-use Rattle.i2c_bits.specs.Wiring.{node_level, levelled_bits}
-use Rattle.bus_lines.specs.Away.{is_wired, opened_at, addr_at, rested, whole_at, whole_on, kept_device, kept_bits}
-use Rattle.bus_lines.specs.Joins.{PlaceView, is_chip, kinds_of, states_on, opens_at, joins, joins_by, places_of, mux_place, device_place, read_anew, at_node_level}
-use Rattle.bus_lines.specs.Opens.{chip_bit, device_bit, bits_of}
-use Rattle.bus_lines.specs.Units.{by_number, shared, AreUnits}
+use Rattle.bus_lines.proofs.Cited.{◌≡◌, ℕ, zero, suc, ◌+◌, ◌-◌, ◌==◌, Bool, true, false, ◌&&◌, ◌||◌, cond, List, [], ◌∷◌, ◌++◌, length, map}
+use Rattle.bus_lines.proofs.Cited.{Option, Some, None, refl, sym, ap, ◌∙◌, subst, arith, slice_get, replicate, not, list_all, option_map_or}
+use Rattle.bus_lines.proofs.Cited.{Out, In, MuxSpec, BoardView, DeviceView, map_at, map_from, TargetState, Silent, opening_state, root_of}
+use Rattle.bus_lines.proofs.Cited.{Bit, site_of, stands, where_joined, some_one, rejoin_from, rejoined, NodeState, Chip, Device, NO_ADDRESS}
+use Rattle.bus_lines.proofs.Cited.{mask_of, node_level, levelled_bits, Rooted, is_wired, opened_at, rested, whole_at, whole_on, kept_device}
+use Rattle.bus_lines.proofs.Cited.{kept_bits, device_at, PlaceView, is_chip, kinds_of, states_on, opens_at, joins, joins_by, places_of}
+use Rattle.bus_lines.proofs.Cited.{mux_place, device_place, read_anew, at_node_level, chip_bit, device_bit, bits_of, by_number, shared}
+use Rattle.bus_lines.proofs.Cited.{AreUnits, RegisterView, length-map}
+use Rattle.bus_lines.specs.Away.{addr_at}
 use Rattle.bus_lines.proofs.KindLemmas.{doors, kinds_doors, joins_kept, states_numbered}
 use Rattle.bus_lines.proofs.MaskLemmas.{rejoin_masked, get_right}
 use Rattle.bus_lines.proofs.TargetsLemmas.{seen_alone}
-use Rattle.bus_lines.specs.Units.{RegisterView}
-use Rattle.bus_lines.specs.Away.{device_at}
-use Rattle.i2c_bits.specs.Wiring.{Rooted}
-use Rattle.std.proofs.lemmas.List.{length-map}
-use Rattle.std.specs.Prelude.{replicate, not}
 use Rattle.bus_lines.proofs.NumberedLemmas.{map_numbered, numbered_map, numbered_twice, numbered_same}
 use Rattle.bus_lines.proofs.StopLemmas.{rejoin_numbered}
 use Rattle.bus_lines.proofs.UnitLemmas.{both_same}
@@ -45,12 +30,14 @@ unfolding AreAway
 units_away ps left live started at bs units k c is away = (units k c is).joined ∙ away_place (states_on bs) (slice_get ps k) away
 
 module _ (b : BoardView) (ps : List PlaceView) where
-  whole_goes : (w : Bool) (k : ℕ) (c : Bit NodeState) (g : Bit NodeState → Bit NodeState) → ((d : Bit NodeState) → d.site.joined ≡ false → g d ≡ d)
+  whole_goes : (w : Bool) (k : ℕ) (c : Bit NodeState) (g : Bit NodeState → Bit NodeState) →
+      ((d : Bit NodeState) → d.site.joined ≡ false → g d ≡ d)
       → (w ≡ false → c.site.joined ≡ false) → g (cond w c (rested b k c)) ≡ cond w (g c) (rested b k (g c))
   whole_goes true k c g stays away = refl
   whole_goes false k c g stays away = stays (rested b k c) (away refl) ∙ ap (rested b k) (sym (stays c (away refl)))
 
-  pub whole_map : (g : Bit NodeState → Bit NodeState) → ((d : Bit NodeState) → d.site.joined ≡ false → g d ≡ d) → (xs : List (Bit NodeState))
+  pub whole_map : (g : Bit NodeState → Bit NodeState) → ((d : Bit NodeState) → d.site.joined ≡ false → g d ≡ d)
+      → (xs : List (Bit NodeState))
       → AreAway ps xs → map g (whole_on b ps xs) ≡ whole_on b ps (map g xs)
   unfolding AreAway
   whole_map g stays xs away =
@@ -85,7 +72,8 @@ module _ (b : BoardView) (ps : List PlaceView) where
       ∙ ap (map (where_joined f)) (sym (whole_map (shared l v) (shared_leaves l v) xs away))
 
   -- which channels are open
-  device_doors : (x : TargetState) (o : Option DeviceView) → doors (option_map_or (λ (d : DeviceView). Device (opening_state d)) o (Device x)) ≡ None
+  device_doors : (x : TargetState) (o : Option DeviceView) → doors (option_map_or (λ (d : DeviceView). Device (opening_state d)) o
+      (Device x)) ≡ None
   device_doors x None = refl
   device_doors x (Some d) = refl
 
@@ -105,7 +93,8 @@ module _ (b : BoardView) (ps : List PlaceView) where
   rejoin_ext f g k (x ∷ xs) same =
       ap (λ j. read_anew j x ∷ rejoin_from f (k + 1) xs) (same k) ∙ ap (λ ys. read_anew (g k) x ∷ ys) (rejoin_ext f g (k + 1) xs same)
 
-  anew_either : (w j : Bool) (k : ℕ) (c : Bit NodeState) → cond w (read_anew j c) (rested b k (read_anew j c)) ≡ read_anew j (cond w c (rested b k c))
+  anew_either : (w j : Bool) (k : ℕ) (c : Bit NodeState) → cond w (read_anew j c) (rested b k (read_anew j c)) ≡ read_anew j
+      (cond w c (rested b k c))
   anew_either true j k c = refl
   anew_either false j k c = refl
 
@@ -136,10 +125,12 @@ module _ (b : BoardView) (ps : List PlaceView) where
   address_opened level k (Chip x) addr = refl
   address_opened level k (Device x) addr = refl
 
-  level_either : (w : Bool) (level k : ℕ) (c : Bit NodeState) → at_node_level level (cond w c (rested b k c)) ≡ cond w (at_node_level level c) (rested b k (at_node_level level c))
+  level_either : (w : Bool) (level k : ℕ) (c : Bit NodeState) → at_node_level level (cond w c (rested b k c)) ≡ cond w
+      (at_node_level level c) (rested b k (at_node_level level c))
   level_either true level k c = refl
   level_either false level k c =
-      ap (λ x. record c { site = record c.site { addr = addr_at b k c.site.state c.site.addr; state = x } }) (level_opened level k c.site.state)
+      ap (λ x. record c { site = record c.site { addr = addr_at b k c.site.state c.site.addr; state = x } })
+      (level_opened level k c.site.state)
       ∙ ap (λ a. record c { site = record c.site { addr = a; state = opened_at b k (node_level c.site.state level) } })
       (sym (address_opened level k c.site.state c.site.addr))
 
@@ -150,12 +141,14 @@ module _ (b : BoardView) (ps : List PlaceView) where
   levelled_from (suc m) level k (x ∷ xs) = ap (λ ys. whole_at b ps k x ∷ ys) (levelled_from m level (k + 1) xs)
 
   -- a line is set
-  pub whole_level : (m level : ℕ) (xs : List (Bit NodeState)) → levelled_bits m level (whole_on b ps xs) ≡ whole_on b ps (levelled_bits m level xs)
+  pub whole_level : (m level : ℕ) (xs : List (Bit NodeState)) → levelled_bits m level (whole_on b ps xs) ≡ whole_on b ps
+      (levelled_bits m level xs)
   whole_level m level xs = levelled_from m level 0 xs
 
   -- who pulls
   some_from : (p : Bit NodeState → Bool) (k : ℕ) (xs : List (Bit NodeState))
-      → ((i : ℕ) (c : Bit NodeState) → slice_get xs i ≡ Some c → p (whole_at b ps (k + i) c) ≡ p c) → some_one p (by_number (whole_at b ps) k xs) ≡ some_one p xs
+      → ((i : ℕ) (c : Bit NodeState) → slice_get xs i ≡ Some c → p (whole_at b ps (k + i) c) ≡ p c)
+      → some_one p (by_number (whole_at b ps) k xs) ≡ some_one p xs
   some_from p k [] same = refl
   some_from p k (x ∷ xs) same =
       let e : k + 0 ≡ k = omega arith in
@@ -163,12 +156,14 @@ module _ (b : BoardView) (ps : List PlaceView) where
       ∙ ap (λ t. p x || t) (some_from p (k + 1) xs (λ i c is. let e : k + suc i ≡ k + 1 + i = omega arith in
       subst (λ n. p (whole_at b ps n c) ≡ p c) e (same (suc i) c is)))
 
-  pull_either : (p : Bit NodeState → Bool) → ((d : Bit NodeState) → d.site.joined ≡ false → p d ≡ false) → (w : Bool) (k : ℕ) (c : Bit NodeState)
+  pull_either : (p : Bit NodeState → Bool) → ((d : Bit NodeState) → d.site.joined ≡ false → p d ≡ false)
+      → (w : Bool) (k : ℕ) (c : Bit NodeState)
       → (w ≡ false → c.site.joined ≡ false) → p (cond w c (rested b k c)) ≡ p c
   pull_either p none true k c away = refl
   pull_either p none false k c away = none (rested b k c) (away refl) ∙ sym (none c (away refl))
 
-  pub whole_some : (p : Bit NodeState → Bool) → ((d : Bit NodeState) → d.site.joined ≡ false → p d ≡ false) → (l v : ℕ) (xs : List (Bit NodeState))
+  pub whole_some : (p : Bit NodeState → Bool) → ((d : Bit NodeState) → d.site.joined ≡ false → p d ≡ false)
+      → (l v : ℕ) (xs : List (Bit NodeState))
       → AreAway ps xs → some_one p (map (shared l v) xs) ≡ some_one p (map (shared l v) (whole_on b ps xs))
   unfolding AreAway
   whole_some p none l v xs away =
@@ -178,7 +173,8 @@ module _ (b : BoardView) (ps : List PlaceView) where
       (pull_either p none (is_wired ps i) i c (shared_away l v xs away i c is))))
 
   -- what each gives, where who isn't joined gives always the same
-  give_either : (q : Bit NodeState → ℕ) (e : ℕ) → ((d : Bit NodeState) → d.site.joined ≡ false → q d ≡ e) → (w : Bool) (k : ℕ) (c : Bit NodeState)
+  give_either : (q : Bit NodeState → ℕ) (e : ℕ) → ((d : Bit NodeState) → d.site.joined ≡ false → q d ≡ e)
+      → (w : Bool) (k : ℕ) (c : Bit NodeState)
       → (w ≡ false → c.site.joined ≡ false) → q (cond w c (rested b k c)) ≡ q c
   give_either q e none true k c away = refl
   give_either q e none false k c away = none (rested b k c) (away refl) ∙ sym (none c (away refl))
@@ -239,7 +235,8 @@ devices_whole b ps r n (d ∷ ds) wired are =
     ∙ ap (λ cs. device_bit d ∷ cs)
     (devices_whole b ps r (n + 1) ds
     (λ j x is. let e : n + suc j ≡ n + 1 + j = omega arith in subst (λ k. is_wired ps k ≡ (root_of b x.bus == r)) e (wired (suc j) x is))
-    (λ j x is. let e : n + suc j ≡ n + 1 + j = omega arith in subst (λ k. slice_get b.devices (k - length b.muxes) ≡ Some x) e (are (suc j) x is)))
+    (λ j x is. let e : n + suc j ≡ n + 1 + j = omega arith in subst (λ k. slice_get b.devices (k - length b.muxes) ≡ Some x) e
+    (are (suc j) x is)))
 
 chips_whole : (b : BoardView) (ps : List PlaceView) (n : ℕ) (ms : List MuxSpec) (xs ys : List (Bit NodeState))
     → by_number (whole_at b ps) (n + length ms) xs ≡ ys → by_number (whole_at b ps) n (map chip_bit ms ++ xs) ≡ map chip_bit ms ++ ys
@@ -262,7 +259,8 @@ kept_whole b r =
     ∙ ap (slice_get (map (device_place b r) b.devices)) e ∙ map_at (device_place b r) b.devices j d is))
     (λ j d is. let e : 0 + length b.muxes + j - length b.muxes ≡ j = omega arith in ap (slice_get b.devices) e ∙ is))
 
-device_kinds : (b : BoardView) (r : ℕ) (ds : List DeviceView) → map is_chip (states_on (map (kept_device b r) ds)) ≡ replicate (length ds) false
+device_kinds : (b : BoardView) (r : ℕ) (ds : List DeviceView) → map is_chip (states_on (map (kept_device b r) ds)) ≡ replicate
+    (length ds) false
 device_kinds b r [] = refl
 device_kinds b r (d ∷ ds) = ap (λ ks. false ∷ ks) (device_kinds b r ds)
 

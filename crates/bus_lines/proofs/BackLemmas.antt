@@ -1,6 +1,6 @@
 -- A loop that goes from the last of a list back to its first, and makes one thing of each.
-use Rattle.std.proofs.Common.{◌≡◌, ℕ, zero, suc, ◌<◌, Bool, ◌||◌, List, [], ◌∷◌, length, map, drop, set, get_or, refl, sym, ap, ◌∙◌, arith}
-use Rattle.wire_spec.specs.Roots.{some_one}
+use Rattle.bus_lines.proofs.Cited.{◌≡◌, ℕ, zero, suc, ◌<◌, Bool, ◌||◌, List, [], ◌∷◌, length, map, drop, set, get_or, refl, sym, ap, ◌∙◌}
+use Rattle.bus_lines.proofs.Cited.{arith, some_one}
 
 -- what is left to be done: the first n
 abbrev pub first_of : {A : Type 0} → (A → A) → ℕ → List A → List A

@@ -1,23 +1,11 @@
 -- Who is joined at an address, as a list: it is asked and told in place of all that are at the address.
-use Rattle.std.proofs.Common.{◌≡◌, ℕ, ◌==◌, Bool, true, false, ◌&&◌, cond, List, [], ◌∷◌, Option, Some, None, refl, sym, ap, ◌∙◌}
-use Rattle.std.specs.Prelude.{slice_get}
-use Rattle.std.specs.List.{list_any}
-use Rattle.std.specs.Option.{option_map_or}
-use Rattle.i2c_spec.specs.Targets.RegsDevice.{is_too_long}
-use Rattle.wire_spec.specs.declared.mode.Mode.{Mode}
-use Rattle.wire_spec.specs.Wires.{Bit, site_of, stands}
-use Rattle.wire_spec.specs.Roots.{where_joined}
-use Rattle.wire_spec.specs.Sites.{NodeState, node_table}
-use Rattle.bus_lines.specs.declared.edges.Edge.{Edge}
-use Rattle.bus_lines.specs.Edges.{seen, joined_at, slow_at}
+use Rattle.bus_lines.proofs.Cited.{◌≡◌, ℕ, ◌==◌, Bool, true, false, ◌&&◌, cond, List, [], ◌∷◌, Option, Some, None, refl, sym, ap, ◌∙◌}
+use Rattle.bus_lines.proofs.Cited.{slice_get, list_any, option_map_or, is_too_long, Mode, Bit, site_of, stands, where_joined, NodeState}
+use Rattle.bus_lines.proofs.Cited.{node_table, Edge, seen, joined_at, slow_at, is_among, by_number, to_those, or-true, eq_self}
 use Rattle.bus_lines.specs.Known.{ListsJoined}
-use Rattle.bus_lines.specs.Numbers.{is_among}
-use Rattle.bus_lines.specs.Units.{by_number, to_those}
 use Rattle.bus_lines.proofs.KindLemmas.{NoFinish, joined_kept}
 use Rattle.bus_lines.proofs.NumberedLemmas.{at_number, numbered_same}
 use Rattle.bus_lines.proofs.StopLemmas.{none_has}
-use mathlib.Core.Bool.{or-true}
-use Rattle.wire_spec.proofs.WorldLemmas.{eq_self}
 
 pub and_again : (a b : Bool) → ((a && b) && b) ≡ (a && b)
 and_again true true = refl
@@ -49,8 +37,10 @@ module _ (bs : List (Bit NodeState)) (ns list : List ℕ) (has : ListsJoined ns 
 told_so : (f : Bit NodeState → Bit NodeState) (c n : Bool) (a : ℕ) (j h : Bool) (x : NodeState) (m : Mode) (k : ℕ) → c ≡ (n && j)
     → cond c (where_joined f (stands (site_of a j h x) m k)) (stands (site_of a j h x) m k)
     ≡ cond n (where_joined f (stands (site_of a j h x) m k)) (stands (site_of a j h x) m k)
-told_so f c true a true h x m k is = ap (λ t. cond t (where_joined f (stands (site_of a true h x) m k)) (stands (site_of a true h x) m k)) is
-told_so f c true a false h x m k is = ap (λ t. cond t (where_joined f (stands (site_of a false h x) m k)) (stands (site_of a false h x) m k)) is
+told_so f c true a true h x m k is = ap (λ t. cond t (where_joined f (stands (site_of a true h x) m k))
+    (stands (site_of a true h x) m k)) is
+told_so f c true a false h x m k is = ap (λ t. cond t (where_joined f (stands (site_of a false h x) m k))
+    (stands (site_of a false h x) m k)) is
 told_so f c false a j h x m k is = ap (λ t. cond t (where_joined f (stands (site_of a j h x) m k)) (stands (site_of a j h x) m k)) is
 
 stays_joined : (e : Edge) → NoFinish e → (t : Bool) (b : Bit NodeState) → (cond t (where_joined (seen e) b) b).site.joined ≡ b.site.joined
@@ -66,7 +56,8 @@ told_to_joined f bs ns list has e nostop ms =
     numbered_same (to_those list (where_joined f)) (to_those ns (where_joined f)) (by_number (to_those ms (where_joined (seen e))) 0 bs)
     (λ i x here.
     let r = at_number (to_those ms (where_joined (seen e))) i bs x here in
-    let same : x.site.joined ≡ r.0.site.joined = ap (λ (b : Bit NodeState). b.site.joined) (sym r.2) ∙ stays_joined e nostop (is_among ms i) r.0 in
+    let same : x.site.joined ≡ r.0.site.joined = ap (λ (b : Bit NodeState). b.site.joined) (sym r.2)
+    ∙ stays_joined e nostop (is_among ms i) r.0 in
     let joined : joined_at bs i ≡ x.site.joined =
     ap (λ o. option_map_or (λ (b : Bit NodeState). b.site.joined) o false) r.1 ∙ sym same in
     told_so f (is_among list i) (is_among ns i) x.site.addr x.site.joined x.site.heard x.site.state x.mode x.hold

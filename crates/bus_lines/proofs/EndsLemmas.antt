@@ -1,18 +1,15 @@
 -- A start and a stop within a message, all pulls and looks at once: what they come to on the lines.
-use Rattle.std.proofs.Common.{◌≡◌, ℕ, ◌+◌, Bool, true, false, List, [], ◌∷◌, map, refl, sym, ap, ◌∙◌, inl, inr, Ok}
-use Rattle.wire_spec.specs.declared.mode.Mode.{Mode}
-use Rattle.wire_spec.specs.declared.mode.Mode.TheVariants.{Out, In}
-use Rattle.wire_spec.specs.Wires.{Site, Bit, site_of, begin, finish}
-use Rattle.wire_spec.specs.Roots.{where_joined, at, stop_site}
-use Rattle.wire_spec.specs.Bus.{Counts, Bus, bus_of, one_edge, one_flip, rejoin_from, rejoined}
-use Rattle.wire_spec.specs.Started.{calling}
-use Rattle.wire_spec.specs.Calls.{released, within_address, free, joined_from, rejoin, start_pulls, repeated_start, stop_pulls}
+use Rattle.bus_lines.proofs.Cited.{◌≡◌, ℕ, ◌+◌, Bool, true, false, List, [], ◌∷◌, map, refl, sym, ap, ◌∙◌, inl, inr, Ok, Mode, Out, In}
+use Rattle.bus_lines.proofs.Cited.{Site, Bit, site_of, begin, finish, where_joined, at, Counts, Bus, bus_of, one_edge, one_flip}
+use Rattle.bus_lines.proofs.Cited.{rejoin_from, rejoined, calling, released, free, NodeState, node_table, both, mask_of, Rooted, Wire}
+use Rattle.bus_lines.proofs.Cited.{StandsIn, chips_on, devices_on, TargetsView, LinesView, lines_of}
+use Rattle.wire_spec.specs.Roots.{stop_site}
+use Rattle.wire_spec.specs.Calls.{within_address, joined_from, rejoin, start_pulls, repeated_start, stop_pulls}
 use Rattle.wire_spec.specs.Laws.{StartCallsAll, RepeatedStartCallsAll, StopFreesTheLines}
-use Rattle.wire_spec.specs.Sites.{NodeState, node_table, both, mask_of}
 use Rattle.i2c_bits.specs.Counting.{begun_counts}
-use Rattle.i2c_bits.specs.Wiring.{Rooted, Wire, CameBegin, the_table, mask_at}
-use Rattle.i2c_bits.specs.Stands.{StandsIn, MayBegin, MayEnd, chips_on, devices_on}
-use Rattle.bus_lines.specs.LinesViews.{TargetsView, LinesView, lines_of, wire_begun, wire_ended, edge_if}
+use Rattle.i2c_bits.specs.Wiring.{CameBegin, the_table, mask_at}
+use Rattle.i2c_bits.specs.Stands.{MayBegin, MayEnd}
+use Rattle.bus_lines.specs.LinesViews.{wire_begun, wire_ended, edge_if}
 
 -- ---- a start
 begin_at : (m : Mode) (a : ℕ) (j h : Bool) (x : NodeState) → where_joined begin (at m (site_of a j h x)) ≡ calling 8 0 (site_of a j h x)
@@ -37,7 +34,8 @@ stand_alike true k w (inr may) = (Out, ap (λ (b : Bus NodeState). b.targets) ma
 pub begin_is : (t u x : TargetsView) (w v : Wire) (now : LinesView) → lines_of t w ≡ now → (busy : Bool) → MayBegin busy now.rooted now.bus
     → u ≡ record t { counts = edge_if busy t.counts }
     → x ≡ record u { bits = map (where_joined begin) u.bits; counts = one_flip u.counts } → v ≡ wire_begun w busy
-    → bus_of v.scl v.sda x.bits x.counts ≡ within_address 8 0 true (both (chips_on now.bus) (devices_on now.bus)) (begun_counts busy now.bus.counts)
+    → bus_of v.scl v.sda x.bits x.counts ≡ within_address 8 0 true (both (chips_on now.bus) (devices_on now.bus))
+    (begun_counts busy now.bus.counts)
 begin_is t u x w v now view busy may counted is wire =
     let ss : List (Site NodeState) = both (chips_on now.bus) (devices_on now.bus) in
     let alike = stand_alike busy now.rooted now.bus may in
@@ -84,16 +82,19 @@ out_at : (a : ℕ) (j : Bool) (x : NodeState) → released (site_of a j false x)
 out_at a true x = refl
 out_at a false x = refl
 
-rejoin_released : (f : ℕ → Bool) (k : ℕ) (ss : List (Site NodeState)) → rejoin_from f k (map released ss) ≡ map (at Out) (joined_from f k ss)
+rejoin_released : (f : ℕ → Bool) (k : ℕ) (ss : List (Site NodeState)) → rejoin_from f k (map released ss) ≡ map (at Out)
+    (joined_from f k ss)
 rejoin_released f k [] = refl
 rejoin_released f k (s ∷ ss) =
     ap (λ (b : Bit NodeState). b ∷ rejoin_from f (k + 1) (map released ss)) (out_at s.addr (f k) s.state)
     ∙ ap (λ (bs : List (Bit NodeState)). at Out (site_of s.addr (f k) false s.state) ∷ bs) (rejoin_released f (k + 1) ss)
 
-rejoined_at : (mask : List (Site NodeState) → ℕ → Bool) (ss : List (Site NodeState)) → rejoined mask (map released ss) ≡ map (at Out) (rejoin mask ss)
+rejoined_at : (mask : List (Site NodeState) → ℕ → Bool) (ss : List (Site NodeState)) → rejoined mask (map released ss) ≡ map (at Out)
+    (rejoin mask ss)
 rejoined_at mask ss = ap (λ xs. rejoin_from (mask xs) 0 (map released ss)) (sites_released ss) ∙ rejoin_released (mask ss) 0 ss
 
-module _ (t u x : TargetsView) (w v : Wire) (now : LinesView) (view : lines_of t w ≡ now) (counted : u ≡ record t { counts = edge_if true t.counts })
+module _ (t u x : TargetsView) (w v : Wire) (now : LinesView) (view : lines_of t w ≡ now)
+    (counted : u ≡ record t { counts = edge_if true t.counts })
     (is : x ≡ record u {
       bits = rejoined (mask_of u.rooted.board u.rooted.root) (map (where_joined (finish node_table)) u.bits);
       counts = one_flip u.counts;
@@ -104,7 +105,8 @@ module _ (t u x : TargetsView) (w v : Wire) (now : LinesView) (view : lines_of t
   end_by m law stands =
       let ss : List (Site NodeState) = both (chips_on now.bus) (devices_on now.bus) in
       let mask = mask_of now.rooted.board now.rooted.root in
-      let there : t.bits ≡ map (at m) ss = ap (λ (l : LinesView). l.bus.targets) view ∙ ap (λ (b : Bus NodeState). b.targets) stands.lines in
+      let there : t.bits ≡ map (at m) ss = ap (λ (l : LinesView). l.bus.targets) view
+      ∙ ap (λ (b : Bus NodeState). b.targets) stands.lines in
       let leaves : x.bits ≡ map (at Out) (rejoin mask (map (stop_site node_table) ss)) =
       ap (λ (y : TargetsView). y.bits) is
       ∙ ap (λ (y : TargetsView). rejoined (mask_of y.rooted.board y.rooted.root) (map (where_joined (finish node_table)) y.bits)) counted

@@ -1,35 +1,27 @@
 -- An address byte with its acknowledge clock, all nine clocks at once: what it is to each target, to all of them, and on the lines.
-use Rattle.std.proofs.Common.{◌≡◌, ℕ, zero, suc, ◌/◌, ◌%◌, ◌==◌, ◌<◌, Bool, true, false, ◌&&◌, ◌||◌, cond, List, [], ◌∷◌, map, get_or, Some, Ok, refl, sym, ap, ◌∙◌, subst, inl, inr, arith}
-use Rattle.std.specs.Prelude.{not, slice_get}
-use Rattle.std.specs.List.{list_any}
-use Rattle.std.specs.Option.{option_map_or}
-use Rattle.std.proofs.lemmas.Bool.Decides.{nat_tests}
+use Rattle.bus_lines.proofs.Cited.{◌≡◌, ℕ, zero, suc, ◌/◌, ◌==◌, ◌<◌, Bool, true, false, ◌&&◌, ◌||◌, cond, List, [], ◌∷◌, map, get_or, Some}
+use Rattle.bus_lines.proofs.Cited.{Ok, refl, sym, ap, ◌∙◌, subst, inl, inr, arith, not, slice_get, list_any, option_map_or, nat_tests}
+use Rattle.bus_lines.proofs.Cited.{is_too_long, IsFairTable, Mode, Out, In, Answered, Give, Gave, Site, Bit, site_of, stands, shifted}
+use Rattle.bus_lines.proofs.Cited.{other, called, is_reading, where_joined, some_one, at, Bus, bus_of, came_up, holds_line, calling}
+use Rattle.bus_lines.proofs.Cited.{released, more_edges, within, sent_byte, NodeState, NO_ADDRESS, node_table, Rooted, Wire, mask_at}
+use Rattle.bus_lines.proofs.Cited.{Address, Enter, whole_on, seen, joined_at, acks_enter, address_in, slow_at, PlaceView, states_on}
+use Rattle.bus_lines.proofs.Cited.{joins_by, TargetsView, LinesView, lines_of, wire_nine, AreTargets, NumbersView, is_among, RegisterView}
+use Rattle.bus_lines.proofs.Cited.{by_number, some_by, to_those, of_those, shared, addressed, AreUnits, or_parts, and-false, map_map}
+use Rattle.std.proofs.Common.{◌%◌}
 use Rattle.i2c_base.specs.declared.event.Event.TheVariants as event
 use Rattle.i2c_base.specs.declared.event.Answer.{Answer}
 use Rattle.i2c_base.specs.declared.event.Answer.TheVariants.{Ack, Nack}
-use Rattle.i2c_spec.specs.Targets.RegsDevice.{is_too_long}
-use Rattle.i2c_spec.specs.Targets.{IsFairTable, IsStartAnswer, IsAckOrNack}
+use Rattle.i2c_spec.specs.Targets.{IsStartAnswer, IsAckOrNack}
 use Rattle.i2c_spec.specs.World.{is_ack, is_slow}
-use Rattle.wire_spec.specs.declared.mode.Mode.{Mode}
-use Rattle.wire_spec.specs.declared.mode.Mode.TheVariants.{Out, In, Answered, Give, Gave}
 use Rattle.wire_spec.specs.declared.mode.Next.{Next}
 use Rattle.wire_spec.specs.declared.mode.Next.TheVariants.{Leave, Take, Send}
-use Rattle.wire_spec.specs.Wires.{Site, Bit, site_of, stands, shifted, entered, next_of, hears, other, called, is_reading}
-use Rattle.wire_spec.specs.Roots.{where_joined, some_one, at}
-use Rattle.wire_spec.specs.Bus.{Bus, Came, bus_of, came_up, holds_line}
-use Rattle.wire_spec.specs.Started.{started, answers_so, entered_by, calling}
-use Rattle.wire_spec.specs.Calls.{released, more_edges, within, sent_byte}
+use Rattle.wire_spec.specs.Wires.{entered, next_of, hears}
+use Rattle.wire_spec.specs.Bus.{Came}
+use Rattle.wire_spec.specs.Started.{started, answers_so, entered_by}
 use Rattle.wire_spec.specs.Laws.{AddressIsOneEvent}
-use Rattle.wire_spec.specs.Sites.{NodeState, NO_ADDRESS, node_table}
-use Rattle.i2c_bits.specs.Wiring.{Rooted, Wire, CameAnswer, the_table, mask_at}
+use Rattle.i2c_bits.specs.Wiring.{CameAnswer, the_table}
 use Rattle.i2c_bits.specs.Stands.{IsCalled}
-use Rattle.bus_lines.specs.declared.edges.Edge.TheVariants.{Address, Enter}
-use Rattle.bus_lines.specs.Away.{whole_on}
-use Rattle.bus_lines.specs.Edges.{seen, joined_at, acks_enter, address_in, slow_at}
-use Rattle.bus_lines.specs.Joins.{PlaceView, states_on, joins_by}
-use Rattle.bus_lines.specs.LinesViews.{TargetsView, LinesView, lines_of, wire_nine, AddressIs, AreTargets}
-use Rattle.bus_lines.specs.Numbers.{NumbersView, is_among}
-use Rattle.bus_lines.specs.Units.{RegisterView, by_number, some_by, to_those, of_those, shared, addressed, AreUnits}
+use Rattle.bus_lines.specs.LinesViews.{AddressIs}
 use Rattle.bus_lines.proofs.AddressLemmas.{called_all}
 use Rattle.bus_lines.proofs.AwayLemmas.{units_away, whole_some}
 use Rattle.bus_lines.proofs.InvariantLemmas.{holds_coming, called_are}
@@ -37,9 +29,6 @@ use Rattle.bus_lines.proofs.NumberedLemmas.{some_none, some_of_those, map_same}
 use Rattle.bus_lines.proofs.PutLemmas.{some_kept}
 use Rattle.bus_lines.proofs.StopLemmas.{none_has}
 use Rattle.bus_lines.proofs.TargetsLemmas.{seen_alone, all_told, told_holds}
-use Rattle.std.proofs.lemmas.Bool.{or_parts}
-use mathlib.Core.Bool.{and-false}
-use Rattle.i2c_base.proofs.ListLemmas.{map_map}
 
 -- ---- the byte is its address and its direction
 parts_by : (byte : ℕ) (one : Bool) → ((byte % 2) == 1) ≡ one → byte ≡ shifted (byte / 2) one
@@ -53,7 +42,8 @@ byte_parts byte = parts_by byte (is_reading byte) refl
 ack_or_nack : (a : Answer) → IsAckOrNack a → is_slow a ≡ false
 ack_or_nack a is = elim is [ inl e ↦ ap is_slow e | inr e ↦ ap is_slow e ]
 
-one_slow : (fair : IsFairTable node_table) (reading j n : Bool) (x : NodeState) → (n ≡ true → (j && is_too_long (node_table.hold x)) ≡ false)
+one_slow : (fair : IsFairTable node_table) (reading j n : Bool) (x : NodeState) → (n ≡ true
+    → (j && is_too_long (node_table.hold x)) ≡ false)
     → (j && (n && is_slow (node_table.answer x (event.Start reading)))) ≡ false
 one_slow fair reading true true x quick =
     let a = node_table.answer x (event.Start reading) in
@@ -88,21 +78,26 @@ modes true slow false is = refl
 modes false true reading is = cc
 modes false false reading is = refl
 
-enter_named : (n : Bool) (byte a : ℕ) (h : Bool) (x : NodeState) → (n && is_slow (node_table.answer x (event.Start (is_reading byte)))) ≡ false
-    → where_joined (seen Enter) (cond n (called node_table (site_of a true h x) (is_reading byte)) (stands (other node_table (site_of a true h x)) Out 0))
+enter_named : (n : Bool) (byte a : ℕ) (h : Bool) (x : NodeState) → (n && is_slow (node_table.answer x (event.Start (is_reading byte))))
+    ≡ false
+    → where_joined (seen Enter) (cond n (called node_table (site_of a true h x) (is_reading byte))
+    (stands (other node_table (site_of a true h x)) Out 0))
     ≡ at (entered_by byte) (cond n (hears node_table (site_of a true h x) (is_reading byte)) (other node_table (site_of a true h x)))
 enter_named true byte a h x quick =
     let answer = node_table.answer x (event.Start (is_reading byte)) in
-    ap (λ m. stands (hears node_table (site_of a true h x) (is_reading byte)) m 0) (modes (is_ack answer) (is_slow answer) (is_reading byte) quick)
+    ap (λ m. stands (hears node_table (site_of a true h x) (is_reading byte)) m 0) (modes (is_ack answer) (is_slow answer)
+    (is_reading byte) quick)
 enter_named false byte a h x quick = refl
 
 enter_so : (byte a : ℕ) (j h : Bool) (x : NodeState) (m : Mode) (k : ℕ) → would_be_slow byte (stands (site_of a j h x) m k) ≡ false
-    → where_joined (seen Enter) (where_joined (seen (Address byte)) (stands (site_of a j h x) m k)) ≡ where_joined (address_in byte) (stands (site_of a j h x) m k)
+    → where_joined (seen Enter) (where_joined (seen (Address byte)) (stands (site_of a j h x) m k)) ≡ where_joined (address_in byte)
+    (stands (site_of a j h x) m k)
 enter_so byte a true h x m k quick = enter_named ((byte / 2) == a) byte a h x quick
 enter_so byte a false h x m k quick = refl
 
 shared_so : (byte left v a : ℕ) (j h : Bool) (x : NodeState) (m : Mode) (k : ℕ)
-    → where_joined (address_in byte) (stands (site_of a j h x) m k) ≡ where_joined (address_in byte) (shared left v (stands (site_of a j h x) m k))
+    → where_joined (address_in byte) (stands (site_of a j h x) m k) ≡ where_joined (address_in byte)
+    (shared left v (stands (site_of a j h x) m k))
 shared_so byte zero v a j h x m k = refl
 shared_so byte (suc n) v a true h x m k = refl
 shared_so byte (suc n) v a false h x m k = refl
@@ -135,7 +130,8 @@ holds_so a true h x (Answered begun acked next looks) k free = entered_holds a h
 holds_so a true h x (Give left) k free = free
 holds_so a true h x (Gave more) k free = free
 
-enters_hold : (bs : List (Bit NodeState)) → some_one holds_line bs ≡ false → some_one holds_line (map (where_joined (seen Enter)) bs) ≡ false
+enters_hold : (bs : List (Bit NodeState)) → some_one holds_line bs ≡ false → some_one holds_line
+    (map (where_joined (seen Enter)) bs) ≡ false
 enters_hold [] free = refl
 enters_hold (b ∷ bs) free =
     let parts = or_parts (holds_line b) (some_one holds_line bs) free in
@@ -157,7 +153,14 @@ module _ (fair : IsFairTable node_table) (k : Rooted) (ps : List PlaceView) (hel
         kinds = are.kinds;
         clock = are.clock ∙ holds_coming r.left r.value bs some ∙ sym (holds_coming now.left now.value bs some_now);
         units = λ n b is. let u = are.units n b is in
-            record { out = u.out; calm = u.calm; waits = λ m e joined. waits_so r.left some b u.waits joined; joined = u.joined; listed = u.listed };
+            record {
+              out = u.out;
+              calm = u.calm;
+              waits = λ m e joined. waits_so r.left some b u.waits joined;
+              joined = u.joined;
+              listed =
+                  u.listed;
+            };
         live_room = are.live_room;
         started_room = are.started_room;
         index = are.index;
@@ -171,17 +174,21 @@ module _ (fair : IsFairTable node_table) (k : Rooted) (ps : List PlaceView) (hel
     abbrev Has : ℕ → Type 0
     Has b = (b / 2 < NO_ADDRESS)
         → ((j : ℕ) → is_among live_new.items j ≡ (is_among live.items j || (is_among (get_or at_it (b / 2) []) j && joined_at bs j)))
-        → ((j : ℕ) → is_among started_new.items j ≡ (is_among started_by.items j || (is_among (get_or at_it (b / 2) []) j && joined_at bs j)))
+        → ((j : ℕ) → is_among started_new.items j ≡ (is_among started_by.items j || (is_among
+        (get_or at_it (b / 2) []) j && joined_at bs j)))
         → mid ≡ by_number (addressed started_new.items (get_or at_it (b / 2) []) b) 0 bs → mid ≡ map (where_joined (seen (Address b))) bs
 
     has_parts : (v : ℕ) (level : Bool) → Has (shifted v level)
     has_parts v level low_at live_has started_has is =
         let f = addressed started_new.items (get_or at_it (shifted v level / 2) []) (shifted v level) in
         is ∙ sym (seen_alone 0 0 (by_number f 0 bs) refl)
-        ∙ called_all r.left v level live.items started_by.items live_new.items started_new.items at_it ps bs low_at are.units live_has started_has 0
+        ∙ called_all r.left v level live.items started_by.items live_new.items started_new.items at_it ps bs low_at are.units live_has
+        started_has 0
 
-    module _ (live_has : (j : ℕ) → is_among live_new.items j ≡ (is_among live.items j || (is_among (get_or at_it (byte / 2) []) j && joined_at bs j)))
-        (started_has : (j : ℕ) → is_among started_new.items j ≡ (is_among started_by.items j || (is_among (get_or at_it (byte / 2) []) j && joined_at bs j)))
+    module _ (live_has : (j : ℕ) → is_among live_new.items j ≡ (is_among live.items j || (is_among
+        (get_or at_it (byte / 2) []) j && joined_at bs j)))
+        (started_has : (j : ℕ) → is_among started_new.items j ≡ (is_among started_by.items j
+        || (is_among (get_or at_it (byte / 2) []) j && joined_at bs j)))
         (is : mid ≡ by_number (addressed started_new.items (get_or at_it (byte / 2) []) byte) 0 bs) where
       pub mid_called : mid ≡ map (where_joined (seen (Address byte))) bs
       mid_called = subst Has (sym (byte_parts byte)) (has_parts (byte / 2) (is_reading byte)) low live_has started_has is
@@ -190,14 +197,16 @@ module _ (fair : IsFairTable node_table) (k : Rooted) (ps : List PlaceView) (hel
           → AreTargets k ps held now live_new started_new at_it mid
       mid_are some now over live_room started_room =
           let last : RegisterView = record { left = 1; value = byte / 2 } in
-          called_are k ps held last live started_by at_it bs (coming_so last some (omega arith)) refl (is_reading byte) byte (byte_parts byte)
+          called_are k ps held last live started_by at_it bs (coming_so last some (omega arith)) refl (is_reading byte) byte
+          (byte_parts byte)
           low now over live_new started_new mid live_has started_has is live_room started_room
 
   module _ (byte : ℕ) (low : byte / 2 < NO_ADDRESS) (quick : list_any (slow_at bs) (get_or at_it (byte / 2) []) ≡ false) where
     quick_one : (n : ℕ) (b : Bit NodeState) → slice_get bs n ≡ Some b → would_be_slow byte b ≡ false
     quick_one n b is =
         one_slow fair (is_reading byte) b.site.joined ((byte / 2) == b.site.addr) b.site.state
-        (λ names. ap (λ o. option_map_or (λ (c : Bit NodeState). c.site.joined && is_too_long (node_table.hold c.site.state)) o false) (sym is)
+        (λ names. ap (λ o. option_map_or (λ (c : Bit NodeState). c.site.joined && is_too_long (node_table.hold c.site.state)) o false)
+        (sym is)
         ∙ none_has (slow_at bs) (get_or at_it (byte / 2) []) quick n ((are.units n b is).listed (byte / 2) low ∙ names))
 
     pub quick_all : some_one (would_be_slow byte) (map (shared r.left r.value) (whole_on k.board ps bs)) ≡ false
@@ -219,7 +228,8 @@ module _ (fair : IsFairTable node_table) (k : Rooted) (ps : List PlaceView) (hel
           ∙ shared_so byte r.left r.value b.site.addr b.site.joined b.site.heard b.site.state b.mode b.hold)
           ∙ sym (map_map (where_joined (address_in byte)) (shared r.left r.value) bs)
 
-      some_mapped_so : (xs : List (Bit NodeState)) → some_one acks_enter (map (where_joined (seen (Address byte))) xs) ≡ some_one (would_ack byte) xs
+      some_mapped_so : (xs : List (Bit NodeState)) → some_one acks_enter (map (where_joined (seen (Address byte))) xs) ≡ some_one
+          (would_ack byte) xs
       some_mapped_so [] = refl
       some_mapped_so (b ∷ xs) =
           rw (acks_so byte b.site.addr b.site.joined b.site.heard b.site.state b.mode b.hold, some_mapped_so xs) refl
@@ -236,7 +246,8 @@ module _ (fair : IsFairTable node_table) (k : Rooted) (ps : List PlaceView) (hel
 module _ (left v : ℕ) (live started_by : List ℕ) (at_it : List (List ℕ)) (ps : List PlaceView) (mid : List (Bit NodeState))
     (none : left ≡ 0) (units : AreUnits left live started_by at_it (joins_by ps (states_on mid)) mid) where
   pub enter_holds : (new : List (Bit NodeState)) → new ≡ by_number (to_those live (where_joined (seen Enter))) 0 mid
-      → (held : Bool) → held ≡ some_one holds_line (map (shared left v) mid) → held ≡ false → held ≡ some_by (of_those live holds_line) 0 new
+      → (held : Bool) → held ≡ some_one holds_line (map (shared left v) mid) → held ≡ false
+      → held ≡ some_by (of_those live holds_line) 0 new
   enter_holds new is held was free =
       free
       ∙ sym (ap (some_by (of_those live holds_line) 0) is
@@ -264,16 +275,19 @@ answers_at p [] = refl
 answers_at p (s ∷ ss) = ap (λ t. p s || t) (answers_at p ss)
 
 -- ---- on the lines it is what its nine clocks come to
-pub address_is : AddressIsOneEvent node_table → (t u : TargetsView) (w v : Wire) (now : LinesView) → lines_of t w ≡ now → (byte : ℕ) → byte < 256
+pub address_is : AddressIsOneEvent node_table → (t u : TargetsView) (w v : Wire) (now : LinesView) → lines_of t w ≡ now → (byte : ℕ)
+    → byte < 256
     → IsCalled now.bus → (acked : Bool) → AddressIs byte acked t u → (level : Bool) → v ≡ wire_nine w false level
     → came_up (shifted 0 (not acked)) (bus_of v.scl v.sda u.bits u.counts) ≡ sent_byte the_table (mask_at now.rooted) byte now.bus
 unfolding the_table
 address_is law t u w v now view byte lt called acked is level wire =
     let ss : List (Site NodeState) = called.sites in
     let m : Mode = entered_by byte in
-    let there : t.bits ≡ map (calling 8 0) ss = ap (λ (l : LinesView). l.bus.targets) view ∙ ap (λ (b : Bus NodeState). b.targets) called.lines in
+    let there : t.bits ≡ map (calling 8 0) ss = ap (λ (l : LinesView). l.bus.targets) view ∙ ap
+    (λ (b : Bus NodeState). b.targets) called.lines in
     let quick : some_one (answers_so node_table is_slow (byte / 2) (is_reading byte)) ss ≡ false =
-    sym (ap (some_one (would_be_slow byte)) there ∙ answers_at (answers_so node_table is_slow (byte / 2) (is_reading byte)) ss) ∙ is.in_time in
+    sym (ap (some_one (would_be_slow byte)) there ∙ answers_at (answers_so node_table is_slow (byte / 2) (is_reading byte)) ss)
+    ∙ is.in_time in
     let says : acked ≡ some_one (answers_so node_table is_ack (byte / 2) (is_reading byte)) ss =
     is.answer ∙ ap (some_one (would_ack byte)) there ∙ answers_at (answers_so node_table is_ack (byte / 2) (is_reading byte)) ss in
     let leaves : u.bits ≡ map (at m) (map (started node_table byte) ss) =

@@ -1,16 +1,9 @@
 -- The targets of a root as its board is opened: no message has reached anyone.
-use Rattle.std.proofs.Common.{◌≡◌, ℕ, zero, suc, ◌==◌, ◌<◌, List, [], ◌∷◌, ◌++◌, map, get_or, Some, None, refl, sym, ap, ◌∙◌, subst}
-use Rattle.std.specs.Prelude.{slice_get, Bool, true, false}
-use Rattle.i2c_base.specs.declared.board.MuxSpec.{MuxSpec}
-use Rattle.i2c_base.specs.Board.{BoardView, DeviceView}
+use Rattle.bus_lines.proofs.Cited.{◌≡◌, ℕ, zero, suc, ◌==◌, ◌<◌, List, [], ◌∷◌, ◌++◌, map, get_or, Some, None, refl, sym, ap, ◌∙◌, subst}
+use Rattle.bus_lines.proofs.Cited.{slice_get, MuxSpec, BoardView, DeviceView, Bit, NodeState, Device, NO_ADDRESS, is_among, chip_bit}
+use Rattle.bus_lines.proofs.Cited.{device_at, kept_device, kept_bits, root_of, IsCalm}
+use Rattle.std.specs.Prelude.{Bool, true, false}
 use Rattle.i2c_spec.proofs.StateLemmas.{opening-quiet}
-use Rattle.wire_spec.specs.Wires.{Bit}
-use Rattle.wire_spec.specs.Sites.{NodeState, Device, NO_ADDRESS}
-use Rattle.bus_lines.specs.Numbers.{is_among}
-use Rattle.bus_lines.specs.Opens.{chip_bit}
-use Rattle.bus_lines.specs.Away.{device_at, kept_device, kept_bits}
-use Rattle.i2c_spec.specs.Tree.{root_of}
-use Rattle.bus_lines.specs.Units.{IsCalm}
 use Rattle.bus_lines.proofs.StopLemmas.{AreLoose}
 
 abbrev AreCalm : List (Bit NodeState) → Type 0

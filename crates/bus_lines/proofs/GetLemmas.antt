@@ -1,23 +1,16 @@
 -- A byte that is read, all nine clocks at once: what it is to each target, to all of them, and on the lines.
-use Rattle.std.proofs.Common.{◌≡◌, ℕ, zero, suc, ◌<◌, Bool, true, false, cond, List, [], ◌∷◌, map, refl, sym, ap, ◌∙◌, arith, bit_and}
-use Rattle.std.specs.Int.Bits.{and_self}
+use Rattle.bus_lines.proofs.Cited.{◌≡◌, ℕ, zero, suc, ◌<◌, Bool, true, false, cond, List, [], ◌∷◌, map, refl, sym, ap, ◌∙◌, arith, bit_and}
+use Rattle.bus_lines.proofs.Cited.{and_self, IsFairTable, Mode, Out, In, Answered, Give, Gave, Site, Bit, site_of, stands, where_joined}
+use Rattle.bus_lines.proofs.Cited.{some_one, at, and_all, Bus, bus_of, came_up, holds_line, released, more_edges, within, NodeState}
+use Rattle.bus_lines.proofs.Cited.{node_table, both, Wire, mask_at, StandsIn, chips_on, devices_on, Get, seen, gives_get, PlaceView}
+use Rattle.bus_lines.proofs.Cited.{states_on, joins_by, TargetsView, LinesView, lines_of, wire_nine, by_number, some_by, and_by, to_those}
+use Rattle.bus_lines.proofs.Cited.{of_those, given_by, shared, AreUnits}
 use Rattle.i2c_base.specs.declared.event.Event.TheVariants as event
-use Rattle.i2c_spec.specs.Targets.{IsFairTable}
-use Rattle.wire_spec.specs.declared.mode.Mode.{Mode}
-use Rattle.wire_spec.specs.declared.mode.Mode.TheVariants.{Out, In, Answered, Give, Gave}
-use Rattle.wire_spec.specs.Wires.{Site, Bit, site_of, stands}
-use Rattle.wire_spec.specs.Roots.{where_joined, some_one, at, and_all, get_site, sent_by}
-use Rattle.wire_spec.specs.Bus.{Bus, bus_of, came_up, holds_line}
-use Rattle.wire_spec.specs.Calls.{released, more_edges, within, read_byte}
+use Rattle.wire_spec.specs.Roots.{get_site, sent_by}
+use Rattle.wire_spec.specs.Calls.{read_byte}
 use Rattle.wire_spec.specs.Laws.{GetsAreEvents}
-use Rattle.wire_spec.specs.Sites.{NodeState, node_table, both}
-use Rattle.i2c_bits.specs.Wiring.{Wire, the_table, mask_at}
-use Rattle.i2c_bits.specs.Stands.{StandsIn, chips_on, devices_on}
-use Rattle.bus_lines.specs.declared.edges.Edge.TheVariants.{Get}
-use Rattle.bus_lines.specs.Edges.{seen, byte_or_ones, gives_in, gives_get}
-use Rattle.bus_lines.specs.Joins.{PlaceView, states_on, joins_by}
-use Rattle.bus_lines.specs.LinesViews.{TargetsView, LinesView, lines_of, wire_nine}
-use Rattle.bus_lines.specs.Units.{by_number, some_by, and_by, to_those, of_those, given_by, shared, AreUnits}
+use Rattle.i2c_bits.specs.Wiring.{the_table}
+use Rattle.bus_lines.specs.Edges.{byte_or_ones, gives_in}
 use Rattle.bus_lines.proofs.AddressLemmas.{seen_each}
 use Rattle.bus_lines.proofs.AndLemmas.{and_of_those}
 use Rattle.bus_lines.proofs.PutLemmas.{some_kept}
@@ -25,7 +18,8 @@ use Rattle.bus_lines.proofs.TargetsLemmas.{seen_alone, all_told, told_holds}
 
 -- ---- one target
 -- its answer to a read is the byte that it sends
-pub byte_sent : IsFairTable node_table → (ack : Bool) (x : NodeState) → byte_or_ones (node_table.answer x (event.Get ack)) ≡ node_table.sends x
+pub byte_sent : IsFairTable node_table → (ack : Bool) (x : NodeState) → byte_or_ones (node_table.answer x (event.Get ack))
+    ≡ node_table.sends x
 byte_sent fair true x = ap byte_or_ones (fair.sends x)
 byte_sent fair false x = ap byte_or_ones (fair.sends_last x)
 
@@ -121,13 +115,15 @@ all_gives_at (s ∷ ss) = rw (gives_at s.addr s.joined s.heard s.state, all_give
 -- ---- on the lines it is what its nine clocks come to
 pub receive_is : GetsAreEvents node_table → (t u : TargetsView) (w v : Wire) (now : LinesView) → lines_of t w ≡ now → (ack : Bool)
     → StandsIn now.rooted (Give 8) now.bus → (byte : ℕ) → byte ≡ and_all (map gives_get t.bits)
-    → u ≡ record t { bits = map (where_joined (seen (Get ack))) t.bits; counts = more_edges 9 t.counts } → (level : Bool) → v ≡ wire_nine w ack level
+    → u ≡ record t { bits = map (where_joined (seen (Get ack))) t.bits; counts = more_edges 9 t.counts } → (level : Bool)
+    → v ≡ wire_nine w ack level
     → came_up byte (bus_of v.scl v.sda u.bits u.counts) ≡ read_byte the_table (mask_at now.rooted) ack now.bus
 unfolding the_table
 receive_is law t u w v now view ack stands byte answer is level wire =
     let ss : List (Site NodeState) = both (chips_on now.bus) (devices_on now.bus) in
     let m : Mode = cond ack (Give 8) Out in
-    let there : t.bits ≡ map (at (Give 8)) ss = ap (λ (l : LinesView). l.bus.targets) view ∙ ap (λ (b : Bus NodeState). b.targets) stands.lines in
+    let there : t.bits ≡ map (at (Give 8)) ss = ap (λ (l : LinesView). l.bus.targets) view ∙ ap
+    (λ (b : Bus NodeState). b.targets) stands.lines in
     let says : byte ≡ and_all (map (sent_by node_table) ss) =
     answer ∙ ap (λ (bs : List (Bit NodeState)). and_all (map gives_get bs)) there ∙ ap and_all (all_gives_at ss) in
     let leaves : u.bits ≡ map (at m) (map (get_site node_table ack) ss) =

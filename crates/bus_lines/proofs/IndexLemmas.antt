@@ -1,16 +1,12 @@
 -- Who is at each address. The inductions go over the targets.
-use Rattle.std.proofs.Common.{◌≡◌, ℕ, zero, suc, ◌+◌, ◌==◌, ◌<◌, ◌≤◌, Bool, true, false, ◌||◌, cond, List, [], ◌∷◌, ◌++◌, Vec, length, take, set, get_or, Some, None, append-nil, refl, sym, ap, ◌∙◌, subst, arith, zero-add}
-use Rattle.std.specs.Prelude.{slice_get}
-use Rattle.std.specs.List.{IsDistinct, AllByRecursion}
-use Rattle.std.proofs.lemmas.Bool.{ne_eqb}
-use Rattle.std.proofs.lemmas.List.{take_more, length-take-le}
-use Rattle.wire_spec.specs.Wires.{Bit}
-use Rattle.wire_spec.specs.Sites.{NodeState, NO_ADDRESS}
-use Rattle.bus_lines.specs.Numbers.{is_among, AreNumbers}
-use Rattle.bus_lines.specs.Units.{numbers_from, numbers_at, lists_of, IsIndex}
+use Rattle.bus_lines.proofs.Cited.{◌≡◌, ℕ, zero, suc, ◌+◌, ◌==◌, ◌<◌, ◌≤◌, Bool, true, false, ◌||◌, cond, List, [], ◌∷◌, ◌++◌, length, take}
+use Rattle.bus_lines.proofs.Cited.{set, get_or, Some, None, refl, sym, ap, ◌∙◌, subst, arith, slice_get, AllByRecursion, ne_eqb, take_more}
+use Rattle.bus_lines.proofs.Cited.{Bit, NodeState, NO_ADDRESS, is_among, AreNumbers, numbers_at, lists_of, IsIndex, or-true, eq_self}
+use Rattle.std.proofs.Common.{Vec, append-nil, zero-add}
+use Rattle.std.specs.List.{IsDistinct}
+use Rattle.std.proofs.lemmas.List.{length-take-le}
+use Rattle.bus_lines.specs.Units.{numbers_from}
 use Rattle.bus_lines.proofs.AddressLemmas.{same_of}
-use mathlib.Core.Bool.{or-true}
-use Rattle.wire_spec.proofs.WorldLemmas.{eq_self}
 
 pub same_tells : (a b : ℕ) → a ≡ b → (a == b) ≡ true
 same_tells a b e = subst (λ c. (a == c) ≡ true) e (eq_self a)
@@ -119,7 +115,8 @@ none_more (x ∷ xs) v new none zero = none 0
 none_more (x ∷ xs) v new none (suc a) = none_more xs v new (λ b. none (suc b)) a
 
 -- ---- one number more at one address
-lists_get : {Z : Type 0} (at : List (Vec ℕ Z)) (j : ℕ) (v : Vec ℕ Z) → j < length at → v ≡ get_or at j v → get_or (lists_of at) j [] ≡ v.items
+lists_get : {Z : Type 0} (at : List (Vec ℕ Z)) (j : ℕ) (v : Vec ℕ Z) → j < length at → v ≡ get_or at j v
+    → get_or (lists_of at) j [] ≡ v.items
 lists_get {Z = Z} [] j v lt is = absurd (omega (arith, lt))
 lists_get {Z = Z} (x ∷ xs) zero v lt is = ap (λ (w : Vec ℕ Z). w.items) (sym is)
 lists_get {Z = Z} (x ∷ xs) (suc j) v lt is = lists_get xs j v (omega (arith, lt)) is
@@ -129,14 +126,16 @@ lists_here [] j v lt = absurd (omega (arith, lt))
 lists_here (x ∷ xs) zero v lt = refl
 lists_here (x ∷ xs) (suc j) v lt = lists_here xs j v (omega (arith, lt))
 
-lists_elsewhere : {Z : Type 0} (at : List (Vec ℕ Z)) (j a : ℕ) (v : Vec ℕ Z) → (a ≡ j → ⊥) → get_or (lists_of (set at j v)) a [] ≡ get_or (lists_of at) a []
+lists_elsewhere : {Z : Type 0} (at : List (Vec ℕ Z)) (j a : ℕ) (v : Vec ℕ Z) → (a ≡ j → ⊥) → get_or (lists_of (set at j v)) a [] ≡ get_or
+    (lists_of at) a []
 lists_elsewhere [] j a v other = refl
 lists_elsewhere (x ∷ xs) zero zero v other = absurd (other refl)
 lists_elsewhere (x ∷ xs) zero (suc a) v other = refl
 lists_elsewhere (x ∷ xs) (suc j) zero v other = refl
 lists_elsewhere (x ∷ xs) (suc j) (suc a) v other = lists_elsewhere xs j a v (λ e. other (ap suc e))
 
-pub number_put : {Z : Type 0} (at : List (Vec ℕ Z)) (bs : List (Bit NodeState)) (i j : ℕ) (b : Bit NodeState) (was v : Vec ℕ Z) → j < length at
+pub number_put : {Z : Type 0} (at : List (Vec ℕ Z)) (bs : List (Bit NodeState)) (i j : ℕ) (b : Bit NodeState) (was v : Vec ℕ Z)
+    → j < length at
     → j ≡ b.site.addr → i < length bs → b ≡ get_or bs i b → was ≡ get_or at j was → v.items ≡ was.items ++ i ∷ [] → (a : ℕ)
     → get_or (lists_of at) a [] ≡ numbers_at (take i bs) a → (t : Bool) → (a == j) ≡ t
     → get_or (lists_of (set at j v)) a [] ≡ numbers_at (take (i + 1) bs) a
@@ -150,10 +149,12 @@ number_put at bs i j b was v low addr lt is old new a listed false other =
     ∙ sym (numbers_step bs i b a false lt is (ap (λ n. a == n) (sym addr) ∙ other) ∙ append-nil (numbers_at (take i bs) a))
 
 -- a target at no address
-pub number_left : (bs : List (Bit NodeState)) (i : ℕ) (b : Bit NodeState) (a : ℕ) → NO_ADDRESS ≤ b.site.addr → i < length bs → b ≡ get_or bs i b
+pub number_left : (bs : List (Bit NodeState)) (i : ℕ) (b : Bit NodeState) (a : ℕ) → NO_ADDRESS ≤ b.site.addr → i < length bs
+    → b ≡ get_or bs i b
     → a < NO_ADDRESS → numbers_at (take i bs) a ≡ numbers_at (take (i + 1) bs) a
 number_left bs i b a high lt is low =
-    sym (numbers_step bs i b a false lt is (ne_eqb a b.site.addr (λ e. absurd (omega (arith, e, high, low)))) ∙ append-nil (numbers_at (take i bs) a))
+    sym (numbers_step bs i b a false lt is (ne_eqb a b.site.addr (λ e. absurd (omega (arith, e, high, low))))
+    ∙ append-nil (numbers_at (take i bs) a))
 
 module _ (bs : List (Bit NodeState)) (at : List (List ℕ)) (long : length at ≡ NO_ADDRESS)
     (index_at : (a : ℕ) → a < NO_ADDRESS → get_or at a [] ≡ numbers_at bs a) where

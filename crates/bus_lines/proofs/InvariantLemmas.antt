@@ -1,38 +1,31 @@
 -- What each call leaves of the targets of a root as its type keeps them.
-use Rattle.std.proofs.Common.{◌≡◌, ℕ, zero, suc, ◌+◌, ◌-◌, ◌/◌, ◌==◌, ◌<◌, Bool, true, false, ◌&&◌, ◌||◌, cond, List, [], ◌∷◌, length, map, get_or, refl, sym, ap, ◌∙◌, subst, arith}
-use Rattle.std.specs.Prelude.{not}
-use Rattle.std.specs.List.{list_all}
+use Rattle.bus_lines.proofs.Cited.{◌≡◌, ℕ, zero, suc, ◌+◌, ◌-◌, ◌/◌, ◌==◌, ◌<◌, Bool, true, false, ◌&&◌, ◌||◌, cond, List, [], ◌∷◌, length}
+use Rattle.bus_lines.proofs.Cited.{map, get_or, refl, sym, ap, ◌∙◌, subst, arith, not, list_all, nat_tests, length-map, IsFairTable, Bit}
+use Rattle.bus_lines.proofs.Cited.{shifted, rise, fall, tick, begin, finish, where_joined, some_one, pulls_line, Counts, holds_line}
+use Rattle.bus_lines.proofs.Cited.{rejoin_from, NodeState, NO_ADDRESS, node_table, Rooted, levelled_bits, Edge, Finish, Leave, seen}
+use Rattle.bus_lines.proofs.Cited.{joined_at, PlaceView, places_of, is_chip, kinds_of, states_on, joins_by, AreTargets, targets_of}
+use Rattle.bus_lines.proofs.Cited.{NumbersView, numbers_of, is_among, RegisterView, by_number, some_by, to_those, of_those, shared}
+use Rattle.bus_lines.proofs.Cited.{addressed, AreUnits, IsIndex}
 use Rattle.std.proofs.Common.{rules}
-use Rattle.std.proofs.lemmas.Bool.Decides.{nat_tests}
-use Rattle.std.proofs.lemmas.List.{length-map}
-use Rattle.i2c_spec.specs.Targets.{IsFairTable}
 use Rattle.i2c_spec.proofs.StateLemmas.{states_fair}
 use Rattle.wire_spec.proofs.StartLemmas.{node_fair}
-use Rattle.wire_spec.specs.Wires.{Bit, shifted, rise, fall, tick, begin, finish}
-use Rattle.wire_spec.specs.Roots.{where_joined, some_one, pulls_line}
-use Rattle.wire_spec.specs.Bus.{Counts, holds_line, rejoin_from}
-use Rattle.wire_spec.specs.Sites.{NodeState, NO_ADDRESS, node_table}
-use Rattle.i2c_bits.specs.Wiring.{Rooted, levelled_bits}
-use Rattle.bus_lines.specs.declared.edges.Edge.{Edge}
-use Rattle.bus_lines.specs.declared.edges.Edge.TheVariants.{Finish, Leave}
-use Rattle.bus_lines.specs.Edges.{seen, joined_at}
-use Rattle.bus_lines.specs.Joins.{PlaceView, places_of, is_chip, kinds_of, states_on, joins_by}
-use Rattle.bus_lines.specs.LinesViews.{AreTargets, targets_of}
-use Rattle.bus_lines.specs.Numbers.{NumbersView, numbers_of, is_among}
-use Rattle.bus_lines.specs.Units.{RegisterView, by_number, some_by, to_those, of_those, shared, addressed, AreUnits, IsIndex}
 use Rattle.bus_lines.proofs.KindLemmas.{kinds_doors, kinds_rejoin, kinds_level}
 use Rattle.bus_lines.proofs.NumberedLemmas.{length-numbered}
 use Rattle.bus_lines.proofs.UnitLemmas.{IsWithin}
 use Rattle.bus_lines.proofs.TargetsLemmas.{seen_alone, told_seen, told_doors, told_units, told_holds}
-use Rattle.bus_lines.proofs.AddressLemmas.{coming_falls, coming_ticks, coming_rises, coming_holds, coming_pulls, coming_units, called_seen, called_doors, called_units, called_holds, left_seen, left_doors, left_units}
-use Rattle.bus_lines.proofs.StopLemmas.{AreLoose, rejoined_units, stopped_seen, stopped_kinds, stopped_loose, levelled_loose, spread_loose, spread_states}
+use Rattle.bus_lines.proofs.AddressLemmas.{coming_falls, coming_ticks, coming_rises, coming_holds, coming_pulls, coming_units, called_seen}
+use Rattle.bus_lines.proofs.AddressLemmas.{called_doors, called_units, called_holds, left_seen, left_doors, left_units}
+use Rattle.bus_lines.proofs.StopLemmas.{AreLoose, rejoined_units, stopped_seen, stopped_kinds, stopped_loose, levelled_loose, spread_loose}
+use Rattle.bus_lines.proofs.StopLemmas.{spread_states}
 
 -- ---- while an address comes in
-pub falls_coming : (left v : ℕ) (bs : List (Bit NodeState)) → 0 < left → map (shared left v) bs ≡ map (where_joined fall) (map (shared left v) bs)
+pub falls_coming : (left v : ℕ) (bs : List (Bit NodeState)) → 0 < left → map (shared left v) bs ≡ map (where_joined fall)
+    (map (shared left v) bs)
 falls_coming zero v bs some = absurd (omega (arith, some))
 falls_coming (suc n) v bs some = coming_falls n v bs
 
-pub ticks_coming : (left v : ℕ) (bs : List (Bit NodeState)) → 0 < left → map (shared left v) bs ≡ map (where_joined tick) (map (shared left v) bs)
+pub ticks_coming : (left v : ℕ) (bs : List (Bit NodeState)) → 0 < left → map (shared left v) bs ≡ map (where_joined tick)
+    (map (shared left v) bs)
 ticks_coming zero v bs some = absurd (omega (arith, some))
 ticks_coming (suc n) v bs some = coming_ticks n v bs
 
@@ -57,7 +50,8 @@ rises_coming n v level left now bs more is =
 module _ (k : Rooted) (ps : List PlaceView) (held : Bool) (r : RegisterView) (live started : NumbersView) (at : List (List ℕ))
     (bs : List (Bit NodeState)) (are : AreTargets k ps held r live started at bs) where
   -- an edge within a message
-  pub told_are : (e : Edge) → IsWithin e → r.left ≡ 0 → (new : List (Bit NodeState)) → new ≡ by_number (to_those live.items (where_joined (seen e))) 0 bs
+  pub told_are : (e : Edge) → IsWithin e → r.left ≡ 0 → (new : List (Bit NodeState)) → new ≡ by_number
+      (to_those live.items (where_joined (seen e))) 0 bs
       → (h : Bool) → h ≡ some_by (of_those live.items holds_line) 0 new → AreTargets k ps h r live started at new
   told_are e within none new is h holds =
       let f = to_those live.items (where_joined (seen e)) in
@@ -67,7 +61,8 @@ module _ (k : Rooted) (ps : List PlaceView) (held : Bool) (r : RegisterView) (li
       record {
         places = are.places;
         kinds = ap (λ xs. map is_chip (states_on xs)) is
-            ∙ kinds_doors (states_on told) (states_on bs) (told_doors e within r.left live.items started.items at ps bs none are.units) ∙ are.kinds;
+            ∙ kinds_doors (states_on told) (states_on bs) (told_doors e within r.left live.items started.items at ps bs none are.units)
+            ∙ are.kinds;
         clock = holds ∙ ap (some_by (of_those live.items holds_line) 0) is
             ∙ told_holds e within r.left live.items started.items at ps bs none are.units ∙ ap (some_one holds_line) (sym is ∙ alone);
         units = subst (λ (xs : List (Bit NodeState)). AreUnits r.left live.items started.items at (joins_by ps (states_on xs)) xs) (sym is)
@@ -77,13 +72,15 @@ module _ (k : Rooted) (ps : List PlaceView) (held : Bool) (r : RegisterView) (li
         index = subst (λ (n : ℕ). IsIndex n at) (sym count) are.index;
       }
 
-  pub told_view : (e : Edge) → IsWithin e → r.left ≡ 0 → (new : List (Bit NodeState)) → new ≡ by_number (to_those live.items (where_joined (seen e))) 0 bs
+  pub told_view : (e : Edge) → IsWithin e → r.left ≡ 0 → (new : List (Bit NodeState)) → new ≡ by_number
+      (to_those live.items (where_joined (seen e))) 0 bs
       → map (shared r.left r.value) new ≡ map (where_joined (seen e)) (map (shared r.left r.value) bs)
   told_view e within none new is =
       ap (map (shared r.left r.value)) is ∙ told_seen e within r.left live.items started.items at ps bs none are.units r.value
 
   -- a bit of an address, and not the last
-  pub coming_are : (n : ℕ) → r.left ≡ suc (suc n) → (now : RegisterView) (level : Bool) → now ≡ record { left = r.left - 1; value = shifted r.value level }
+  pub coming_are : (n : ℕ) → r.left ≡ suc (suc n) → (now : RegisterView) (level : Bool) → now
+      ≡ record { left = r.left - 1; value = shifted r.value level }
       → AreTargets k ps held now live started at bs
   coming_are n more now level is =
       let less : now.left ≡ suc n = ap (λ (x : RegisterView). x.left) is ∙ omega (arith, more) in
@@ -105,16 +102,21 @@ module _ (k : Rooted) (ps : List PlaceView) (held : Bool) (r : RegisterView) (li
   module _ (last : r.left ≡ 1) (level : Bool) (byte : ℕ) (is_byte : byte ≡ shifted r.value level) (low : byte / 2 < NO_ADDRESS)
       (now : RegisterView) (over : now.left ≡ 0) (live_new started_new : NumbersView) (new : List (Bit NodeState))
       (live_has : (j : ℕ) → is_among live_new.items j ≡ (is_among live.items j || (is_among (get_or at (byte / 2) []) j && joined_at bs j)))
-      (started_has : (j : ℕ) → is_among started_new.items j ≡ (is_among started.items j || (is_among (get_or at (byte / 2) []) j && joined_at bs j)))
+      (started_has : (j : ℕ) → is_among started_new.items j ≡ (is_among started.items j || (is_among
+      (get_or at (byte / 2) []) j && joined_at bs j)))
       (is : new ≡ by_number (addressed started_new.items (get_or at (byte / 2) []) byte) 0 bs) where
     low_at : shifted r.value level / 2 < NO_ADDRESS
     low_at = subst (λ (b : ℕ). b / 2 < NO_ADDRESS) is_byte low
 
-    live_at : (j : ℕ) → is_among live_new.items j ≡ (is_among live.items j || (is_among (get_or at (shifted r.value level / 2) []) j && joined_at bs j))
-    live_at = subst (λ (b : ℕ). (j : ℕ) → is_among live_new.items j ≡ (is_among live.items j || (is_among (get_or at (b / 2) []) j && joined_at bs j))) is_byte live_has
+    live_at : (j : ℕ) → is_among live_new.items j ≡ (is_among live.items j
+        || (is_among (get_or at (shifted r.value level / 2) []) j && joined_at bs j))
+    live_at = subst (λ (b : ℕ). (j : ℕ) → is_among live_new.items j ≡ (is_among live.items j
+        || (is_among (get_or at (b / 2) []) j && joined_at bs j))) is_byte live_has
 
-    started_at : (j : ℕ) → is_among started_new.items j ≡ (is_among started.items j || (is_among (get_or at (shifted r.value level / 2) []) j && joined_at bs j))
-    started_at = subst (λ (b : ℕ). (j : ℕ) → is_among started_new.items j ≡ (is_among started.items j || (is_among (get_or at (b / 2) []) j && joined_at bs j))) is_byte started_has
+    started_at : (j : ℕ) → is_among started_new.items j ≡ (is_among started.items j || (is_among
+        (get_or at (shifted r.value level / 2) []) j && joined_at bs j))
+    started_at = subst (λ (b : ℕ). (j : ℕ) → is_among started_new.items j ≡ (is_among started.items j
+        || (is_among (get_or at (b / 2) []) j && joined_at bs j))) is_byte started_has
 
     abbrev f : ℕ → Bit NodeState → Bit NodeState
     f = addressed started_new.items (get_or at (shifted r.value level / 2) []) (shifted r.value level)
@@ -136,27 +138,35 @@ module _ (k : Rooted) (ps : List PlaceView) (held : Bool) (r : RegisterView) (li
           places = are.places;
           kinds = ap (λ xs. map is_chip (states_on xs)) is_f
               ∙ kinds_doors (states_on (by_number f 0 bs)) (states_on bs)
-              (called_doors r.left r.value level live.items started.items live_new.items started_new.items at ps bs low_at are.units live_at started_at)
+              (called_doors r.left r.value level live.items started.items live_new.items started_new.items at ps bs low_at are.units live_at
+              started_at)
               ∙ are.kinds;
           clock = are.clock ∙ holds_coming r.left r.value bs some
               ∙ sym (ap (some_one holds_line) as_alone
-              ∙ called_holds r.left r.value level live.items started.items live_new.items started_new.items at ps bs low_at are.units live_at started_at
+              ∙ called_holds r.left r.value level live.items started.items live_new.items started_new.items at ps bs low_at are.units
+              live_at started_at
               now.value);
-          units = subst (λ (xs : List (Bit NodeState)). AreUnits now.left live_new.items started_new.items at (joins_by ps (states_on xs)) xs) (sym is_f)
-              (subst (λ (m : ℕ). AreUnits m live_new.items started_new.items at (joins_by ps (states_on (by_number f 0 bs))) (by_number f 0 bs)) (sym over)
-              (called_units r.left r.value level live.items started.items live_new.items started_new.items at ps bs low_at are.units live_at started_at));
+          units = subst (λ (xs : List (Bit NodeState)). AreUnits now.left live_new.items started_new.items at
+              (joins_by ps (states_on xs)) xs) (sym is_f)
+              (subst (λ (m : ℕ). AreUnits m live_new.items started_new.items at (joins_by ps (states_on (by_number f 0 bs)))
+              (by_number f 0 bs)) (sym over)
+              (called_units r.left r.value level live.items started.items live_new.items started_new.items at ps bs low_at are.units live_at
+              started_at));
           live_room = live_room ∙ are.live_room ∙ sym count;
           started_room = started_room ∙ are.started_room ∙ sym count;
           index = subst (λ (n : ℕ). IsIndex n at) (sym count) are.index;
         }
 
-    pub called_view : map (shared now.left now.value) new ≡ map (where_joined (λ b. rise node_table b level)) (map (shared r.left r.value) bs)
+    pub called_view : map (shared now.left now.value) new ≡ map (where_joined (λ b. rise node_table b level))
+        (map (shared r.left r.value) bs)
     called_view =
-        as_alone ∙ called_seen r.left r.value level live.items started.items live_new.items started_new.items at ps bs low_at are.units live_at started_at
+        as_alone ∙ called_seen r.left r.value level live.items started.items live_new.items started_new.items at ps bs low_at are.units
+        live_at started_at
         now.value last
 
   -- a start
-  pub left_are : (new : List (Bit NodeState)) (live_new : NumbersView) → live_new ≡ numbers_of live.room (cond (list_all (joined_at bs) live.items) [] live.items)
+  pub left_are : (new : List (Bit NodeState)) (live_new : NumbersView) → live_new ≡ numbers_of live.room
+      (cond (list_all (joined_at bs) live.items) [] live.items)
       → new ≡ by_number (to_those live.items (where_joined (seen Leave))) 0 bs → (now : RegisterView) → now ≡ record { left = 8; value = 0 }
       → (h : Bool) → h ≡ false → AreTargets k ps h now live_new started at new
   left_are new live_new lives is now eight h holds =
@@ -166,11 +176,15 @@ module _ (k : Rooted) (ps : List PlaceView) (held : Bool) (r : RegisterView) (li
       record {
         places = are.places;
         kinds = ap (λ xs. map is_chip (states_on xs)) is
-            ∙ kinds_doors (states_on (by_number f 0 bs)) (states_on bs) (left_doors r.left r.value live.items started.items at ps bs are.units) ∙ are.kinds;
+            ∙ kinds_doors (states_on (by_number f 0 bs)) (states_on bs)
+            (left_doors r.left r.value live.items started.items at ps bs are.units) ∙ are.kinds;
         clock = holds ∙ sym (holds_coming now.left now.value new some);
-        units = subst (λ (xs : List (Bit NodeState)). AreUnits now.left live_new.items started.items at (joins_by ps (states_on xs)) xs) (sym is)
-            (subst (λ (x : RegisterView). AreUnits x.left live_new.items started.items at (joins_by ps (states_on (by_number f 0 bs))) (by_number f 0 bs)) (sym eight)
-            (subst (λ (v : NumbersView). AreUnits 8 v.items started.items at (joins_by ps (states_on (by_number f 0 bs))) (by_number f 0 bs)) (sym lives)
+        units = subst (λ (xs : List (Bit NodeState)). AreUnits now.left live_new.items started.items at (joins_by ps (states_on xs)) xs)
+            (sym is)
+            (subst (λ (x : RegisterView). AreUnits x.left live_new.items started.items at (joins_by ps (states_on (by_number f 0 bs)))
+            (by_number f 0 bs)) (sym eight)
+            (subst (λ (v : NumbersView). AreUnits 8 v.items started.items at (joins_by ps (states_on (by_number f 0 bs)))
+            (by_number f 0 bs)) (sym lives)
             (left_units r.left r.value live.items started.items at ps bs are.units)));
         live_room = ap (λ (v : NumbersView). v.room) lives ∙ are.live_room ∙ sym count;
         started_room = are.started_room ∙ sym count;
@@ -185,7 +199,8 @@ module _ (k : Rooted) (ps : List PlaceView) (held : Bool) (r : RegisterView) (li
       ∙ left_seen r.left r.value live.items started.items at ps bs are.units
 
 -- ---- who is joined is read anew
-module _ (k : Rooted) (ps : List PlaceView) (places : ps ≡ places_of k.board k.root) (live started : NumbersView) (at : List (List ℕ)) (bs : List (Bit NodeState))
+module _ (k : Rooted) (ps : List PlaceView) (places : ps ≡ places_of k.board k.root) (live started : NumbersView) (at : List (List ℕ))
+    (bs : List (Bit NodeState))
     (kinds : map is_chip (states_on bs) ≡ kinds_of k.board) (now : RegisterView) (over : now.left ≡ 0) (new : List (Bit NodeState))
     (is : new ≡ rejoin_from (joins_by ps (states_on bs)) 0 bs) where
   count_from : (f : ℕ → Bool) (n : ℕ) (xs : List (Bit NodeState)) → length (rejoin_from f n xs) ≡ length xs
@@ -201,7 +216,8 @@ module _ (k : Rooted) (ps : List PlaceView) (places : ps ≡ places_of k.board k
         places = places;
         kinds = ap (λ xs. map is_chip (states_on xs)) is ∙ kinds_rejoin joins 0 bs ∙ kinds;
         clock = holds ∙ ap (some_one holds_line) (sym (seen_alone now.left now.value new over));
-        units = subst (λ (xs : List (Bit NodeState)). AreUnits now.left live.items started.items at (joins_by ps (states_on xs)) xs) (sym is)
+        units = subst (λ (xs : List (Bit NodeState)). AreUnits now.left live.items started.items at (joins_by ps (states_on xs)) xs)
+            (sym is)
             (rejoined_units now.left live.items started.items at ps bs over loose);
         live_room = live_room ∙ sym count;
         started_room = started_room ∙ sym count;
@@ -228,7 +244,8 @@ module _ (k : Rooted) (ps : List PlaceView) (held : Bool) (r : RegisterView) (li
 
   pub stop_kinds : map is_chip (states_on new) ≡ kinds_of k.board
   stop_kinds =
-      ap (λ xs. map is_chip (states_on xs)) is ∙ stopped_kinds nodes_fair r.left r.value live.items started.items at ps bs are.units ∙ are.kinds
+      ap (λ xs. map is_chip (states_on xs)) is ∙ stopped_kinds nodes_fair r.left r.value live.items started.items at ps bs are.units
+      ∙ are.kinds
 
   pub stop_live : live_new.room ≡ length new
   stop_live = ap (λ (v : NumbersView). v.room) lives ∙ are.live_room ∙ sym stop_count
@@ -254,7 +271,8 @@ module _ (k : Rooted) (ps : List PlaceView) (held : Bool) (r : RegisterView) (li
     (bs : List (Bit NodeState)) (are : AreTargets k ps held r live started at bs) (live_new started_new : NumbersView)
     (live_is : (j : ℕ) → j < live.room → is_among live_new.items j ≡ false → (r.left ≡ 0) × (is_among live.items j ≡ false))
     (started_is : (j : ℕ) → j < started.room → is_among started_new.items j ≡ false → (r.left ≡ 0) × (is_among started.items j ≡ false))
-    (mid new : List (Bit NodeState)) (m level : ℕ) (spread : mid ≡ map (shared r.left r.value) bs) (is : new ≡ levelled_bits m level mid) where
+    (mid new : List (Bit NodeState)) (m level : ℕ) (spread : mid ≡ map (shared r.left r.value) bs)
+    (is : new ≡ levelled_bits m level mid) where
   level_count : (j : ℕ) (xs : List (Bit NodeState)) → length (levelled_bits j level xs) ≡ length xs
   level_count j [] = refl
   level_count zero (x ∷ xs) = refl

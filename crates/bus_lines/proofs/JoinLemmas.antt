@@ -1,10 +1,6 @@
 -- A loop that goes from the last target back to the first, and reads anew of each whether it is joined.
-use Rattle.std.proofs.Common.{◌≡◌, ℕ, zero, suc, ◌+◌, ◌<◌, Bool, List, [], ◌∷◌, length, set, get_or, refl, sym, ap, ◌∙◌, arith}
-use Rattle.wire_spec.specs.Wires.{Bit}
-use Rattle.wire_spec.specs.Bus.{rejoin_from}
-use Rattle.wire_spec.specs.Sites.{NodeState}
-use Rattle.bus_lines.specs.Joins.{read_anew, states_on}
-use Rattle.bus_lines.specs.Units.{by_number}
+use Rattle.bus_lines.proofs.Cited.{◌≡◌, ℕ, zero, suc, ◌+◌, ◌<◌, Bool, List, [], ◌∷◌, length, set, get_or, refl, sym, ap, ◌∙◌, arith, Bit}
+use Rattle.bus_lines.proofs.Cited.{rejoin_from, NodeState, read_anew, states_on, by_number}
 
 abbrev pub joined_by : (ℕ → Bool) → ℕ → Bit NodeState → Bit NodeState
 joined_by f k b = read_anew (f k) b
@@ -29,7 +25,8 @@ next_set : {A : Type 0} (f : ℕ → A → A) (k n i : ℕ) (xs : List A) (d y :
     → first_from f k n (set xs n y) ≡ first_from f k (suc n) xs
 next_set f k n i [] d y at lt is = absurd (omega (arith, lt))
 next_set f k zero i (x ∷ xs) d y at lt is = let e : i ≡ k = omega (arith, at) in ap (λ z. z ∷ xs) (is ∙ ap (λ j. f j x) e)
-next_set f k (suc n) i (x ∷ xs) d y at lt is = ap (λ ys. f k x ∷ ys) (next_set f (k + 1) n i xs d y (omega (arith, at)) (omega (arith, lt)) is)
+next_set f k (suc n) i (x ∷ xs) d y at lt is = ap (λ ys. f k x ∷ ys) (next_set f (k + 1) n i xs d y (omega (arith, at))
+    (omega (arith, lt)) is)
 
 pub next_back : {A : Type 0} (f : ℕ → A → A) (m n : ℕ) (xs : List A) (d y : A) → m ≡ suc n → n < length xs → y ≡ f n (get_or xs n d)
     → first_from f 0 n (set xs n y) ≡ first_from f 0 m xs

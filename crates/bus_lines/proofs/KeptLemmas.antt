@@ -1,38 +1,31 @@
 -- What is told to the targets as they are kept, is told to them as it is known of all who is joined.
-use Rattle.std.proofs.Common.{◌≡◌, ℕ, Bool, true, false, ◌&&◌, ◌||◌, cond, List, [], length, map, Some, refl, sym, ap, ◌∙◌, subst}
-use Rattle.std.specs.Prelude.{slice_get}
-use Rattle.std.specs.List.{list_all}
-use Rattle.wire_spec.specs.Wires.{Bit, begin, finish}
-use Rattle.wire_spec.specs.Roots.{where_joined, some_one}
-use Rattle.wire_spec.specs.Bus.{holds_line, rejoin_from, rejoined}
-use Rattle.wire_spec.specs.Sites.{NodeState, mask_of, node_table}
-use Rattle.i2c_bits.specs.Wiring.{Rooted}
-use Rattle.bus_lines.specs.declared.edges.Edge.{Edge}
-use Rattle.bus_lines.specs.declared.edges.Edge.TheVariants.{Finish, Leave, Other, Address}
-use Rattle.bus_lines.specs.Away.{whole_on}
-use Rattle.bus_lines.specs.Edges.{seen, joined_at}
-use Rattle.bus_lines.specs.Joins.{PlaceView, is_chip, kinds_of, states_on, joins_by, read_anew}
-use Rattle.bus_lines.specs.Known.{known, knows, known_on, known_of, AreKnown, AreKept}
-use Rattle.bus_lines.specs.LinesViews.{AreTargets}
-use Rattle.bus_lines.specs.Numbers.{NumbersView, numbers_of, is_among}
-use Rattle.bus_lines.specs.Units.{RegisterView, by_number, some_by, to_those, of_those, addressed, shared, IsCalm, IsIndex}
-use Rattle.bus_lines.proofs.InvariantLemmas.{nodes_fair, told_are, left_are, left_view, rejoined_are, stop_kinds, stop_live, stop_started, stop_index, stop_loose, stop_seen}
+use Rattle.bus_lines.proofs.Cited.{◌≡◌, ℕ, Bool, true, false, ◌&&◌, ◌||◌, cond, List, [], length, map, Some, refl, sym, ap, ◌∙◌, subst}
+use Rattle.bus_lines.proofs.Cited.{slice_get, list_all, Bit, begin, finish, where_joined, some_one, holds_line, rejoin_from, rejoined}
+use Rattle.bus_lines.proofs.Cited.{NodeState, mask_of, node_table, Rooted, Edge, Finish, Leave, Other, Address, whole_on, seen, joined_at}
+use Rattle.bus_lines.proofs.Cited.{PlaceView, is_chip, kinds_of, states_on, joins_by, read_anew, known, knows, known_on, known_of, AreKnown}
+use Rattle.bus_lines.proofs.Cited.{AreTargets, NumbersView, numbers_of, is_among, RegisterView, by_number, some_by, to_those, of_those}
+use Rattle.bus_lines.proofs.Cited.{addressed, shared, IsCalm, IsIndex, released}
+use Rattle.bus_lines.specs.Known.{AreKept}
+use Rattle.bus_lines.proofs.InvariantLemmas.{nodes_fair, told_are, left_are, left_view, rejoined_are, stop_kinds, stop_live, stop_started}
+use Rattle.bus_lines.proofs.InvariantLemmas.{stop_index, stop_loose, stop_seen}
 use Rattle.bus_lines.proofs.KindLemmas.{NoFinish, doors, doors_kept, joined_kept, states_numbered}
-use Rattle.bus_lines.proofs.KnownLemmas.{refreshed, refreshed_those, refreshed_others, told_known, told_keeps, some_known, test_known, all_known, rejoins_known, anew_is_known, are_known, knows_anew, told_knows, told_states}
+use Rattle.bus_lines.proofs.KnownLemmas.{refreshed, refreshed_those, refreshed_others, told_known, told_keeps, some_known, test_known}
+use Rattle.bus_lines.proofs.KnownLemmas.{all_known, rejoins_known, anew_is_known, are_known, knows_anew, told_knows, told_states}
 use Rattle.bus_lines.proofs.NumberedLemmas.{at_number, numbered_twice, length-numbered, some_none}
 use Rattle.bus_lines.proofs.StopLemmas.{anew_out, calm_after, rejoin_numbered}
 use Rattle.bus_lines.proofs.TargetsLemmas.{within_goes}
 use Rattle.bus_lines.proofs.ToldLemmas.{edge_whole}
 use Rattle.bus_lines.proofs.UnitLemmas.{IsWithin, holds_none}
 use Rattle.bus_lines.proofs.AwayLemmas.{units_away, whole_edge, whole_stop, whole_rejoined}
-use Rattle.wire_spec.specs.Calls.{released}
 
 -- no edge but a stop opens or closes a channel, whoever it is told to
-doors_either : (e : Edge) → NoFinish e → (t : Bool) (b : Bit NodeState) → doors (cond t (where_joined (seen e) b) b).site.state ≡ doors b.site.state
+doors_either : (e : Edge) → NoFinish e → (t : Bool) (b : Bit NodeState) → doors (cond t (where_joined (seen e) b) b).site.state
+    ≡ doors b.site.state
 doors_either e nostop true b = doors_kept e nostop b
 doors_either e nostop false b = refl
 
-pub told_doors : (e : Edge) → NoFinish e → (ns : List ℕ) (bs new : List (Bit NodeState)) → new ≡ by_number (to_those ns (where_joined (seen e))) 0 bs
+pub told_doors : (e : Edge) → NoFinish e → (ns : List ℕ) (bs new : List (Bit NodeState)) → new ≡ by_number
+    (to_those ns (where_joined (seen e))) 0 bs
     → map doors (states_on new) ≡ map doors (states_on bs)
 told_doors e nostop ns bs new is =
     ap (λ xs. map doors (states_on xs)) is
@@ -43,13 +36,15 @@ known_none true ns k among = absurd (let e : false ≡ true = among in cc)
 known_none false ns k among = among
 
 -- of none, or of these
-pub known_some : (t : Bool) (ns : List ℕ) (ps : List PlaceView) (bs : List (Bit NodeState)) → AreKnown ns ps bs → AreKnown (cond t [] ns) ps bs
+pub known_some : (t : Bool) (ns : List ℕ) (ps : List PlaceView) (bs : List (Bit NodeState)) → AreKnown ns ps bs
+    → AreKnown (cond t [] ns) ps bs
 known_some t ns ps bs were k b at among = were k b at (known_none t ns k among)
 
 -- ---- an edge that is told to those in the message
 module _ (k : Rooted) (ps : List PlaceView) (held : Bool) (r : RegisterView) (live started : NumbersView) (at : List (List ℕ))
     (bs : List (Bit NodeState)) (kept : AreKept k ps held r live started at bs) (e : Edge) (within : IsWithin e) (none : r.left ≡ 0)
-    (ns : List ℕ) (those : ns ≡ live.items) (new : List (Bit NodeState)) (is : new ≡ by_number (to_those ns (where_joined (seen e))) 0 bs) where
+    (ns : List ℕ) (those : ns ≡ live.items) (new : List (Bit NodeState)) (is : new ≡ by_number
+    (to_those ns (where_joined (seen e))) 0 bs) where
   is_live : new ≡ by_number (to_those live.items (where_joined (seen e))) 0 bs
   is_live = is ∙ ap (λ ms. by_number (to_those ms (where_joined (seen e))) 0 bs) those
 
@@ -145,12 +140,14 @@ module _ (k : Rooted) (ps : List PlaceView) (held : Bool) (r : RegisterView) (li
   added_known ms list has were j b here among = one_known ms list were j b here (is_among ms j) refl (sym (has j) ∙ among)
 
   -- an address byte is told to them
-  module _ (list : List ℕ) (listed : AreKnown list ps mid) (byte : ℕ) (new : List (Bit NodeState)) (told : new ≡ by_number (addressed list ns byte) 0 mid) where
+  module _ (list : List ℕ) (listed : AreKnown list ps mid) (byte : ℕ) (new : List (Bit NodeState))
+      (told : new ≡ by_number (addressed list ns byte) 0 mid) where
     abbrev others : List (Bit NodeState)
     others = by_number (to_those list (where_joined (seen (Other byte)))) 0 mid
 
     both : new ≡ by_number (to_those ns (where_joined (seen (Address byte)))) 0 others
-    both = told ∙ sym (numbered_twice (to_those list (where_joined (seen (Other byte)))) (to_those ns (where_joined (seen (Address byte)))) 0 mid)
+    both = told ∙ sym (numbered_twice (to_those list (where_joined (seen (Other byte)))) (to_those ns
+        (where_joined (seen (Address byte)))) 0 mid)
 
     others_doors : map doors (states_on others) ≡ map doors (states_on mid)
     others_doors = told_doors (Other byte) tt list mid others refl
@@ -159,18 +156,22 @@ module _ (k : Rooted) (ps : List PlaceView) (held : Bool) (r : RegisterView) (li
     both_doors = told_doors (Address byte) tt ns others new both
 
     others_keep : (ms : List ℕ) → AreKnown ms ps mid → AreKnown ms ps others
-    others_keep ms were = told_keeps ps ms list (where_joined (seen (Other byte))) mid others refl (joined_kept (Other byte) tt) others_doors were
+    others_keep ms were = told_keeps ps ms list (where_joined (seen (Other byte))) mid others refl
+        (joined_kept (Other byte) tt) others_doors were
 
     pub address_keeps : (ms : List ℕ) → AreKnown ms ps mid → AreKnown ms ps new
     address_keeps ms were =
-        told_keeps ps ms ns (where_joined (seen (Address byte))) others new both (joined_kept (Address byte) tt) both_doors (others_keep ms were)
+        told_keeps ps ms ns (where_joined (seen (Address byte))) others new both (joined_kept (Address byte) tt) both_doors
+        (others_keep ms were)
 
     pub address_known : known_on ps new ≡ by_number (addressed list ns byte) 0 (known_on ps bs)
     address_known =
-        told_known ps ns (where_joined (seen (Address byte))) others new both (joined_kept (Address byte) tt) both_doors (others_keep ns fresh_those)
+        told_known ps ns (where_joined (seen (Address byte))) others new both (joined_kept (Address byte) tt) both_doors
+        (others_keep ns fresh_those)
         ∙ ap (by_number (to_those ns (where_joined (seen (Address byte)))) 0)
         (told_known ps list (where_joined (seen (Other byte))) mid others refl (joined_kept (Other byte) tt) others_doors listed)
-        ∙ numbered_twice (to_those list (where_joined (seen (Other byte)))) (to_those ns (where_joined (seen (Address byte)))) 0 (known_on ps mid)
+        ∙ numbered_twice (to_those list (where_joined (seen (Other byte)))) (to_those ns (where_joined (seen (Address byte)))) 0
+        (known_on ps mid)
         ∙ ap (by_number (addressed list ns byte) 0) fresh_known
 
   -- what an address byte leaves that is told to them
@@ -217,7 +218,8 @@ kept_with k ps held r now live started at bs kept are =
     }
 
 -- who is joined has been read anew of all
-pub kept_anew : (k : Rooted) (ps : List PlaceView) (h : Bool) (r : RegisterView) (live started : NumbersView) (at : List (List ℕ)) (bs : List (Bit NodeState))
+pub kept_anew : (k : Rooted) (ps : List PlaceView) (h : Bool) (r : RegisterView) (live started : NumbersView) (at : List (List ℕ))
+    (bs : List (Bit NodeState))
     → AreTargets k ps h r live started at bs → known_on ps bs ≡ bs → AreKept k ps h r live started at bs
 kept_anew k ps h r live started at bs are known =
     record {
@@ -255,7 +257,8 @@ module _ (k : Rooted) (ps : List PlaceView) (held : Bool) (r : RegisterView) (li
       → AreKept k ps h now live_new started at new
   begin_kept now eight h holds =
       record {
-        are = left_are k ps held r live started at (known_on ps bs) kept.are (known_on ps new) live_new leave_lives leave_known now eight h holds;
+        are = left_are k ps held r live started at (known_on ps bs) kept.are
+            (known_on ps new) live_new leave_lives leave_known now eight h holds;
         in_message = subst (λ (v : NumbersView). AreKnown v.items ps new) (sym lives)
             (known_some (list_all (joined_at bs) live.items) live.items ps new (leave_keeps live.items kept.in_message));
         reached = leave_keeps started.items kept.reached;
@@ -309,7 +312,8 @@ module _ (k : Rooted) (ps : List PlaceView) (held : Bool) (r : RegisterView) (li
 
   rejoined_seen : (j : List (Bit NodeState)) → j ≡ rejoin_from (joins_by ps (states_on all)) 0 all
       → map (shared now.left now.value) (whole_on k.board ps j)
-      ≡ rejoined (mask_of k.board k.root) (map (where_joined (finish node_table)) (map (shared r.left r.value) (whole_on k.board ps (known_on ps bs))))
+      ≡ rejoined (mask_of k.board k.root) (map (where_joined (finish node_table)) (map (shared r.left r.value)
+      (whole_on k.board ps (known_on ps bs))))
   rejoined_seen j anew =
       whole_rejoined k ps kept.are.places all all_kinds now over j anew
       ∙ ap (λ (xs : List (Bit NodeState)). rejoined (mask_of k.board k.root) xs)
@@ -330,7 +334,8 @@ module _ (k : Rooted) (ps : List PlaceView) (held : Bool) (r : RegisterView) (li
         kept_anew k ps h now live_new started_new at j (rejoined_all j anew_all h holds) anew_known
 
     pub missed_seen : map (shared now.left now.value) (whole_on k.board ps (known_on ps j))
-        ≡ rejoined (mask_of k.board k.root) (map (where_joined (finish node_table)) (map (shared r.left r.value) (whole_on k.board ps (known_on ps bs))))
+        ≡ rejoined (mask_of k.board k.root) (map (where_joined (finish node_table)) (map (shared r.left r.value)
+        (whole_on k.board ps (known_on ps bs))))
     missed_seen = ap (λ xs. map (shared now.left now.value) (whole_on k.board ps xs)) anew_known ∙ rejoined_seen j anew_all
 
   -- of nobody, since it reached all that a message had reached
@@ -350,7 +355,8 @@ module _ (k : Rooted) (ps : List PlaceView) (held : Bool) (r : RegisterView) (li
     all_out : (n : ℕ) (c : Bit NodeState) → slice_get (known_on ps new) n ≡ Some c → c ≡ released c.site
     all_out n c here =
         let joins = joins_by ps (states_on all) in
-        let r = at_number (λ m b. read_anew (joins m) b) n all c (sym (ap (λ xs. slice_get xs n) (reached_known ∙ rejoin_numbered joins 0 all)) ∙ here) in
+        let r = at_number (λ m b. read_anew (joins m) b) n all c
+        (sym (ap (λ xs. slice_get xs n) (reached_known ∙ rejoin_numbered joins 0 all)) ∙ here) in
         let calm = all_calm n r.0 r.1 in
         subst (λ (b : Bit NodeState). b ≡ released b.site) r.2 (anew_out (joins n) r.0 calm.out)
 
@@ -362,9 +368,11 @@ module _ (k : Rooted) (ps : List PlaceView) (held : Bool) (r : RegisterView) (li
         record {
           are = rejoined_all (known_on ps new) reached_known h
               (holds ∙ sym (some_none holds_line (known_on ps new) (λ n c here. holds_none c (all_out n c here))));
-          in_message = subst (λ (v : NumbersView). AreKnown v.items ps new) (sym (lives ∙ ap (λ t. numbers_of live.room (cond t [] live.items)) reached))
+          in_message = subst (λ (v : NumbersView). AreKnown v.items ps new)
+              (sym (lives ∙ ap (λ t. numbers_of live.room (cond t [] live.items)) reached))
               (λ n b here among. absurd (let e : false ≡ true = among in cc));
-          reached = subst (λ (v : NumbersView). AreKnown v.items ps new) (sym (starts ∙ ap (λ t. numbers_of started.room (cond t [] started.items)) reached))
+          reached = subst (λ (v : NumbersView). AreKnown v.items ps new)
+              (sym (starts ∙ ap (λ t. numbers_of started.room (cond t [] started.items)) reached))
               (λ n b here among. absurd (let e : false ≡ true = among in cc));
           live_room = ap (λ (v : NumbersView). v.room) lives ∙ kept.live_room ∙ sym stop_count;
           started_room = ap (λ (v : NumbersView). v.room) starts ∙ kept.started_room ∙ sym stop_count;
@@ -372,5 +380,6 @@ module _ (k : Rooted) (ps : List PlaceView) (held : Bool) (r : RegisterView) (li
         }
 
     pub reached_seen : map (shared now.left now.value) (whole_on k.board ps (known_on ps new))
-        ≡ rejoined (mask_of k.board k.root) (map (where_joined (finish node_table)) (map (shared r.left r.value) (whole_on k.board ps (known_on ps bs))))
+        ≡ rejoined (mask_of k.board k.root) (map (where_joined (finish node_table)) (map (shared r.left r.value)
+        (whole_on k.board ps (known_on ps bs))))
     reached_seen = rejoined_seen (known_on ps new) reached_known

@@ -1,29 +1,21 @@
 -- What an edge leaves of a target as it is: its address and whether it is joined, whether it is a chip, and, but for a stop, which
 -- channels are open.
-use Rattle.std.proofs.Common.{◌≡◌, ℕ, zero, suc, ◌+◌, Bool, true, false, cond, List, [], ◌∷◌, map, Option, Some, None, refl, ap, sym, ◌∙◌, ◌-◌, ◌&&◌, subst, arith}
-use Rattle.std.specs.Prelude.{not, is_some, ◌==◌, if◌then◌else◌, slice_get}
-use Rattle.std.specs.List.{list_all}
-use Rattle.std.specs.Option.{option_map_or}
+use Rattle.bus_lines.proofs.Cited.{◌≡◌, ℕ, zero, suc, ◌+◌, Bool, true, false, cond, List, [], ◌∷◌, map, Option, Some, None, refl, ap, sym}
+use Rattle.bus_lines.proofs.Cited.{◌∙◌, ◌-◌, ◌&&◌, subst, arith, not, is_some, if◌then◌else◌, slice_get, list_all, option_map_or, facts_of}
+use Rattle.bus_lines.proofs.Cited.{ChipView, Hop, Mode, Out, In, Answered, Give, Gave, Site, Bit, site_of, shifted, called, named, other}
+use Rattle.bus_lines.proofs.Cited.{is_named, is_reading, stands, where_joined, rejoin_from, NodeState, Chip, Device, node_table, node_level}
+use Rattle.bus_lines.proofs.Cited.{levelled_bits, Edge, Rise, Fall, Tick, Finish, Leave, Other, Address, Put, Get, Enter, seen, PlaceView}
+use Rattle.bus_lines.proofs.Cited.{is_chip, states_on, node_opens, opens_at, joins, joins_by, by_number}
+use Rattle.std.specs.Prelude.{◌==◌}
 use Rattle.i2c_base.specs.declared.board.MuxKind.{MuxKind}
 use Rattle.i2c_base.specs.declared.event.Event.{Event}
 use Rattle.i2c_base.specs.declared.event.Event.TheVariants as event
 use Rattle.i2c_base.specs.Limits.{POLLS}
-use Rattle.i2c_base.specs.Muxes.{facts_of}
-use Rattle.i2c_spec.specs.Chips.{ChipView, opens}
-use Rattle.i2c_spec.specs.Tree.{Hop}
+use Rattle.i2c_spec.specs.Chips.{opens}
 use Rattle.i2c_spec.specs.World.{has_heard}
-use Rattle.wire_spec.specs.declared.mode.Mode.{Mode}
-use Rattle.wire_spec.specs.declared.mode.Mode.TheVariants.{Out, In, Answered, Give, Gave}
-use Rattle.wire_spec.specs.Wires.{Site, Bit, site_of, shifted, shift, give, whole, called, named, other, is_named, is_reading, stands, rise_in}
-use Rattle.wire_spec.specs.Roots.{where_joined}
-use Rattle.wire_spec.specs.Bus.{rejoin_from}
-use Rattle.wire_spec.specs.Sites.{NodeState, Chip, Device, node_table, node_after, node_answer}
-use Rattle.i2c_bits.specs.Wiring.{node_level, levelled_bits}
-use Rattle.bus_lines.specs.declared.edges.Edge.{Edge}
-use Rattle.bus_lines.specs.declared.edges.Edge.TheVariants.{Rise, Fall, Tick, Finish, Leave, Other, Address, Put, Get, Enter}
-use Rattle.bus_lines.specs.Edges.{seen, put_in, get_in, enter_in}
-use Rattle.bus_lines.specs.Joins.{PlaceView, is_chip, states_on, node_opens, opens_at, joins, joins_by}
-use Rattle.bus_lines.specs.Units.{by_number}
+use Rattle.wire_spec.specs.Wires.{shift, give, whole, rise_in}
+use Rattle.wire_spec.specs.Sites.{node_after, node_answer}
+use Rattle.bus_lines.specs.Edges.{put_in, get_in, enter_in}
 
 abbrev pub NoStop : Event → Type 0
 NoStop (event.Start reading) = Unit {0}
@@ -105,7 +97,8 @@ module _ {K : Type 0} (key : Site NodeState → K)
   seen_key Tick nostop b = refl
   seen_key Finish nostop b = absurd nostop
   seen_key Leave nostop b = refl
-  seen_key (Other byte) nostop b = either_key (is_named byte b.site) b (named node_table b.site byte) (key b.site) refl (named_key b.site byte)
+  seen_key (Other byte) nostop b = either_key (is_named byte b.site) b (named node_table b.site byte) (key b.site) refl
+      (named_key b.site byte)
   seen_key (Address byte) nostop b = named_key b.site byte
   seen_key (Put byte) nostop b = put_key byte b b.mode
   seen_key (Get ack) nostop b = get_key ack b b.mode
@@ -196,11 +189,13 @@ joins_either xs ys same None = refl
 joins_either xs ys same (Some p) = ap (λ b. p.wired && b) (all_open xs ys same p.above)
 
 -- where no channel has opened or closed, the same are joined
-pub joins_kept : (ps : List PlaceView) (xs ys : List NodeState) → map doors xs ≡ map doors ys → (k : ℕ) → joins_by ps xs k ≡ joins_by ps ys k
+pub joins_kept : (ps : List PlaceView) (xs ys : List NodeState) → map doors xs ≡ map doors ys → (k : ℕ)
+    → joins_by ps xs k ≡ joins_by ps ys k
 joins_kept ps xs ys same k = joins_either xs ys same (slice_get ps k)
 
 -- ---- all targets
-pub kinds_rejoin : (f : ℕ → Bool) (k : ℕ) (bs : List (Bit NodeState)) → map is_chip (states_on (rejoin_from f k bs)) ≡ map is_chip (states_on bs)
+pub kinds_rejoin : (f : ℕ → Bool) (k : ℕ) (bs : List (Bit NodeState)) → map is_chip (states_on (rejoin_from f k bs)) ≡ map is_chip
+    (states_on bs)
 kinds_rejoin f k [] = refl
 kinds_rejoin f k (b ∷ bs) = ap (λ ks. is_chip b.site.state ∷ ks) (kinds_rejoin f (k + 1) bs)
 
@@ -208,7 +203,8 @@ level_kind : (x : NodeState) (level : ℕ) → is_chip (node_level x level) ≡ 
 level_kind (Chip x) level = refl
 level_kind (Device x) level = refl
 
-pub kinds_level : (m level : ℕ) (bs : List (Bit NodeState)) → map is_chip (states_on (levelled_bits m level bs)) ≡ map is_chip (states_on bs)
+pub kinds_level : (m level : ℕ) (bs : List (Bit NodeState)) → map is_chip (states_on (levelled_bits m level bs)) ≡ map is_chip
+    (states_on bs)
 kinds_level m level [] = refl
 kinds_level zero level (b ∷ bs) = ap (λ k. k ∷ map is_chip (states_on bs)) (level_kind b.site.state level)
 kinds_level (suc m) level (b ∷ bs) = ap (λ ks. is_chip b.site.state ∷ ks) (kinds_level m level bs)

@@ -1,22 +1,12 @@
 -- Targets of which it isn't kept whether they are joined: once that is known of all, each is what it would be if it had been kept.
-use Rattle.std.proofs.Common.{◌≡◌, ℕ, zero, suc, ◌+◌, ◌<◌, ◌==◌, Bool, true, false, ◌&&◌, ◌||◌, cond, List, [], ◌∷◌, length, map, drop, set, get_or, Option, Some, None, refl, sym, ap, ◌∙◌, subst, inl, inr, arith, bit_and}
-use Rattle.std.specs.Prelude.{slice_get}
-use Rattle.std.specs.List.{list_all, list_any}
-use Rattle.std.specs.Option.{option_map_or}
-use Rattle.std.proofs.lemmas.Bool.Decides.{eqb_tells}
-use Rattle.std.proofs.lemmas.List.{drop_more}
-use Rattle.wire_spec.specs.Wires.{Bit}
-use Rattle.wire_spec.specs.Bus.{rejoin_from}
-use Rattle.wire_spec.specs.Sites.{NodeState}
-use Rattle.bus_lines.specs.Joins.{PlaceView, states_on, joins_by, read_anew}
-use Rattle.bus_lines.specs.Known.{known, knows, known_on, known_of, AreKnown}
-use Rattle.bus_lines.specs.Numbers.{is_among}
-use Rattle.bus_lines.specs.Units.{by_number, some_by, and_by, to_those, of_those, given_by}
+use Rattle.bus_lines.proofs.Cited.{◌≡◌, ℕ, zero, suc, ◌+◌, ◌<◌, ◌==◌, Bool, true, false, ◌&&◌, ◌||◌, cond, List, [], ◌∷◌, length, map, drop}
+use Rattle.bus_lines.proofs.Cited.{set, get_or, Option, Some, None, refl, sym, ap, ◌∙◌, subst, inl, inr, arith, bit_and, slice_get}
+use Rattle.bus_lines.proofs.Cited.{list_all, list_any, option_map_or, eqb_tells, drop_more, Bit, rejoin_from, NodeState, PlaceView}
+use Rattle.bus_lines.proofs.Cited.{states_on, joins_by, read_anew, known, knows, known_on, known_of, AreKnown, is_among, by_number, some_by}
+use Rattle.bus_lines.proofs.Cited.{and_by, to_those, of_those, given_by, or-true, eq_self}
 use Rattle.bus_lines.proofs.KindLemmas.{doors, joins_kept}
 use Rattle.bus_lines.proofs.NumberedLemmas.{numbered_same, numbered_twice, numbered_itself, at_number, set_number}
 use Rattle.bus_lines.proofs.StopLemmas.{rejoin_numbered}
-use mathlib.Core.Bool.{or-true}
-use Rattle.wire_spec.proofs.WorldLemmas.{eq_self}
 
 -- ---- one target
 pub known_same : (j : Bool) (b : Bit NodeState) → b.site.joined ≡ j → known j b ≡ b
@@ -26,7 +16,8 @@ known_same j b is = ap (λ i. known i b) (sym is)
 states_by : (f : ℕ → Bit NodeState → Bit NodeState) (k : ℕ) (bs : List (Bit NodeState))
     → ((i : ℕ) (b : Bit NodeState) → (f i b).site.state ≡ b.site.state) → states_on (by_number f k bs) ≡ states_on bs
 states_by f k [] same = refl
-states_by f k (b ∷ bs) same = ap (λ x. x ∷ states_on (by_number f (k + 1) bs)) (same k b) ∙ ap (λ xs. b.site.state ∷ xs) (states_by f (k + 1) bs same)
+states_by f k (b ∷ bs) same = ap (λ x. x ∷ states_on (by_number f (k + 1) bs)) (same k b) ∙ ap (λ xs. b.site.state ∷ xs)
+    (states_by f (k + 1) bs same)
 
 pub states_knows : (f : ℕ → Bool) (bs : List (Bit NodeState)) → states_on (knows f bs) ≡ states_on bs
 states_knows f bs = states_by (λ k b. known (f k) b) 0 bs (λ i b. refl)
@@ -90,7 +81,8 @@ module _ (ps : List PlaceView) where
       stays_known (is_among ns k) (f k) r.0 c r.2 (were k r.0 r.1 among) ∙ ap (λ xs. joins_by ps xs k) (sym (refreshed_states ns bs new is))
 
   -- ---- what is done to those of which it is kept
-  done_known : (t j i : Bool) (g : Bit NodeState → Bit NodeState) (b : Bit NodeState) → j ≡ i → ((c : Bit NodeState) → (g c).site.joined ≡ c.site.joined)
+  done_known : (t j i : Bool) (g : Bit NodeState → Bit NodeState) (b : Bit NodeState) → j ≡ i
+      → ((c : Bit NodeState) → (g c).site.joined ≡ c.site.joined)
       → (t ≡ true → b.site.joined ≡ j) → known i (cond t (g b) b) ≡ cond t (g (known j b)) (known j b)
   done_known true j i g b same keeps was =
       known_same i (g b) (keeps b ∙ was refl ∙ same) ∙ ap g (sym (known_same j b (was refl)))
@@ -115,7 +107,8 @@ module _ (ps : List PlaceView) where
   keeps_either true g b c is keeps = ap (λ (x : Bit NodeState). x.site.joined) (sym is) ∙ keeps b
   keeps_either false g b c is keeps = ap (λ (x : Bit NodeState). x.site.joined) (sym is)
 
-  pub told_keeps : (ms ns : List ℕ) (g : Bit NodeState → Bit NodeState) (bs new : List (Bit NodeState)) → new ≡ by_number (to_those ns g) 0 bs
+  pub told_keeps : (ms ns : List ℕ) (g : Bit NodeState → Bit NodeState) (bs new : List (Bit NodeState))
+      → new ≡ by_number (to_those ns g) 0 bs
       → ((c : Bit NodeState) → (g c).site.joined ≡ c.site.joined) → map doors (states_on new) ≡ map doors (states_on bs) → AreKnown ms ps bs
       → AreKnown ms ps new
   told_keeps ms ns g bs new is keeps doors were k c at among =
@@ -124,7 +117,8 @@ module _ (ps : List PlaceView) where
       ∙ sym (joins_kept ps (states_on new) (states_on bs) doors k)
 
   -- ---- what is asked of those of which it is kept
-  asked_either : (t j : Bool) (p : Bit NodeState → Bool) (b : Bit NodeState) → (t ≡ true → b.site.joined ≡ j) → (t && p b) ≡ (t && p (known j b))
+  asked_either : (t j : Bool) (p : Bit NodeState → Bool) (b : Bit NodeState) → (t ≡ true → b.site.joined ≡ j)
+      → (t && p b) ≡ (t && p (known j b))
   asked_either true j p b was = ap p (sym (known_same j b (was refl)))
   asked_either false j p b was = refl
 
@@ -147,7 +141,8 @@ module _ (ps : List PlaceView) where
       (λ i b at. let e : i ≡ 0 + i = omega arith in
       subst (λ n. is_among ns n ≡ true → b.site.joined ≡ joins_by ps (states_on bs) n) e (were i b at))
 
-  given_either : (t j : Bool) (q : Bit NodeState → ℕ) (b : Bit NodeState) → (t ≡ true → b.site.joined ≡ j) → cond t (q b) 255 ≡ cond t (q (known j b)) 255
+  given_either : (t j : Bool) (q : Bit NodeState → ℕ) (b : Bit NodeState) → (t ≡ true → b.site.joined ≡ j)
+      → cond t (q b) 255 ≡ cond t (q (known j b)) 255
   given_either true j q b was = ap q (sym (known_same j b (was refl)))
   given_either false j q b was = refl
 
@@ -172,7 +167,8 @@ module _ (ps : List PlaceView) where
 
 -- ---- one by its number
 get_knows : (f : ℕ → Bool) (k i : ℕ) (bs : List (Bit NodeState))
-    → slice_get (by_number (λ j b. known (f j) b) k bs) i ≡ option_map_or (λ (b : Bit NodeState). Some (known (f (k + i)) b)) (slice_get bs i) None
+    → slice_get (by_number (λ j b. known (f j) b) k bs) i ≡ option_map_or (λ (b : Bit NodeState). Some (known (f (k + i)) b))
+    (slice_get bs i) None
 get_knows f k i [] = refl
 get_knows f k zero (b ∷ bs) = let e : k ≡ k + 0 = omega arith in ap (λ n. Some (known (f n) b)) e
 get_knows f k (suc i) (b ∷ bs) =
@@ -203,16 +199,24 @@ module _ (test : Bit NodeState → Bool) where
   among_more n k ns among = rw among (or-true (k == n))
 
   pub all_known : (ps : List PlaceView) (bs : List (Bit NodeState)) (ns : List ℕ) → AreKnown ns ps bs
-      → list_all (λ k. option_map_or test (slice_get bs k) false) ns ≡ list_all (λ k. option_map_or test (slice_get (known_on ps bs) k) false) ns
+      → list_all (λ k. option_map_or test (slice_get bs k) false) ns ≡ list_all (λ k. option_map_or test
+      (slice_get (known_on ps bs) k) false) ns
   all_known ps bs [] were = refl
   all_known ps bs (n ∷ ns) were =
-      rw (test_known ps bs n (λ b at. were n b at (among_here n ns)), all_known ps bs ns (λ k b at among. were k b at (among_more n k ns among))) refl
+      rw (
+        test_known ps bs n (λ b at. were n b at (among_here n ns)),
+        all_known ps bs ns (λ k b at among. were k b at (among_more n k ns among)),
+      ) refl
 
   pub any_known : (ps : List PlaceView) (bs : List (Bit NodeState)) (ns : List ℕ) → AreKnown ns ps bs
-      → list_any (λ k. option_map_or test (slice_get bs k) false) ns ≡ list_any (λ k. option_map_or test (slice_get (known_on ps bs) k) false) ns
+      → list_any (λ k. option_map_or test (slice_get bs k) false) ns ≡ list_any (λ k. option_map_or test
+      (slice_get (known_on ps bs) k) false) ns
   any_known ps bs [] were = refl
   any_known ps bs (n ∷ ns) were =
-      rw (test_known ps bs n (λ b at. were n b at (among_here n ns)), any_known ps bs ns (λ k b at among. were k b at (among_more n k ns among))) refl
+      rw (
+        test_known ps bs n (λ b at. were n b at (among_here n ns)),
+        any_known ps bs ns (λ k b at among. were k b at (among_more n k ns among)),
+      ) refl
 
 -- ---- a stop: whether they were joined is read anew
 anew_known : (f g : ℕ → Bool) (bs : List (Bit NodeState)) → rejoin_from f 0 (knows g bs) ≡ rejoin_from f 0 bs
@@ -225,7 +229,8 @@ told_either : (t j i : Bool) (g : Bit NodeState → Bit NodeState) (b : Bit Node
 told_either true j i g b was = ap (λ c. known i (g c)) (sym (known_same j b (was refl)))
 told_either false j i g b was = refl
 
-pub told_knows : (ps : List PlaceView) (h : ℕ → Bool) (ns : List ℕ) (g : Bit NodeState → Bit NodeState) (bs : List (Bit NodeState)) → AreKnown ns ps bs
+pub told_knows : (ps : List PlaceView) (h : ℕ → Bool) (ns : List ℕ) (g : Bit NodeState → Bit NodeState) (bs : List (Bit NodeState))
+    → AreKnown ns ps bs
     → knows h (by_number (to_those ns g) 0 bs) ≡ knows h (by_number (to_those ns g) 0 (known_on ps bs))
 told_knows ps h ns g bs were =
     let f = joins_by ps (states_on bs) in
@@ -233,7 +238,8 @@ told_knows ps h ns g bs were =
     numbered_twice t (λ k b. known (h k) b) 0 bs
     ∙ numbered_same (λ k b. known (h k) (t k b)) (λ k b. known (h k) (t k (known (f k) b))) bs
     (λ k b at. told_either (is_among ns k) (f k) (h k) g b (λ among. were k b at among))
-    ∙ sym (ap (knows h) (numbered_twice (λ k b. known (f k) b) t 0 bs) ∙ numbered_twice (λ k b. t k (known (f k) b)) (λ k b. known (h k) b) 0 bs)
+    ∙ sym (ap (knows h) (numbered_twice (λ k b. known (f k) b) t 0 bs) ∙ numbered_twice (λ k b. t k (known (f k) b))
+    (λ k b. known (h k) b) 0 bs)
 
 pub told_states : (ps : List PlaceView) (ns : List ℕ) (g : Bit NodeState → Bit NodeState) (bs : List (Bit NodeState)) → AreKnown ns ps bs
     → states_on (by_number (to_those ns g) 0 bs) ≡ states_on (by_number (to_those ns g) 0 (known_on ps bs))
@@ -261,7 +267,8 @@ states_anew : (f : ℕ → Bool) (bs : List (Bit NodeState)) → states_on (rejo
 states_anew f bs = ap states_on (rejoin_numbered f 0 bs) ∙ states_by (λ k b. read_anew (f k) b) 0 bs (λ i b. refl)
 
 -- who was read anew is known
-pub anew_is_known : (ps : List PlaceView) (bs new : List (Bit NodeState)) → new ≡ rejoin_from (joins_by ps (states_on bs)) 0 bs → known_on ps new ≡ new
+pub anew_is_known : (ps : List PlaceView) (bs new : List (Bit NodeState)) → new ≡ rejoin_from (joins_by ps (states_on bs)) 0 bs
+    → known_on ps new ≡ new
 anew_is_known ps bs new is =
     let f = joins_by ps (states_on bs) in
     ap (known_on ps) is ∙ ap (λ ss. knows (joins_by ps ss) (rejoin_from f 0 bs)) (states_anew f bs)
@@ -282,7 +289,8 @@ known_deaf j b deaf = ap (λ h. record b { site = record b.site { joined = j; he
 pub knows_anew : (f : ℕ → Bool) (bs : List (Bit NodeState)) → ((k : ℕ) (b : Bit NodeState) → slice_get bs k ≡ Some b → b.site.heard ≡ false)
     → knows f bs ≡ rejoin_from f 0 bs
 knows_anew f bs deaf =
-    numbered_same (λ k b. known (f k) b) (λ k b. read_anew (f k) b) bs (λ k b at. known_deaf (f k) b (deaf k b at)) ∙ sym (rejoin_numbered f 0 bs)
+    numbered_same (λ k b. known (f k) b) (λ k b. read_anew (f k) b) bs (λ k b at. known_deaf (f k) b (deaf k b at))
+    ∙ sym (rejoin_numbered f 0 bs)
 
 -- ---- a loop over some numbers
 abbrev pub read_those : (ℕ → Bool) → List ℕ → List (Bit NodeState) → List (Bit NodeState)
@@ -303,7 +311,8 @@ each_read f (n ∷ ns) bs =
     ∙ numbered_same (λ k b. known_of ns f k (one k b)) (known_of (n ∷ ns) f) bs
     (λ k b at. read_twice (k == n) (is_among ns k) (f k) b)
 
-one_read : (f : ℕ → Bool) (n k : ℕ) (here : Bool) (b : Bit NodeState) → (k == n) ≡ here → cond here (known (f n) b) b ≡ cond here (known (f k) b) b
+one_read : (f : ℕ → Bool) (n k : ℕ) (here : Bool) (b : Bit NodeState) → (k == n) ≡ here → cond here (known (f n) b) b ≡ cond here
+    (known (f k) b) b
 one_read f n k true b at =
     let e : k ≡ n = elim (eqb_tells k n) [
       | inl y ↦ y.1
@@ -311,7 +320,8 @@ one_read f n k true b at =
     ] in ap (λ i. known (f i) b) (sym e)
 one_read f n k false b at = refl
 
-pub read_next : (f : ℕ → Bool) (ns : List ℕ) (i n : ℕ) → i < length ns → n ≡ get_or ns i 0 → (bs : List (Bit NodeState)) (d y : Bit NodeState)
+pub read_next : (f : ℕ → Bool) (ns : List ℕ) (i n : ℕ) → i < length ns → n ≡ get_or ns i 0 → (bs : List (Bit NodeState))
+    (d y : Bit NodeState)
     → n < length bs → y ≡ known (f n) (get_or bs n d)
     → read_those f (drop (i + 1) ns) (set bs n y) ≡ read_those f (drop i ns) bs
 read_next f ns i n lt at bs d y low is =

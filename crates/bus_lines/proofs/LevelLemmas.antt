@@ -1,9 +1,6 @@
 -- The line of a mux that is set, by its number.
-use Rattle.std.proofs.Common.{◌≡◌, ℕ, zero, suc, ◌<◌, ◌≤◌, List, [], ◌∷◌, length, set, get_or, refl, ap, arith}
-use Rattle.wire_spec.specs.Wires.{Bit}
-use Rattle.wire_spec.specs.Sites.{NodeState}
-use Rattle.i2c_bits.specs.Wiring.{levelled_bits}
-use Rattle.bus_lines.specs.Joins.{at_node_level}
+use Rattle.bus_lines.proofs.Cited.{◌≡◌, ℕ, zero, suc, ◌<◌, ◌≤◌, List, [], ◌∷◌, length, set, get_or, refl, ap, arith, Bit, NodeState}
+use Rattle.bus_lines.proofs.Cited.{levelled_bits, at_node_level}
 
 pub levelled_set : (m level : ℕ) (bs : List (Bit NodeState)) (d y : Bit NodeState) → m < length bs → y ≡ at_node_level level (get_or bs m d)
     → set bs m y ≡ levelled_bits m level bs

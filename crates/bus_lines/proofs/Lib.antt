@@ -39,3 +39,5 @@ pub mod OpenLemmas
 pub mod ApartLemmas
 -- That the lines may go to another thread.
 pub mod SendLemmas
+-- What the proofs of this crate cite from elsewhere.
+mod Cited

@@ -1,12 +1,10 @@
 -- What a pull, a look and a line come to, by the parts of the lines.
-use Rattle.std.proofs.Common.{◌≡◌, ℕ, Bool, true, false, cond, refl, sym, ap, ◌∙◌}
-use Rattle.wire_spec.specs.Wires.{tick}
-use Rattle.wire_spec.specs.Bus.{Bus, bus_of, edge, each, rises, scl_level, sda_level, pulled, looked, rejoined}
-use Rattle.wire_spec.specs.Sites.{NodeState, node_table, mask_of}
-use Rattle.i2c_bits.specs.Wiring.{Wire, wire_pulled, wire_looked, the_table, mask_at, levelled_bits, lined}
-use Rattle.i2c_bits.specs.Stands.{sites_of, world_at}
-use Rattle.bus_lines.specs.Aparts.{ApartView, apart_of, world_apart}
-use Rattle.bus_lines.specs.LinesViews.{TargetsView, LinesView, lines_of}
+use Rattle.bus_lines.proofs.Cited.{◌≡◌, ℕ, Bool, true, false, cond, refl, sym, ap, ◌∙◌, tick, Bus, bus_of, rejoined, NodeState, node_table}
+use Rattle.bus_lines.proofs.Cited.{mask_of, Wire, levelled_bits, world_at, ApartView, apart_of, world_apart, TargetsView, LinesView}
+use Rattle.bus_lines.proofs.Cited.{lines_of}
+use Rattle.wire_spec.specs.Bus.{edge, each, rises, scl_level, sda_level, pulled, looked}
+use Rattle.i2c_bits.specs.Wiring.{wire_pulled, wire_looked, the_table, mask_at, lined}
+use Rattle.i2c_bits.specs.Stands.{sites_of}
 
 module _ (t : TargetsView) (w v : Wire) (now new : LinesView) (view : lines_of t w ≡ now) where
   pub pull_is : (scl low clock level : Bool) → clock ≡ scl_level now.bus → level ≡ sda_level node_table now.bus → v ≡ wire_pulled w scl low
@@ -17,7 +15,8 @@ module _ (t : TargetsView) (w v : Wire) (now new : LinesView) (view : lines_of t
       ap (λ (l : LinesView). l.bus) is
       ∙ ap (λ (u : Wire). edge node_table (mask_of t.rooted.board t.rooted.root) clock level (lines_of t u).bus) wire
       ∙ ap (λ (c : Bool). edge node_table (mask_of t.rooted.board t.rooted.root) c level (bus_of scl low t.bits t.counts)) is_clock
-      ∙ ap (λ (d : Bool). edge node_table (mask_of t.rooted.board t.rooted.root) (scl_level now.bus) d (bus_of scl low t.bits t.counts)) is_data
+      ∙ ap (λ (d : Bool). edge node_table (mask_of t.rooted.board t.rooted.root) (scl_level now.bus) d
+      (bus_of scl low t.bits t.counts)) is_data
       ∙ ap (λ (l : LinesView). edge node_table (mask_of l.rooted.board l.rooted.root) (scl_level now.bus) (sda_level node_table now.bus)
       (bus_of scl low l.bus.targets l.bus.counts)) view
 
@@ -48,7 +47,8 @@ pub line_is : (t u : TargetsView) (w : Wire) (now : LinesView) → lines_of t w 
 unfolding lined mask_at
 line_is t u w now view m level is =
     ap (λ (x : TargetsView). (lines_of x w).bus) is
-    ∙ ap (λ (l : LinesView). bus_of l.bus.scl l.bus.sda (rejoined (mask_of l.rooted.board l.rooted.root) (levelled_bits m level l.bus.targets))
+    ∙ ap (λ (l : LinesView). bus_of l.bus.scl l.bus.sda (rejoined (mask_of l.rooted.board l.rooted.root)
+    (levelled_bits m level l.bus.targets))
     l.bus.counts) view
 
 -- the targets are the same world on the lines and off them

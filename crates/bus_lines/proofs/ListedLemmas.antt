@@ -1,19 +1,11 @@
 -- Numbers whose targets are joined, listed one after the other while it is read whether they are.
-use Rattle.std.proofs.Common.{◌≡◌, ℕ, zero, suc, ◌+◌, ◌<◌, ◌≤◌, ◌==◌, Bool, true, false, ◌&&◌, ◌||◌, List, [], ◌∷◌, length, take, get_or, Option, refl, sym, ap, ◌∙◌, arith}
-use Rattle.std.specs.Option.{option_map_or}
-use Rattle.std.proofs.lemmas.List.{take_more}
-use Rattle.i2c_base.proofs.ListLemmas.{there}
-use Rattle.wire_spec.specs.Wires.{Bit}
-use Rattle.wire_spec.specs.Sites.{NodeState}
-use Rattle.bus_lines.specs.Edges.{joined_at}
-use Rattle.bus_lines.specs.Joins.{PlaceView, states_on, joins_by}
-use Rattle.bus_lines.specs.Known.{known_of}
-use Rattle.bus_lines.specs.Numbers.{is_among, AreNumbers}
-use Rattle.bus_lines.specs.Units.{by_number}
+use Rattle.bus_lines.proofs.Cited.{◌≡◌, ℕ, zero, suc, ◌+◌, ◌<◌, ◌≤◌, ◌==◌, Bool, true, false, ◌&&◌, ◌||◌, List, [], ◌∷◌, length, take}
+use Rattle.bus_lines.proofs.Cited.{get_or, Option, refl, sym, ap, ◌∙◌, arith, option_map_or, take_more, there, Bit, NodeState, joined_at}
+use Rattle.bus_lines.proofs.Cited.{PlaceView, states_on, joins_by, known_of, is_among, AreNumbers, by_number, or-false}
 use Rattle.bus_lines.proofs.AddressLemmas.{same_of}
 use Rattle.bus_lines.proofs.KnownLemmas.{refreshed_those, refreshed_states}
 use Rattle.bus_lines.proofs.NumbersLemmas.{among_more}
-use mathlib.Core.Bool.{or-false, or_self}
+use mathlib.Core.Bool.{or_self}
 
 -- one more is listed where it is joined
 listed_either : (f : ℕ → Bool) (k n : ℕ) (a here : Bool) → (k == n) ≡ here → ((a && f k) || (here && f n)) ≡ ((a || here) && f k)

@@ -1,20 +1,16 @@
 -- Who is joined by the places of a board is who is joined by its mask.
-use Rattle.std.proofs.Common.{◌≡◌, ℕ, zero, suc, ◌+◌, ◌-◌, ◌<◌, ◌≤◌, ◌==◌, Bool, true, false, ◌&&◌, cond, List, [], ◌∷◌, ◌++◌, length, map, Some, refl, sym, ap, ◌∙◌, arith}
-use Rattle.std.specs.Prelude.{not, is_some, nat_lt, slice_get, replicate, if◌then◌else◌}
-use Rattle.std.specs.List.{list_all}
-use Rattle.std.specs.Option.{option_map_or}
-use Rattle.std.proofs.lemmas.List.{length-map, length-append, length-replicate}
-use Rattle.std.proofs.lemmas.Bool.Decides.{nat_tests}
-use Rattle.i2c_base.proofs.ListLemmas.{there, map_at, get_front}
-use Rattle.i2c_base.specs.declared.board.MuxSpec.{MuxSpec}
-use Rattle.i2c_base.specs.Board.{BoardView, DeviceView}
-use Rattle.i2c_spec.specs.Tree.{Hop, hops, root_of}
-use Rattle.i2c_spec.specs.Chips.{ChipView, is_open}
+use Rattle.bus_lines.proofs.Cited.{◌≡◌, ℕ, zero, suc, ◌+◌, ◌-◌, ◌<◌, ◌≤◌, ◌==◌, Bool, true, false, ◌&&◌, cond, List, [], ◌∷◌, ◌++◌, length}
+use Rattle.bus_lines.proofs.Cited.{map, Some, refl, sym, ap, ◌∙◌, arith, not, is_some, slice_get, replicate, if◌then◌else◌, list_all}
+use Rattle.bus_lines.proofs.Cited.{option_map_or, length-map, length-append, nat_tests, there, map_at, MuxSpec, BoardView, DeviceView, Hop}
+use Rattle.bus_lines.proofs.Cited.{root_of, ChipView, Site, Bit, rejoin_from, rejoined, NodeState, Chip, Device, chip_by, chips_in}
+use Rattle.bus_lines.proofs.Cited.{states_of, world_of, mask_of, mux_place, device_place, places_of, is_chip, kinds_of, states_on}
+use Rattle.bus_lines.proofs.Cited.{node_opens, opens_at, joins, joins_by, read_anew}
+use Rattle.std.specs.Prelude.{nat_lt}
+use Rattle.std.proofs.lemmas.List.{length-replicate}
+use Rattle.i2c_base.proofs.ListLemmas.{get_front}
+use Rattle.i2c_spec.specs.Tree.{hops}
+use Rattle.i2c_spec.specs.Chips.{is_open}
 use Rattle.i2c_spec.specs.World.{World, opens_hop, joins_chip, joins_device}
-use Rattle.wire_spec.specs.Wires.{Site, Bit}
-use Rattle.wire_spec.specs.Bus.{rejoin_from, rejoined}
-use Rattle.wire_spec.specs.Sites.{NodeState, Chip, Device, chip_by, chips_in, states_of, world_of, mask_of}
-use Rattle.bus_lines.specs.Joins.{mux_place, device_place, places_of, is_chip, kinds_of, states_on, node_opens, opens_at, joins, joins_by, read_anew}
 use mathlib.Core.Bool.{and_assoc}
 use Rattle.wire_spec.proofs.SiteLemmas.{all_same}
 
@@ -112,7 +108,8 @@ joins_mux w nodes m x is same =
     kept_where ((not x.absent && is_some x.addr) && (root_of w.board x.bus == w.root)) (opens_at nodes) (hops w.board x.bus)
     ∙ ap (λ t. ((not x.absent && is_some x.addr) && (root_of w.board x.bus == w.root)) && t)
     (all_same (opens_at nodes) (opens_hop w.chips) same (hops w.board x.bus))
-    ∙ rw is (and_assoc (not x.absent && is_some x.addr) (root_of w.board x.bus == w.root) (list_all (opens_hop w.chips) (hops w.board x.bus)))
+    ∙ rw is (and_assoc (not x.absent && is_some x.addr) (root_of w.board x.bus == w.root) (list_all (opens_hop w.chips)
+    (hops w.board x.bus)))
 
 joins_dev : (w : World) (nodes : List NodeState) (d : ℕ) (x : DeviceView) → slice_get w.board.devices d ≡ Some x
     → ((h : Hop) → opens_at nodes h ≡ opens_hop w.chips h) → joins nodes (device_place w.board w.root x) ≡ joins_device w d

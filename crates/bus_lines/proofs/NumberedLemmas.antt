@@ -1,17 +1,10 @@
 -- What is made of each of a list by its number, and what is done to those alone that have one of some numbers. The inductions go over
 -- the list, and over the numbers.
-use Rattle.std.proofs.Common.{◌≡◌, ℕ, zero, suc, ◌+◌, ◌<◌, ◌==◌, Bool, true, false, ◌&&◌, ◌||◌, cond, List, [], ◌∷◌, length, map, drop, set, get_or, Some, None, refl, sym, ap, ◌∙◌, subst, inl, inr, arith}
-use Rattle.std.specs.Prelude.{slice_get}
-use Rattle.std.specs.List.{IsDistinct, AllByRecursion}
-use Rattle.std.proofs.lemmas.Bool.{ne_eqb}
-use Rattle.std.proofs.lemmas.Bool.Decides.{eqb_tells}
-use Rattle.std.proofs.lemmas.List.{drop_more}
-use Rattle.wire_spec.specs.Roots.{some_one}
-use Rattle.bus_lines.specs.Numbers.{is_among}
-use Rattle.bus_lines.specs.Units.{by_number, some_by, to_those, of_those}
-use Rattle.i2c_base.proofs.Booleans.{or_regroup}
-use mathlib.Core.Bool.{or-true}
-use Rattle.wire_spec.proofs.WorldLemmas.{eq_self}
+use Rattle.bus_lines.proofs.Cited.{◌≡◌, ℕ, zero, suc, ◌+◌, ◌<◌, ◌==◌, Bool, true, false, ◌&&◌, ◌||◌, cond, List, [], ◌∷◌, length, map, drop}
+use Rattle.bus_lines.proofs.Cited.{set, get_or, Some, None, refl, sym, ap, ◌∙◌, subst, inl, inr, arith, slice_get, AllByRecursion, ne_eqb}
+use Rattle.bus_lines.proofs.Cited.{eqb_tells, drop_more, some_one, is_among, by_number, some_by, to_those, of_those, or_regroup, or-true}
+use Rattle.bus_lines.proofs.Cited.{eq_self}
+use Rattle.std.specs.List.{IsDistinct}
 
 pub same_some : {A : Type 0} {x y : A} → Some x ≡ Some y → x ≡ y
 same_some e = cc
@@ -208,7 +201,8 @@ nobody_by p k (x ∷ xs) = nobody_by p (k + 1) xs
 -- whether it was so of one of some numbers, before each was told; and whether it is so, once each was told
 abbrev pub told_was : {A : Type 0} → (A → A) → (A → Bool) → Bool → List ℕ → List A → Bool
 told_was f q sofar [] xs = sofar
-told_was f q sofar (n ∷ ns) xs = told_was f q (some_by (λ j x. (j == n) && q x) 0 xs || sofar) ns (by_number (λ j x. cond (j == n) (f x) x) 0 xs)
+told_was f q sofar (n ∷ ns) xs = told_was f q (some_by (λ j x. (j == n) && q x) 0 xs || sofar) ns
+    (by_number (λ j x. cond (j == n) (f x) x) 0 xs)
 
 abbrev pub told_some : {A : Type 0} → (A → A) → (A → Bool) → Bool → List ℕ → List A → Bool
 told_some f p sofar ns xs = told_was f (λ x. p (f x)) sofar ns xs
@@ -330,7 +324,8 @@ among_at [] i lt = absurd (omega (arith, lt))
 among_at (n ∷ ns) zero lt = among_first n n ns refl
 among_at (n ∷ ns) (suc i) lt = rw (among_at ns i (omega (arith, lt))) (or-true (get_or ns i 0 == n))
 
-module _ {A : Type 0} (f : A → A) (ns : List ℕ) (i n : ℕ) (lt : i < length ns) (at : n ≡ get_or ns i 0) (xs : List A) (d y : A) (low : n < length xs)
+module _ {A : Type 0} (f : A → A) (ns : List ℕ) (i n : ℕ) (lt : i < length ns) (at : n ≡ get_or ns i 0) (xs : List A) (d y : A)
+    (low : n < length xs)
     (is : y ≡ f (get_or xs n d)) where
   pub told_next : told f (drop (i + 1) ns) (set xs n y) ≡ told f (drop i ns) xs
   told_next =

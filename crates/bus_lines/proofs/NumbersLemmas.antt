@@ -1,14 +1,10 @@
 -- Numbers of targets, each once: one more, and how many there can be.
-use Rattle.std.proofs.Common.{◌≡◌, ℕ, ◌==◌, ◌<◌, ◌≤◌, Bool, true, false, ◌||◌, List, [], ◌∷◌, ◌++◌, length, refl, sym, ap, ◌∙◌, subst, inl, inr, arith}
-use Rattle.std.specs.List.{IsDistinct, AllByRecursion}
-use Rattle.std.proofs.lemmas.Bool.Decides.{eqb_tells}
-use Rattle.std.proofs.lemmas.List.{length-append}
+use Rattle.bus_lines.proofs.Cited.{◌≡◌, ℕ, ◌==◌, ◌<◌, ◌≤◌, Bool, true, false, ◌||◌, List, [], ◌∷◌, ◌++◌, length, refl, sym, ap, ◌∙◌, subst}
+use Rattle.bus_lines.proofs.Cited.{inl, inr, arith, AllByRecursion, eqb_tells, length-append, is_among, AreNumbers, or_regroup, or_parts}
+use Rattle.bus_lines.proofs.Cited.{or-false}
+use Rattle.std.specs.List.{IsDistinct}
 use Rattle.std.proofs.lemmas.Map.Steps.{length-le_from_distinct_below}
-use Rattle.bus_lines.specs.Numbers.{is_among, AreNumbers}
 use Rattle.bus_lines.proofs.AddressLemmas.{same_of}
-use Rattle.i2c_base.proofs.Booleans.{or_regroup}
-use Rattle.std.proofs.lemmas.Bool.{or_parts}
-use mathlib.Core.Bool.{or-false}
 
 pub no_numbers : (room : ℕ) (ns : List ℕ) → ns ≡ [] → AreNumbers room ns
 unfolding IsDistinct

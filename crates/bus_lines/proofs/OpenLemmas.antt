@@ -1,27 +1,20 @@
 -- The targets of a root as its board is opened.
-use Rattle.std.proofs.Common.{◌≡◌, ℕ, suc, Bool, false, List, [], ◌∷◌, ◌++◌, map, refl, sym, ap, ◌∙◌, subst, arith}
-use Rattle.i2c_base.specs.declared.board.MuxSpec.{MuxSpec}
-use Rattle.i2c_base.specs.Board.{BoardView, DeviceView}
-use Rattle.std.specs.List.{All, AllByRecursion}
-use Rattle.i2c_spec.specs.Chips.{ChipView}
-use Rattle.i2c_spec.specs.Plain.{IsPlainBoard, IsPlainDevice}
-use Rattle.i2c_spec.specs.Targets.{TargetState, HoldsBytes}
+use Rattle.bus_lines.proofs.Cited.{◌≡◌, ℕ, suc, Bool, false, List, [], ◌∷◌, ◌++◌, map, refl, sym, ap, ◌∙◌, subst, arith, MuxSpec, BoardView}
+use Rattle.bus_lines.proofs.Cited.{DeviceView, AllByRecursion, ChipView, IsPlainBoard, TargetState, Out, Site, Bit, at, Counts, Bus, bus_of}
+use Rattle.bus_lines.proofs.Cited.{rejoined, free, NodeState, Device, site_with, both, mask_of, PartsOfBoth, Rooted, Wire, TargetsView}
+use Rattle.bus_lines.proofs.Cited.{LinesView, lines_of, chips_on, world_at, chip_bit, device_bit, bits_of}
+use Rattle.std.specs.List.{All}
+use Rattle.i2c_spec.specs.Plain.{IsPlainDevice}
+use Rattle.i2c_spec.specs.Targets.{HoldsBytes}
 use Rattle.i2c_spec.specs.World.{opening_world}
 use Rattle.i2c_spec.proofs.StateLemmas.{opening-bytes}
-use Rattle.wire_spec.specs.declared.mode.Mode.TheVariants.{Out}
-use Rattle.wire_spec.specs.Wires.{Site, Bit}
-use Rattle.wire_spec.specs.Roots.{at}
-use Rattle.wire_spec.specs.Bus.{Counts, Bus, bus_of, rejoined}
-use Rattle.wire_spec.specs.Calls.{free}
-use Rattle.wire_spec.specs.Sites.{NodeState, Device, site_with, both, chip_site, device_site, opened_chips, opened_devices, mask_of}
-use Rattle.wire_spec.specs.WorldLaws.{PartsOfBoth, OpenedSites}
+use Rattle.wire_spec.specs.Sites.{chip_site, device_site, opened_chips, opened_devices}
+use Rattle.wire_spec.specs.WorldLaws.{OpenedSites}
 use Rattle.wire_spec.proofs.SiteLemmas.{rejoin_both}
-use Rattle.i2c_bits.specs.Wiring.{Rooted, Wire}
-use Rattle.bus_lines.specs.LinesViews.{TargetsView, LinesView, lines_of}
-use Rattle.i2c_bits.specs.Stands.{IsFree, chips_on, world_at}
+use Rattle.i2c_bits.specs.Stands.{IsFree}
 use Rattle.i2c_bits.proofs.Stops.{all_joined, rejoined_out}
 use Rattle.i2c_bits.proofs.Told.{On, on_lines, world_on, told_on}
-use Rattle.bus_lines.specs.Opens.{chip_bit, device_bit, bits_of, opened_targets}
+use Rattle.bus_lines.specs.Opens.{opened_targets}
 
 -- ---- the lines are free
 device_bits : (ds : List DeviceView) → map device_bit ds ≡ map (at Out) (map (site_with Device) (map device_site ds))
@@ -33,11 +26,13 @@ all_bits : (ms : List MuxSpec) (ds : List DeviceView)
 all_bits [] ds = device_bits ds
 all_bits (m ∷ ms) ds = ap (λ bs. chip_bit m ∷ bs) (all_bits ms ds)
 
-all_opened : (ds : List DeviceView) → All IsPlainDevice ds → AllByRecursion (λ (s : Site TargetState). HoldsBytes s.state) (map device_site ds)
+all_opened : (ds : List DeviceView) → All IsPlainDevice ds → AllByRecursion (λ (s : Site TargetState). HoldsBytes s.state)
+    (map device_site ds)
 all_opened [] all = tt
 all_opened (d ∷ ds) all = (opening-bytes d (all 0 d (omega arith)), all_opened ds (λ i x lt. all (suc i) x (omega (arith, lt))))
 
-module _ (b : BoardView) (r : ℕ) (plain : IsPlainBoard b) (parts : (cs : List (Site ChipView)) (ds : List (Site TargetState)) → PartsOfBoth cs ds)
+module _ (b : BoardView) (r : ℕ) (plain : IsPlainBoard b) (parts : (cs : List (Site ChipView)) (ds : List (Site TargetState))
+    → PartsOfBoth cs ds)
     (opened : OpenedSites b r) where
   abbrev k : Rooted
   k = record { board = b; root = r }
@@ -77,7 +72,8 @@ module _ (b : BoardView) (r : ℕ) (plain : IsPlainBoard b) (parts : (cs : List 
     nobody = ap (λ v. v.hearing) opened_world;
   }
 
-  module _ (t : TargetsView) (u v : Wire) (targets : t ≡ opened_targets b r) (wire : u ≡ v) (scl : v.scl ≡ false) (sda : v.sda ≡ false) where
+  module _ (t : TargetsView) (u v : Wire) (targets : t ≡ opened_targets b r) (wire : u ≡ v) (scl : v.scl ≡ false)
+      (sda : v.sda ≡ false) where
     same : lines_of t u ≡ record { rooted = k; bus = w; wire = v }
     same =
         ap (λ (x : TargetsView). lines_of x u) targets

@@ -1,25 +1,17 @@
 -- A byte that is put, all nine clocks at once: what it is to each target, to all of them, and on the lines.
-use Rattle.std.proofs.Common.{◌≡◌, ℕ, zero, suc, ◌<◌, Bool, true, false, ◌&&◌, List, [], ◌∷◌, map, refl, sym, ap, ◌∙◌, arith}
-use Rattle.std.specs.Prelude.{not}
-use Rattle.wire_spec.specs.declared.mode.Mode.{Mode}
-use Rattle.wire_spec.specs.declared.mode.Mode.TheVariants.{Out, In, Answered, Give, Gave}
-use Rattle.wire_spec.specs.Wires.{Site, Bit, site_of, stands, shifted}
-use Rattle.wire_spec.specs.Roots.{where_joined, some_one, at, put_site, acks}
-use Rattle.wire_spec.specs.Bus.{Bus, bus_of, came_up, holds_line}
-use Rattle.wire_spec.specs.Calls.{released, more_edges, within, sent_byte}
+use Rattle.bus_lines.proofs.Cited.{◌≡◌, ℕ, zero, suc, ◌<◌, Bool, true, false, ◌&&◌, List, [], ◌∷◌, map, refl, sym, ap, ◌∙◌, arith, not}
+use Rattle.bus_lines.proofs.Cited.{Mode, Out, In, Answered, Give, Gave, Site, Bit, site_of, stands, shifted, where_joined, some_one, at}
+use Rattle.bus_lines.proofs.Cited.{Bus, bus_of, came_up, holds_line, released, more_edges, within, sent_byte, NodeState, node_table, both}
+use Rattle.bus_lines.proofs.Cited.{Wire, mask_at, StandsIn, chips_on, devices_on, Put, seen, acks_put, PlaceView, states_on, joins_by}
+use Rattle.bus_lines.proofs.Cited.{TargetsView, LinesView, lines_of, wire_nine, by_number, some_by, to_those, of_those, shared, AreUnits}
+use Rattle.bus_lines.proofs.Cited.{and-false}
+use Rattle.wire_spec.specs.Roots.{put_site, acks}
 use Rattle.wire_spec.specs.Laws.{PutsAreEvents}
-use Rattle.wire_spec.specs.Sites.{NodeState, node_table, both}
-use Rattle.i2c_bits.specs.Wiring.{Wire, the_table, mask_at}
-use Rattle.i2c_bits.specs.Stands.{StandsIn, chips_on, devices_on}
-use Rattle.bus_lines.specs.declared.edges.Edge.TheVariants.{Put}
-use Rattle.bus_lines.specs.Edges.{seen, acks_in, acks_put}
-use Rattle.bus_lines.specs.Joins.{PlaceView, states_on, joins_by}
-use Rattle.bus_lines.specs.LinesViews.{TargetsView, LinesView, lines_of, wire_nine}
-use Rattle.bus_lines.specs.Units.{by_number, some_by, to_those, of_those, shared, AreUnits}
+use Rattle.i2c_bits.specs.Wiring.{the_table}
+use Rattle.bus_lines.specs.Edges.{acks_in}
 use Rattle.bus_lines.proofs.NumberedLemmas.{some_of_those}
 use Rattle.bus_lines.proofs.AddressLemmas.{seen_each, some_mapped}
 use Rattle.bus_lines.proofs.TargetsLemmas.{seen_alone, all_told, told_holds}
-use mathlib.Core.Bool.{and-false}
 
 -- ---- one target
 holds_so : (byte : ℕ) (a : ℕ) (j h : Bool) (x : NodeState) (m : Mode) (k : ℕ)
@@ -63,7 +55,8 @@ acks_coming (suc n) v byte bs some =
     (λ b. shared_acks_so n v byte b.site.addr b.site.joined b.site.heard b.site.state b.mode b.hold)
 
 -- ---- all of them: who held before does so still
-pub some_kept : (p : Bit NodeState → Bool) (g : Bit NodeState → Bit NodeState) (bs : List (Bit NodeState)) → ((b : Bit NodeState) → p (g b) ≡ p b)
+pub some_kept : (p : Bit NodeState → Bool) (g : Bit NodeState → Bit NodeState) (bs : List (Bit NodeState))
+    → ((b : Bit NodeState) → p (g b) ≡ p b)
     → some_one p (map g bs) ≡ some_one p bs
 some_kept p g [] same = refl
 some_kept p g (b ∷ bs) same = rw (same b, some_kept p g bs same) refl
@@ -93,7 +86,8 @@ put_at byte a true true x = refl
 put_at byte a true false x = refl
 put_at byte a false h x = refl
 
-acks_at : (byte : ℕ) (a : ℕ) (j h : Bool) (x : NodeState) → acks_put byte (at (In false 8 0) (site_of a j h x)) ≡ acks node_table byte (site_of a j h x)
+acks_at : (byte : ℕ) (a : ℕ) (j h : Bool) (x : NodeState) → acks_put byte (at (In false 8 0) (site_of a j h x)) ≡ acks node_table byte
+    (site_of a j h x)
 acks_at byte a true true x = refl
 acks_at byte a true false x = refl
 acks_at byte a false h x = refl
@@ -103,14 +97,16 @@ puts_at : (byte : ℕ) (ss : List (Site NodeState))
 puts_at byte [] = refl
 puts_at byte (s ∷ ss) = rw (put_at byte s.addr s.joined s.heard s.state, puts_at byte ss) refl
 
-some_acks_at : (byte : ℕ) (ss : List (Site NodeState)) → some_one (acks_put byte) (map (at (In false 8 0)) ss) ≡ some_one (acks node_table byte) ss
+some_acks_at : (byte : ℕ) (ss : List (Site NodeState)) → some_one (acks_put byte) (map (at (In false 8 0)) ss) ≡ some_one
+    (acks node_table byte) ss
 some_acks_at byte [] = refl
 some_acks_at byte (s ∷ ss) = rw (acks_at byte s.addr s.joined s.heard s.state, some_acks_at byte ss) refl
 
 -- ---- on the lines it is what its nine clocks come to
 pub send_is : PutsAreEvents node_table → (t u : TargetsView) (w v : Wire) (now : LinesView) → lines_of t w ≡ now → (byte : ℕ) → byte < 256
     → StandsIn now.rooted (In false 8 0) now.bus → (acked : Bool) → acked ≡ some_one (acks_put byte) t.bits
-    → u ≡ record t { bits = map (where_joined (seen (Put byte))) t.bits; counts = more_edges 9 t.counts } → (level : Bool) → v ≡ wire_nine w false level
+    → u ≡ record t { bits = map (where_joined (seen (Put byte))) t.bits; counts = more_edges 9 t.counts } → (level : Bool)
+    → v ≡ wire_nine w false level
     → came_up (shifted 0 (not acked)) (bus_of v.scl v.sda u.bits u.counts) ≡ sent_byte the_table (mask_at now.rooted) byte now.bus
 unfolding the_table
 send_is law t u w v now view byte lt stands acked answer is level wire =
@@ -126,4 +122,5 @@ send_is law t u w v now view byte lt stands acked answer is level wire =
     ∙ ap (λ bs. came_up (shifted 0 (not acked)) (bus_of true false bs u.counts)) leaves
     ∙ ap (λ c. came_up (shifted 0 (not acked)) (within m false (map (put_site node_table byte) ss) c)) counts
     ∙ ap (λ a. came_up (shifted 0 (not a)) (within m false (map (put_site node_table byte) ss) (more_edges 9 now.bus.counts))) says
-    ∙ sym (ap (sent_byte node_table (mask_at now.rooted) byte) stands.lines ∙ law (mask_at now.rooted) byte lt now.bus.sda ss now.bus.counts)
+    ∙ sym (ap (sent_byte node_table (mask_at now.rooted) byte) stands.lines
+    ∙ law (mask_at now.rooted) byte lt now.bus.sda ss now.bus.counts)

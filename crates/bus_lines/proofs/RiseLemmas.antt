@@ -1,24 +1,12 @@
 -- Who holds SCL, as the targets are seen. Nobody begins to hold it at a rise.
-use Rattle.std.proofs.Common.{◌≡◌, ℕ, zero, suc, Bool, true, false, ◌&&◌, List, [], ◌∷◌, map, refl, sym, ap, ◌∙◌}
-use Rattle.wire_spec.specs.declared.mode.Mode.{Mode}
-use Rattle.wire_spec.specs.declared.mode.Mode.TheVariants.{Out, In, Answered, Give, Gave}
-use Rattle.i2c_base.specs.Board.{BoardView}
-use Rattle.i2c_bits.specs.Wiring.{Rooted}
-use Rattle.wire_spec.specs.Wires.{Bit, site_of, stands, shifted, holds}
-use Rattle.wire_spec.specs.Roots.{where_joined, some_one}
-use Rattle.wire_spec.specs.Bus.{holds_line}
-use Rattle.wire_spec.specs.Sites.{NodeState}
-use Rattle.bus_lines.specs.declared.edges.Edge.TheVariants.{Rise}
-use Rattle.bus_lines.specs.Away.{whole_on}
-use Rattle.bus_lines.specs.Edges.{seen}
-use Rattle.bus_lines.specs.Joins.{PlaceView, states_on, joins_by}
-use Rattle.bus_lines.specs.LinesViews.{AreTargets}
-use Rattle.bus_lines.specs.Numbers.{NumbersView}
-use Rattle.bus_lines.specs.Units.{RegisterView, by_number, some_by, to_those, of_those, shared, AreUnits}
+use Rattle.bus_lines.proofs.Cited.{◌≡◌, ℕ, zero, suc, Bool, true, false, ◌&&◌, List, [], ◌∷◌, map, refl, sym, ap, ◌∙◌, Mode, Out, In}
+use Rattle.bus_lines.proofs.Cited.{Answered, Give, Gave, BoardView, Rooted, Bit, site_of, stands, shifted, where_joined, some_one}
+use Rattle.bus_lines.proofs.Cited.{holds_line, NodeState, Rise, whole_on, seen, PlaceView, states_on, joins_by, AreTargets, NumbersView}
+use Rattle.bus_lines.proofs.Cited.{RegisterView, by_number, some_by, to_those, of_those, shared, AreUnits, or_parts}
+use Rattle.wire_spec.specs.Wires.{holds}
 use Rattle.bus_lines.proofs.AwayLemmas.{units_away, whole_some}
 use Rattle.bus_lines.proofs.TargetsLemmas.{seen_alone, all_told, told_holds}
 use Rattle.bus_lines.proofs.UnitLemmas.{address_holds}
-use Rattle.std.proofs.lemmas.Bool.{or_parts}
 
 -- ---- who holds SCL
 nobody : (b : Bit NodeState) → b.site.joined ≡ false → holds_line b ≡ false

@@ -45,7 +45,17 @@ wire-send = search (crosses, sendable) depth 20
 
 targets-send : IsSend (RootTargets.the_field).row
 targets-send =
-    search (crosses, sendable, target-send, node-send, place-send, index-send, numbers-send, register-send, counter-send) depth 40 fits 100000
+    search (
+      crosses,
+      sendable,
+      target-send,
+      node-send,
+      place-send,
+      index-send,
+      numbers-send,
+      register-send,
+      counter-send,
+    ) depth 40 fits 100000
 
 pub lines-send : IsSend (BusLines.the_field).row
 lines-send = search (crosses, sendable, targets-send, wire-send) depth 20

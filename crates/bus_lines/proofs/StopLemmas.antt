@@ -1,31 +1,18 @@
 -- All targets at a stop, with who is joined read anew, where a line is set, and as they are opened.
-use Rattle.std.proofs.Common.{◌≡◌, ℕ, zero, suc, ◌+◌, ◌==◌, ◌<◌, Bool, true, false, ◌||◌, cond, List, [], ◌∷◌, length, map, get_or, Option, Some, None, refl, sym, ap, ◌∙◌, subst, ◌⊎◌, inl, inr, arith}
-use Rattle.std.specs.Prelude.{not, slice_get, if◌then◌else◌}
-use Rattle.std.specs.List.{list_all, list_any}
-use Rattle.std.specs.Option.{option_map_or}
+use Rattle.bus_lines.proofs.Cited.{◌≡◌, ℕ, zero, suc, ◌+◌, ◌==◌, ◌<◌, Bool, true, false, ◌||◌, cond, List, [], ◌∷◌, length, map, get_or}
+use Rattle.bus_lines.proofs.Cited.{Option, Some, None, refl, sym, ap, ◌∙◌, subst, ◌⊎◌, inl, inr, arith, not, slice_get, if◌then◌else◌}
+use Rattle.bus_lines.proofs.Cited.{list_all, list_any, option_map_or, map_from, facts_of, ChipView, IsQuiet, IsFairTable, In, Bit, stands}
+use Rattle.bus_lines.proofs.Cited.{finish, where_joined, some_one, rejoin_from, released, NodeState, Chip, Device, NO_ADDRESS, node_table}
+use Rattle.bus_lines.proofs.Cited.{node_level, levelled_bits, Finish, seen, joined_at, PlaceView, is_chip, states_on, joins_by, read_anew}
+use Rattle.bus_lines.proofs.Cited.{at_node_level, is_among, by_number, to_those, shared, IsCalm, IsUnit, AreUnits, or_parts}
 use Rattle.std.proofs.lemmas.Option.{slice_get_within}
-use Rattle.i2c_base.proofs.ListLemmas.{map_from}
-use Rattle.i2c_base.specs.Muxes.{facts_of}
-use Rattle.i2c_spec.specs.Chips.{ChipView, at_level, chip_stopped, arbitrated, is_free, kept_bits, bit_of}
-use Rattle.i2c_spec.specs.Targets.{IsQuiet, IsFairTable}
-use Rattle.wire_spec.specs.declared.mode.Mode.TheVariants.{In}
-use Rattle.wire_spec.specs.Wires.{Bit, stands, finish}
-use Rattle.wire_spec.specs.Roots.{where_joined, some_one}
-use Rattle.wire_spec.specs.Bus.{rejoin_from}
-use Rattle.wire_spec.specs.Calls.{released}
-use Rattle.wire_spec.specs.Sites.{NodeState, Chip, Device, NO_ADDRESS, node_table}
-use Rattle.i2c_bits.specs.Wiring.{node_level, levelled_bits}
-use Rattle.bus_lines.specs.declared.edges.Edge.TheVariants.{Finish}
-use Rattle.bus_lines.specs.Edges.{seen, joined_at}
-use Rattle.bus_lines.specs.Joins.{PlaceView, is_chip, states_on, joins_by, read_anew, at_node_level}
-use Rattle.bus_lines.specs.Numbers.{is_among}
-use Rattle.bus_lines.specs.Units.{by_number, to_those, shared, IsCalm, IsUnit, AreUnits}
+use Rattle.i2c_spec.specs.Chips.{at_level, chip_stopped, arbitrated, is_free, kept_bits, bit_of}
 use Rattle.bus_lines.proofs.KindLemmas.{finish_kind, states_numbered}
 use Rattle.bus_lines.proofs.NumberedLemmas.{map_itself, at_number, some_none}
 use Rattle.bus_lines.proofs.UnitLemmas.{done_all, calm_stops, shared_finishes}
 use Rattle.bus_lines.proofs.TargetsLemmas.{stays_out, stays_calm}
 use Rattle.bus_lines.proofs.AddressLemmas.{seen_numbered, all_have, joined_here, cleared, same_of}
-use Rattle.std.proofs.lemmas.Bool.{or_parts, or_right, or_left}
+use Rattle.std.proofs.lemmas.Bool.{or_right, or_left}
 
 -- ---- who is joined is read anew
 -- a target of which it isn't known whether it is joined
@@ -131,7 +118,8 @@ module _ {A : Type 0} (p : A → Bool) (xs : List A) where
     pub any_of_those : list_any p_at ns ≡ some_one p xs
     any_of_those = any_either (list_any p_at ns) refl
 
-module _ (fair : IsFairTable node_table) (left v : ℕ) (live started : List ℕ) (at : List (List ℕ)) (ps : List PlaceView) (bs : List (Bit NodeState))
+module _ (fair : IsFairTable node_table) (left v : ℕ) (live started : List ℕ) (at : List (List ℕ)) (ps : List PlaceView)
+    (bs : List (Bit NodeState))
     (units : AreUnits left live started at (joins_by ps (states_on bs)) bs) where
   abbrev stop_to : ℕ → Bit NodeState → Bit NodeState
   stop_to = to_those started (where_joined (seen Finish))
@@ -261,7 +249,8 @@ shared_nothing zero v b none = refl
 shared_nothing (suc n) v b none = absurd (omega (arith, none))
 
 -- each has what has come of an address byte, and who may be in the message is on the lists
-pub spread_loose : (left v : ℕ) (live started live_new started_new : List ℕ) (at : List (List ℕ)) (joins : ℕ → Bool) (bs : List (Bit NodeState))
+pub spread_loose : (left v : ℕ) (live started live_new started_new : List ℕ) (at : List (List ℕ)) (joins : ℕ → Bool)
+    (bs : List (Bit NodeState))
     → AreUnits left live started at joins bs
     → ((k : ℕ) → k < length bs → is_among live_new k ≡ false → (left ≡ 0) × (is_among live k ≡ false))
     → ((k : ℕ) → k < length bs → is_among started_new k ≡ false → (left ≡ 0) × (is_among started k ≡ false))

@@ -1,17 +1,8 @@
 -- All targets: each stays as the lists of numbers say, and as it is seen, whatever is told to those that the lists name.
-use Rattle.std.proofs.Common.{◌≡◌, ℕ, zero, suc, ◌==◌, Bool, true, false, cond, List, map, Some, refl, sym, ap, ◌∙◌, subst, arith}
-use Rattle.std.specs.Prelude.{slice_get}
-use Rattle.wire_spec.specs.Wires.{Bit}
-use Rattle.wire_spec.specs.Roots.{where_joined, some_one}
-use Rattle.wire_spec.specs.Bus.{holds_line}
-use Rattle.wire_spec.specs.Calls.{released}
-use Rattle.wire_spec.specs.Sites.{NodeState}
-use Rattle.bus_lines.specs.declared.edges.Edge.{Edge}
-use Rattle.bus_lines.specs.declared.edges.Edge.TheVariants.{Rise, Fall, Tick, Finish, Leave, Other, Address, Put, Get, Enter}
-use Rattle.bus_lines.specs.Edges.{seen}
-use Rattle.bus_lines.specs.Joins.{PlaceView, states_on, joins_by}
-use Rattle.bus_lines.specs.Numbers.{is_among}
-use Rattle.bus_lines.specs.Units.{by_number, some_by, to_those, of_those, shared, IsCalm, IsUnit, AreUnits}
+use Rattle.bus_lines.proofs.Cited.{◌≡◌, ℕ, zero, suc, ◌==◌, Bool, true, false, cond, List, map, Some, refl, sym, ap, ◌∙◌, subst, arith}
+use Rattle.bus_lines.proofs.Cited.{slice_get, Bit, where_joined, some_one, holds_line, released, NodeState, Edge, Rise, Fall, Tick, Finish}
+use Rattle.bus_lines.proofs.Cited.{Leave, Other, Address, Put, Get, Enter, seen, PlaceView, states_on, joins_by, is_among, by_number}
+use Rattle.bus_lines.proofs.Cited.{some_by, to_those, of_those, shared, IsCalm, IsUnit, AreUnits}
 use Rattle.bus_lines.proofs.KindLemmas.{NoFinish, addr_kept, joined_kept, doors, doors_kept, states_numbered, joins_kept}
 use Rattle.bus_lines.proofs.NumberedLemmas.{map_numbered, map_itself, at_number, some_of_those}
 use Rattle.bus_lines.proofs.UnitLemmas.{done_all, done_none, IsWithin, out_sees, holds_none}
@@ -68,7 +59,8 @@ pub stays_calm : (b c : Bit NodeState) → c ≡ b → IsCalm b → IsCalm c
 stays_calm b c same calm = subst IsCalm (sym same) calm
 
 -- ---- an edge within a message, where no address comes in
-module _ (e : Edge) (within : IsWithin e) (left : ℕ) (live started : List ℕ) (at : List (List ℕ)) (ps : List PlaceView) (bs : List (Bit NodeState))
+module _ (e : Edge) (within : IsWithin e) (left : ℕ) (live started : List ℕ) (at : List (List ℕ)) (ps : List PlaceView)
+    (bs : List (Bit NodeState))
     (none : left ≡ 0) (units : AreUnits left live started at (joins_by ps (states_on bs)) bs) where
   abbrev told_to : ℕ → Bit NodeState → Bit NodeState
   told_to = to_those live (where_joined (seen e))
@@ -114,7 +106,8 @@ module _ (e : Edge) (within : IsWithin e) (left : ℕ) (live started : List ℕ)
 
   pub told_units : AreUnits left live started at (joins_by ps (states_on (by_number told_to 0 bs))) (by_number told_to 0 bs)
   told_units =
-      touched_all left left live started live started at (joins_by ps (states_on bs)) (joins_by ps (states_on (by_number told_to 0 bs))) told_to bs
+      touched_all left left live started live started at (joins_by ps (states_on bs)) (joins_by ps
+      (states_on (by_number told_to 0 bs))) told_to bs
       (joins_kept ps (states_on (by_number told_to 0 bs)) (states_on bs) told_doors) units
       (λ k b is u. told_touched k b u)
 

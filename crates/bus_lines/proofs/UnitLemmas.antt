@@ -1,19 +1,9 @@
 -- One target: what an edge is to it as it is seen, and as it is kept. It is told only where it has to be.
-use Rattle.std.proofs.Common.{◌≡◌, ℕ, zero, suc, Bool, true, false, cond, refl, sym, ap, ◌∙◌, arith}
-use Rattle.i2c_spec.specs.Targets.{IsQuiet}
-use Rattle.wire_spec.specs.declared.mode.Mode.{Mode}
-use Rattle.wire_spec.specs.declared.mode.Mode.TheVariants.{Out, In}
-use Rattle.wire_spec.specs.Wires.{Site, Bit, site_of, stands, shifted, rise, fall, tick, begin, finish, named, called, other, is_named, is_reading}
-use Rattle.wire_spec.specs.Roots.{where_joined, pulls_line}
-use Rattle.wire_spec.specs.Bus.{holds_line}
-use Rattle.wire_spec.specs.Calls.{released}
-use Rattle.wire_spec.specs.Sites.{NodeState, node_table}
+use Rattle.bus_lines.proofs.Cited.{◌≡◌, ℕ, zero, suc, Bool, true, false, cond, refl, sym, ap, ◌∙◌, arith, IsQuiet, Mode, Out, In, Site, Bit}
+use Rattle.bus_lines.proofs.Cited.{site_of, stands, shifted, rise, fall, tick, begin, finish, named, called, other, is_named, is_reading}
+use Rattle.bus_lines.proofs.Cited.{where_joined, pulls_line, holds_line, released, NodeState, node_table, Edge, Rise, Fall, Tick, Finish}
+use Rattle.bus_lines.proofs.Cited.{Leave, Other, Address, Put, Get, Enter, seen, shared, IsCalm, and-false}
 use Rattle.wire_spec.proofs.LiveLemmas.{out_rises, out_falls, out_ticks, out_pulls, out_holds, quiet_stop}
-use Rattle.bus_lines.specs.declared.edges.Edge.{Edge}
-use Rattle.bus_lines.specs.declared.edges.Edge.TheVariants.{Rise, Fall, Tick, Finish, Leave, Other, Address, Put, Get, Enter}
-use Rattle.bus_lines.specs.Edges.{seen}
-use Rattle.bus_lines.specs.Units.{shared, IsCalm}
-use mathlib.Core.Bool.{and-false}
 
 -- it is done where a test says so, and would do nothing elsewhere; or it does nothing
 pub done_all : {A : Type 0} (t : Bool) (f : A → A) (x : A) → (t ≡ false → f x ≡ x) → cond t (f x) x ≡ f x
@@ -73,7 +63,8 @@ calm_stops b calm =
 other_calm : (byte a : ℕ) (j : Bool) (x : NodeState) → is_named byte (site_of a j false x) ≡ false → IsQuiet node_table x
     → where_joined (seen (Address byte)) (released (site_of a j false x)) ≡ released (site_of a j false x)
 other_calm byte a true x names quiet =
-    ap (λ d. cond d (called node_table (site_of a true false x) (is_reading byte)) (stands (other node_table (site_of a true false x)) Out 0)) names
+    ap (λ d. cond d (called node_table (site_of a true false x) (is_reading byte))
+    (stands (other node_table (site_of a true false x)) Out 0)) names
     ∙ ap (λ z. released (site_of a true false z)) quiet.other
 other_calm byte a false x names quiet = refl
 
@@ -85,33 +76,40 @@ calm_other byte b names calm =
 
 -- ---- while an address comes in
 rises_so : (n v : ℕ) (level : Bool) (a : ℕ) (j h : Bool) (x : NodeState) (m : Mode) (k : ℕ)
-    → shared (suc n) (shifted v level) (stands (site_of a j h x) m k) ≡ where_joined (λ c. rise node_table c level) (shared (suc (suc n)) v (stands (site_of a j h x) m k))
+    → shared (suc n) (shifted v level) (stands (site_of a j h x) m k) ≡ where_joined (λ c. rise node_table c level)
+    (shared (suc (suc n)) v (stands (site_of a j h x) m k))
 rises_so n v level a true h x m k = refl
 rises_so n v level a false h x m k = refl
 
 last_so : (v : ℕ) (level : Bool) (a : ℕ) (j h : Bool) (x : NodeState) (m : Mode) (k : ℕ)
-    → where_joined (seen (Address (shifted v level))) (stands (site_of a j h x) m k) ≡ where_joined (λ c. rise node_table c level) (shared 1 v (stands (site_of a j h x) m k))
+    → where_joined (seen (Address (shifted v level))) (stands (site_of a j h x) m k) ≡ where_joined (λ c. rise node_table c level)
+    (shared 1 v (stands (site_of a j h x) m k))
 last_so v level a true h x m k = refl
 last_so v level a false h x m k = refl
 
-falls_so : (n v : ℕ) (a : ℕ) (j h : Bool) (x : NodeState) (m : Mode) (k : ℕ) → shared (suc n) v (stands (site_of a j h x) m k) ≡ where_joined fall (shared (suc n) v (stands (site_of a j h x) m k))
+falls_so : (n v : ℕ) (a : ℕ) (j h : Bool) (x : NodeState) (m : Mode) (k : ℕ) → shared (suc n) v
+    (stands (site_of a j h x) m k) ≡ where_joined fall (shared (suc n) v (stands (site_of a j h x) m k))
 falls_so n v a true h x m k = refl
 falls_so n v a false h x m k = refl
 
-ticks_so : (n v : ℕ) (a : ℕ) (j h : Bool) (x : NodeState) (m : Mode) (k : ℕ) → shared (suc n) v (stands (site_of a j h x) m k) ≡ where_joined tick (shared (suc n) v (stands (site_of a j h x) m k))
+ticks_so : (n v : ℕ) (a : ℕ) (j h : Bool) (x : NodeState) (m : Mode) (k : ℕ) → shared (suc n) v
+    (stands (site_of a j h x) m k) ≡ where_joined tick (shared (suc n) v (stands (site_of a j h x) m k))
 ticks_so n v a true h x m k = ap (λ i. stands (site_of a true h x) (In true (suc n) v) i) (omega arith)
 ticks_so n v a false h x m k = refl
 
-holds_so : (n v : ℕ) (a : ℕ) (j h : Bool) (x : NodeState) (m : Mode) (k : ℕ) → holds_line (shared (suc n) v (stands (site_of a j h x) m k)) ≡ false
+holds_so : (n v : ℕ) (a : ℕ) (j h : Bool) (x : NodeState) (m : Mode) (k : ℕ) → holds_line (shared (suc n) v (stands (site_of a j h x) m k))
+    ≡ false
 holds_so n v a true h x m k = refl
 holds_so n v a false h x m k = refl
 
-pulls_so : (n v : ℕ) (a : ℕ) (j h : Bool) (x : NodeState) (m : Mode) (k : ℕ) → pulls_line node_table (shared (suc n) v (stands (site_of a j h x) m k)) ≡ false
+pulls_so : (n v : ℕ) (a : ℕ) (j h : Bool) (x : NodeState) (m : Mode) (k : ℕ) → pulls_line node_table
+    (shared (suc n) v (stands (site_of a j h x) m k)) ≡ false
 pulls_so n v a true h x m k = refl
 pulls_so n v a false h x m k = refl
 
 begins_so : (t : Bool) (left v : ℕ) (a : ℕ) (j h : Bool) (x : NodeState) (m : Mode) (k : ℕ)
-    → shared 8 0 (cond t (where_joined (seen Leave) (stands (site_of a j h x) m k)) (stands (site_of a j h x) m k)) ≡ where_joined begin (shared left v (stands (site_of a j h x) m k))
+    → shared 8 0 (cond t (where_joined (seen Leave) (stands (site_of a j h x) m k)) (stands (site_of a j h x) m k)) ≡ where_joined begin
+    (shared left v (stands (site_of a j h x) m k))
 begins_so true zero v a true h x m k = refl
 begins_so true (suc n) v a true h x m k = refl
 begins_so false zero v a true h x m k = refl
@@ -121,7 +119,8 @@ begins_so true (suc n) v a false h x m k = refl
 begins_so false zero v a false h x m k = refl
 begins_so false (suc n) v a false h x m k = refl
 
-finishes_so : (left v : ℕ) (a : ℕ) (j h : Bool) (x : NodeState) (m : Mode) (k : ℕ) → where_joined (finish node_table) (stands (site_of a j h x) m k) ≡ where_joined (finish node_table) (shared left v (stands (site_of a j h x) m k))
+finishes_so : (left v : ℕ) (a : ℕ) (j h : Bool) (x : NodeState) (m : Mode) (k : ℕ) → where_joined (finish node_table)
+    (stands (site_of a j h x) m k) ≡ where_joined (finish node_table) (shared left v (stands (site_of a j h x) m k))
 finishes_so zero v a j h x m k = refl
 finishes_so (suc n) v a true h x m k = refl
 finishes_so (suc n) v a false h x m k = refl
@@ -151,16 +150,21 @@ pub shared_begins : (t : Bool) (left v : ℕ) (b : Bit NodeState)
     → shared 8 0 (cond t (where_joined (seen Leave) b) b) ≡ where_joined begin (shared left v b)
 shared_begins t left v b = begins_so t left v b.site.addr b.site.joined b.site.heard b.site.state b.mode b.hold
 
-pub shared_finishes : (left v : ℕ) (b : Bit NodeState) → where_joined (finish node_table) b ≡ where_joined (finish node_table) (shared left v b)
+pub shared_finishes : (left v : ℕ) (b : Bit NodeState) → where_joined (finish node_table) b ≡ where_joined (finish node_table)
+    (shared left v b)
 shared_finishes left v b = finishes_so left v b.site.addr b.site.joined b.site.heard b.site.state b.mode b.hold
 
 -- ---- an address byte
-addressed_so : (s n : Bool) (byte : ℕ) (a : ℕ) (j h : Bool) (x : NodeState) (m : Mode) (k : ℕ) → is_named byte (site_of a j h x) ≡ n → (s ≡ false → IsCalm (stands (site_of a j h x) m k))
-    → cond n (where_joined (seen (Address byte)) (cond s (where_joined (seen (Other byte)) (stands (site_of a j h x) m k)) (stands (site_of a j h x) m k))) (cond s (where_joined (seen (Other byte)) (stands (site_of a j h x) m k)) (stands (site_of a j h x) m k))
+addressed_so : (s n : Bool) (byte : ℕ) (a : ℕ) (j h : Bool) (x : NodeState) (m : Mode) (k : ℕ) → is_named byte (site_of a j h x) ≡ n
+    → (s ≡ false → IsCalm (stands (site_of a j h x) m k))
+    → cond n (where_joined (seen (Address byte)) (cond s (where_joined (seen (Other byte)) (stands (site_of a j h x) m k))
+    (stands (site_of a j h x) m k))) (cond s (where_joined (seen (Other byte)) (stands (site_of a j h x) m k))
+    (stands (site_of a j h x) m k))
     ≡ where_joined (seen (Address byte)) (stands (site_of a j h x) m k)
 addressed_so true true byte a true h x m k is calm =
     ap (λ d. where_joined (seen (Address byte)) (cond d (stands (site_of a true h x) m k) (named node_table (site_of a true h x) byte))) is
-addressed_so true false byte a true h x m k is calm = ap (λ d. cond d (stands (site_of a true h x) m k) (named node_table (site_of a true h x) byte)) is
+addressed_so true false byte a true h x m k is calm = ap (λ d. cond d (stands (site_of a true h x) m k)
+    (named node_table (site_of a true h x) byte)) is
 addressed_so false true byte a true h x m k is calm = refl
 addressed_so false false byte a true h x m k is calm = sym (calm_other byte (stands (site_of a true h x) m k) is (calm refl))
 addressed_so true true byte a false h x m k is calm = refl
@@ -169,7 +173,8 @@ addressed_so false true byte a false h x m k is calm = refl
 addressed_so false false byte a false h x m k is calm = refl
 
 pub addressed_all : (s n : Bool) (byte : ℕ) (b : Bit NodeState) → n ≡ is_named byte b.site → (s ≡ false → IsCalm b)
-    → cond n (where_joined (seen (Address byte)) (cond s (where_joined (seen (Other byte)) b) b)) (cond s (where_joined (seen (Other byte)) b) b)
+    → cond n (where_joined (seen (Address byte)) (cond s (where_joined (seen (Other byte)) b) b))
+    (cond s (where_joined (seen (Other byte)) b) b)
     ≡ where_joined (seen (Address byte)) b
 addressed_all s n byte b is calm =
     addressed_so s n byte b.site.addr b.site.joined b.site.heard b.site.state b.mode b.hold (sym is) calm

@@ -1,18 +1,13 @@
 -- A message in progress comes to its end: by a call that fails, or as what is left of it does.
-use Rattle.std.proofs.Common.{◌≡◌, ℕ, ◌+◌, ◌≤◌, Bool, false, IsTrue, List, [], ◌∷◌, ◌++◌, length, length-append, Option, Some, sym, ap, subst, arith, inl, inr}
+use Rattle.bus_message.proofs.Cited.{◌≡◌, ℕ, ◌+◌, ◌≤◌, Bool, false, IsTrue, List, [], ◌∷◌, ◌++◌, length, length-append, Option, Some, sym}
+use Rattle.bus_message.proofs.Cited.{ap, subst, arith, inl, inr, Phase, PortCall, End, World, Said, TalkTold, cut_of, Reaches, TellsTalk}
 use Rattle.i2c_base.specs.Phases.{MayStart}
-use Rattle.i2c_base.specs.declared.port.Phase.{Phase}
 use Rattle.i2c_base.specs.declared.port.Phase.TheVariants.{Idle}
-use Rattle.i2c_base.specs.declared.port.PortCall.{PortCall}
 use Rattle.i2c_base.specs.declared.port.PortCall.TheVariants as call
-use Rattle.i2c_base.specs.declared.entry.End.{End}
 use Rattle.i2c_base.specs.declared.entry.End.TheVariants as end
-use Rattle.i2c_spec.specs.World.{World}
-use Rattle.i2c_spec.specs.Conversation.{Said, TalkTold}
-use Rattle.bus_spec.specs.Past.{cut_of}
 use Rattle.ports.specs.Causes.{Rose}
 use Rattle.ports.specs.declared.port.Port.{Ghosts as PortGhosts}
-use Rattle.bus_message.specs.Talks.{MessageEnded, Reaches, TellsTalk}
+use Rattle.bus_message.specs.Talks.{MessageEnded}
 
 -- a count that rose rose from before
 pub rose_from : (old mid new : ℕ) → old ≤ mid → Rose mid new → Rose old new

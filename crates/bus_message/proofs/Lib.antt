@@ -4,3 +4,5 @@ pub mod EndLemmas
 -- The next message of a transfer partway.
 pub mod PartwayLemmas
 pub mod PortLemmas
+-- What the proofs of this crate cite from elsewhere.
+mod Cited

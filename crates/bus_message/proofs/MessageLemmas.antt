@@ -1,19 +1,17 @@
 -- The pieces of a message, over the steps of a conversation: its start and what follows it, a byte that is put, a byte
 -- that is read, a count. No induction.
-use Rattle.std.proofs.Common.{◌≡◌, ℕ, suc, ◌+◌, ◌-◌, ◌<◌, ◌≤◌, ◌==◌, ◌||◌, nat_lt, Bool, true, false, cond, List, [], ◌∷◌, ◌++◌, length, drop, get_or, Option, Some, refl, sym, ap, ◌∙◌, arith}
+use Rattle.bus_message.proofs.Cited.{◌≡◌, ℕ, suc, ◌+◌, ◌-◌, ◌<◌, ◌≤◌, nat_lt, Bool, true, false, cond, List, [], ◌∷◌, ◌++◌, length, get_or}
+use Rattle.bus_message.proofs.Cited.{Option, Some, refl, sym, ap, ◌∙◌, arith, nat_tests, count_of, PortCall, MessageView, World, after}
+use Rattle.bus_message.proofs.Cited.{has_heard, Said, TalkTold, world_listener, with_byte, call_then, ended, puts, gets, talk, TellsTalk}
+use Rattle.bus_message.proofs.Cited.{Reaches, over_limit}
+use Rattle.std.proofs.Common.{◌==◌, ◌||◌, drop}
 use Rattle.std.proofs.lemmas.List.{at_drop_more, at_drop_all, append-nil}
-use Rattle.std.proofs.lemmas.Bool.Decides.{nat_tests}
-use Rattle.i2c_base.specs.Fitting.{count_of}
 use Rattle.i2c_base.specs.declared.event.Answer.{Answer}
 use Rattle.i2c_base.specs.declared.event.Answer.TheVariants as answer
-use Rattle.i2c_base.specs.declared.port.PortCall.{PortCall}
 use Rattle.i2c_base.specs.declared.port.PortCall.TheVariants as call
 use Rattle.i2c_base.specs.declared.entry.End.TheVariants as end
-use Rattle.i2c_spec.specs.Messages.{MessageView}
-use Rattle.i2c_spec.specs.World.{World, after, answer as world_answer, has_heard, takes, gives}
-use Rattle.i2c_spec.specs.Conversation.{Said, TalkTold, world_listener, silence, with_byte, call_then, ended, puts, gets, gets_counted, data_of, by_answer, talk}
-use Rattle.bus_message.specs.Talks.{TellsTalk}
-use Rattle.bus_message.specs.Talks.{Reaches, over_limit}
+use Rattle.i2c_spec.specs.World.{answer as world_answer, takes, gives}
+use Rattle.i2c_spec.specs.Conversation.{silence, gets_counted, data_of, by_answer}
 use Rattle.bus_message.proofs.TalkLemmas.{reaches_same, byte_more, went, failed}
 
 -- the first of the bytes that are left to put

@@ -1,11 +1,11 @@
 -- A transfer partway: its next message, with its bytes. The induction goes over its messages.
-use Rattle.std.proofs.Common.{◌≡◌, ◌<◌, ◌≤◌, ◌+◌, ℕ, suc, zero, List, [], ◌∷◌, length, refl, sym, ◌∙◌, ap, arith}
-use Rattle.std.specs.Prelude.{take, drop, get_or, sum_by}
+use Rattle.bus_message.proofs.Cited.{◌≡◌, ◌<◌, ◌≤◌, ◌+◌, ℕ, suc, zero, List, [], ◌∷◌, length, refl, sym, ◌∙◌, ap, arith, take, drop, sum_by}
+use Rattle.bus_message.proofs.Cited.{Msg, TransferView, written_of, message_with}
+use Rattle.std.specs.Prelude.{get_or}
 use Rattle.std.proofs.lemmas.List.{take_more, drop-drop}
 use Rattle.std.proofs.lemmas.List.Sums.{sum_by-cons, sum_by_push, sum_by-take-le}
-use Rattle.i2c_base.specs.declared.transfer.Msg.{Msg}
-use Rattle.i2c_base.specs.Transfer.{IsTransfer, TransferView, written_of}
-use Rattle.i2c_spec.specs.Messages.{message_with, messages_from, messages_of}
+use Rattle.i2c_base.specs.Transfer.{IsTransfer}
+use Rattle.i2c_spec.specs.Messages.{messages_from, messages_of}
 use Rattle.bus_spec.specs.Walk.{nth_message}
 
 -- the message at a place, with its bytes: those behind what was written before

@@ -1,32 +1,26 @@
 -- What a message on one port shows of its transfer, and of a list of ports. No induction.
-use Rattle.std.proofs.Common.{◌≡◌, ◌<◌, ◌≤◌, ◌+◌, ℕ, Bool, true, false, List, [], length, get_or, Option, Some, None, refl, sym, ◌∙◌, ap, subst, arith}
-use Rattle.std.specs.Prelude.{slice_get, take, drop, sum_by, MatchBool, if◌then◌else◌}
+use Rattle.bus_message.proofs.Cited.{◌≡◌, ◌<◌, ◌≤◌, ◌+◌, ℕ, Bool, true, false, List, [], length, get_or, Option, Some, None, refl, sym, ◌∙◌}
+use Rattle.bus_message.proofs.Cited.{ap, subst, arith, take, drop, sum_by, End, Purpose, Msg, count_of, TransferView, written_of}
+use Rattle.bus_message.proofs.Cited.{block_limit, world_listener, talk, addr_of_mux, cut_of, MessageView, message_with, bytes_most}
+use Rattle.bus_message.proofs.Cited.{root_port, call_message, control_message, device_of, message_for, TellsTalk}
+use Rattle.std.specs.Prelude.{slice_get, MatchBool, if◌then◌else◌}
 use Rattle.std.proofs.lemmas.List.{length-map}
 use Rattle.std.proofs.lemmas.Option.{slice_get-map, slice_get-get_or, slice_get_within}
 use Rattle.std.specs.Option.{option_map}
 use Rattle.i2c_base.specs.declared.ids.Node.{Node}
 use Rattle.i2c_base.specs.declared.ids.Node.TheVariants as node
-use Rattle.i2c_base.specs.declared.entry.End.{End}
 use Rattle.i2c_base.specs.declared.entry.End.TheVariants as end
-use Rattle.i2c_base.specs.declared.entry.Purpose.{Purpose}
 use Rattle.i2c_base.specs.declared.entry.Purpose.TheVariants as purpose
-use Rattle.i2c_base.specs.declared.transfer.Msg.{Msg}
 use Rattle.i2c_base.specs.declared.tree.Grant.{Grant}
 use Rattle.i2c_base.specs.Board.{BoardView}
-use Rattle.i2c_base.specs.Fitting.{count_of}
-use Rattle.i2c_base.specs.Transfer.{TransferView, is_read, written_of}
+use Rattle.i2c_base.specs.Transfer.{is_read}
 use Rattle.ports.specs.declared.port.Port.{Ghosts as PortGhosts}
-use Rattle.i2c_spec.specs.Flat.{block_limit}
-use Rattle.i2c_spec.specs.Conversation.{world_listener, talk}
 use Rattle.i2c_spec.specs.Grant.{grant_of}
-use Rattle.i2c_spec.specs.Tree.{addr_of_mux}
-use Rattle.bus_spec.specs.Past.{cut_of}
-use Rattle.i2c_spec.specs.Messages.{MessageView, message_with, bytes_most}
 use Rattle.mux_plan.specs.Plans.{ends_with, is_call_through}
 use Rattle.mux_plan.specs.declared.task.NextMsg.{NextMsg}
-use Rattle.bus_message.specs.Ports.{RootPort, Spoke, MessageSent, root_port, root_ports}
-use Rattle.bus_message.specs.Sends.{IsChipAddress, IsHeard, NextSent, call_message, control_message, device_of, hearer_of, message_for, wire_message}
-use Rattle.bus_message.specs.Talks.{Gives, TellsTalk}
+use Rattle.bus_message.specs.Ports.{RootPort, Spoke, MessageSent, root_ports}
+use Rattle.bus_message.specs.Sends.{IsChipAddress, IsHeard, NextSent, hearer_of, wire_message}
+use Rattle.bus_message.specs.Talks.{Gives}
 use Rattle.bus_message.specs.declared.message.MsgResult.{MsgResult}
 use Rattle.bus_message.proofs.PartwayLemmas.{nth_is}
 

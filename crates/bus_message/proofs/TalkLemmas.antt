@@ -1,18 +1,15 @@
 -- One step more of a conversation with the world of a root. Each lemma goes from where it stands by one call, by a
 -- byte, or to its end.
-use Rattle.std.proofs.Common.{◌≡◌, ℕ, zero, suc, ◌+◌, ◌≤◌, true, false, cond, List, [], ◌∷◌, ◌++◌, length, reverse, Option, Some, None, refl, sym, ap, ◌∙◌, arith, append_assoc}
+use Rattle.bus_message.proofs.Cited.{◌≡◌, ℕ, zero, suc, ◌+◌, ◌≤◌, true, false, cond, List, [], ◌∷◌, ◌++◌, length, Option, Some, None, refl}
+use Rattle.bus_message.proofs.Cited.{sym, ap, ◌∙◌, arith, nat_tests, PortCall, End, World, after, Said, TalkTold, world_listener, with_byte}
+use Rattle.bus_message.proofs.Cited.{call_then, cut_of, TellsTalk, Reaches}
+use Rattle.std.proofs.Common.{reverse, append_assoc}
 use Rattle.std.proofs.lemmas.List.{reverse-append}
-use Rattle.std.proofs.lemmas.Bool.Decides.{nat_tests}
-use Rattle.i2c_base.specs.declared.port.PortCall.{PortCall}
 use Rattle.i2c_base.specs.declared.port.PortCall.TheVariants as call
-use Rattle.i2c_base.specs.declared.entry.End.{End}
 use Rattle.i2c_base.specs.declared.entry.End.TheVariants as end
-use Rattle.i2c_spec.specs.World.{World, after}
-use Rattle.i2c_spec.specs.Conversation.{Said, TalkTold, world_listener, is_it, say, told, with_byte, call_then}
-use Rattle.bus_spec.specs.Past.{cut_of}
+use Rattle.i2c_spec.specs.Conversation.{is_it, say, told}
 use Rattle.bus_spec.specs.Legal.{start_failed}
-use Rattle.bus_message.specs.Talks.{TellsTalk}
-use Rattle.bus_message.specs.Talks.{Stands, Reaches}
+use Rattle.bus_message.specs.Talks.{Stands}
 
 -- a place of failure that is after this one, and this one
 not_here : (cut : Option ℕ) (n : ℕ) → ((k : ℕ) → cut ≡ Some k → n + 1 ≤ k) → is_it cut n ≡ false

@@ -18,7 +18,8 @@ use Rattle.i2c_spec.specs.Targets.Lm75Device.{Lm75View, lm75_after, lm75_answer}
 use Rattle.i2c_spec.specs.Targets.{TargetState, Lm75, state_table, state_answer}
 use Rattle.i2c_spec.specs.Messages.{MessageView, messages_from}
 use Rattle.i2c_spec.specs.World.{given, feed, has_heard, is_ack}
-use Rattle.i2c_spec.specs.Flat.{FlatListener, idle, is_member, put_named, flat_start, to_current, to_named, answer_of, acknowledged, flat_after, flat_listener}
+use Rattle.i2c_spec.specs.Flat.{FlatListener, idle, is_member, put_named, flat_start, to_current, to_named, answer_of, acknowledged}
+use Rattle.i2c_spec.specs.Flat.{flat_after, flat_listener}
 use Rattle.i2c_spec.specs.Conversation.{Listener, TalkTold, AllTold, is_it, talk, talk_all, is_empty, is_good, with_read}
 use Rattle.i2c_spec.proofs.MessageLemmas.{IsFollowing}
 use Rattle.bus_laws.specs.Alike.{ToldAlike, IsUnnamed}
@@ -36,7 +37,8 @@ pub record AllAlike {W V : Type 0} (R : W → V → Type 0) (x : AllTold W) (y :
 module _ {W V : Type 0} (l : Listener W) (k : Listener V) (limit : ℕ) (R : W → V → Type 0) (Good : MessageView → Type 0)
     (each : (w : W) (v : V) (m : MessageView) (last : Bool) (cut : Option ℕ) → Good m → R w v
     → ToldAlike R (talk l limit w m last cut) (talk k limit v m last cut)) where
-  cond_all : (p q : Bool) (x y : AllTold W) (x2 y2 : AllTold V) → p ≡ q → AllAlike R x x2 → AllAlike R y y2 → AllAlike R (cond p x y) (cond q x2 y2)
+  cond_all : (p q : Bool) (x y : AllTold W) (x2 y2 : AllTold V) → p ≡ q → AllAlike R x x2 → AllAlike R y y2
+      → AllAlike R (cond p x y) (cond q x2 y2)
   cond_all true true x y x2 y2 e hx hy = hx
   cond_all false false x y x2 y2 e hx hy = hy
   cond_all true false x y x2 y2 e hx hy = absurd (cc)
@@ -137,7 +139,8 @@ module _ (Own : ℕ → Type 0) (granted : ℕ → Option ℕ) where
       (λ u v same. ap (λ (x : Answer). byte_of x) (current_alike u v (event.Get true) same))
       limit f g m last cut (all_any m.bytes) (stopped_alike f g s)
       (record {
-        states = λ d mine. fed_alike (flat_start (granted m.addr) f.named m.reading) (flat_start (granted m.addr) g.named m.reading) f.states
+        states = λ d mine. fed_alike (flat_start (granted m.addr) f.named m.reading) (flat_start
+            (granted m.addr) g.named m.reading) f.states
             g.states d (s.states d mine)
             (ap (λ (ds : List ℕ). flat_start (granted m.addr) ds m.reading d) s.named);
         named = ap (λ (ds : List ℕ). put_named (granted m.addr) ds) s.named;
@@ -195,7 +198,8 @@ module _ (granted : ℕ → Option ℕ) (d : ℕ) where
 
   fed : (f : ℕ → Option Event) (xs : List TargetState) (x : Lm75View) → slice_get xs d ≡ Some (Lm75 x)
       → slice_get (feed state_table f 0 xs) d ≡ Some (given state_table (f d) (Lm75 x))
-  fed f xs x at = fed-at state_table f xs d ∙ ap (λ (o : Option TargetState). option_map (λ (z : TargetState). given state_table (f d) z) o) at
+  fed f xs x at = fed-at state_table f xs d ∙ ap (λ (o : Option TargetState). option_map (λ (z : TargetState). given state_table (f d) z) o)
+      at
 
   by_heard : (h : Bool) (x : Lm75View) (e : Event)
       → given state_table (to_current (cond h (Some d) None) e d) (Lm75 x) ≡ Lm75 (cond h (lm75_after x e) x)
@@ -255,7 +259,8 @@ module _ (granted : ℕ → Option ℕ) (d : ℕ) where
       (record {
         state = fed (flat_start (granted m.addr) f.named m.reading) f.states w.x s.state
             ∙ ap (λ (o : Option ℕ). Some (given state_table (flat_start o f.named m.reading d) (Lm75 w.x))) it
-            ∙ ap (λ (t : Bool). Some (given state_table (cond t (Some (event.Start m.reading)) (cond (is_member d f.named) (Some event.Other) None))
+            ∙ ap (λ (t : Bool). Some (given state_table (cond t (Some (event.Start m.reading))
+            (cond (is_member d f.named) (Some event.Other) None))
             (Lm75 w.x))) (eq-eqb d d refl);
         named = ap (λ (o : Option ℕ). is_member d (put_named o f.named)) it
             ∙ ap (λ (t : Bool). t || is_member d f.named) (eq-eqb d d refl);
@@ -265,7 +270,8 @@ module _ (granted : ℕ → Option ℕ) (d : ℕ) where
     where
       start : answer_of f.states (granted m.addr) (event.Start m.reading) ≡ answer.Ack
       start = ap (λ (o : Option ℕ). answer_of f.states o (event.Start m.reading)) it
-          ∙ ap (λ (o : Option TargetState). option_map_or (λ (z : TargetState). state_answer z (event.Start m.reading)) o answer.Nothing) s.state
+          ∙ ap (λ (o : Option TargetState). option_map_or (λ (z : TargetState). state_answer z (event.Start m.reading)) o answer.Nothing)
+          s.state
 
   pub all-beside : (limit : ℕ) (xs : List TargetState) (x : Lm75View) (ms : List MessageView) (cuts : ℕ → Option ℕ)
       → AllByRecursion GrantsIt ms → slice_get xs d ≡ Some (Lm75 x)

@@ -1,6 +1,7 @@
 -- Whether a driver's transfer reaches its sensor: where it isn't barred the sensor is granted, since no address stands twice along a
 -- path; and what bars it is the same for each access of the sensor.
-use Rattle.std.proofs.Common.{◌≡◌, ℕ, Bool, true, false, cond, not, ◌&&◌, ◌||◌, Option, Some, None, eqb, ltb, refl, sym, ◌∙◌, ap, subst, inl, zero-add}
+use Rattle.std.proofs.Common.{◌≡◌, ℕ, Bool, true, false, cond, not, ◌&&◌, ◌||◌, Option, Some, None, eqb, ltb, refl, sym, ◌∙◌, ap, subst}
+use Rattle.std.proofs.Common.{inl, zero-add}
 use Rattle.std.proofs.lemmas.Bool.{eq-eqb}
 use Rattle.std.specs.Prelude.{slice_get}
 use Rattle.std.specs.List.{position_from}

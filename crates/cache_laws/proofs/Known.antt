@@ -1,6 +1,7 @@
 -- What a caller knows is what the registers have, after each transfer of any caller; so a hit's reply is what a read would give.
 -- The inductions go over what is kept.
-use Rattle.std.proofs.Common.{◌≡◌, ℕ, ◌/◌, ◌%◌, Bool, true, false, cond, not, ◌&&◌, ◌||◌, inl, inr, List, [], ◌∷◌, map, Option, Some, None, eqb, ltb, refl, sym, ◌∙◌, ap, subst, arith}
+use Rattle.std.proofs.Common.{◌≡◌, ℕ, ◌/◌, ◌%◌, Bool, true, false, cond, not, ◌&&◌, ◌||◌, inl, inr, List, [], ◌∷◌, map, Option, Some, None}
+use Rattle.std.proofs.Common.{eqb, ltb, refl, sym, ◌∙◌, ap, subst, arith}
 use Rattle.std.proofs.lemmas.Bool.{eqb-true, eq-eqb, or_parts}
 use Rattle.std.proofs.Math.Bool.{or-true}
 use Rattle.std.specs.Prelude.{slice_get, is_some}
@@ -22,11 +23,14 @@ use Rattle.i2c_spec.specs.Targets.Lm75Device.{Lm75View, Idle, with_high, with_lo
 use Rattle.i2c_spec.specs.Targets.{TargetState, Lm75}
 use Rattle.i2c_spec.specs.Flat.{FlatTold, granted_on, is_plain, is_smbus_only, first_of, is_way_cut, way_errno, barred, flat}
 use Rattle.i2c_spec.specs.Conversation.{is_it}
-use Rattle.cache_laws.specs.Cache.{Pair, Access, Kept, Cached, is_kept, access_if, writes_just, reads_just, access_by, access_of, is_at, register_of, with_register, brought, learn_at, learned_by, learned, pair_at, reply_of, hit_by, hit}
-use Rattle.cache_laws.specs.Order.{SensorRegister, Temperature, Hysteresis, Limit, number_of, register_read, register_write, is_granted, is_kept_by, IsLowByte, IsHarmless, Leaves, Reads, Writes, SameButPointers}
+use Rattle.cache_laws.specs.Cache.{Pair, Access, Kept, Cached, is_kept, access_if, writes_just, reads_just, access_by, access_of, is_at}
+use Rattle.cache_laws.specs.Cache.{register_of, with_register, brought, learn_at, learned_by, learned, pair_at, reply_of, hit_by, hit}
+use Rattle.cache_laws.specs.Order.{SensorRegister, Temperature, Hysteresis, Limit, number_of, register_read, register_write, is_granted}
+use Rattle.cache_laws.specs.Order.{is_kept_by, IsLowByte, IsHarmless, Leaves, Reads, Writes, SameButPointers}
 use Rattle.cache_laws.proofs.One.{word_of, with_word, bytes_of}
 use Rattle.cache_laws.proofs.Gate.{IsOpen, GoesThrough, read-goes, granted-here, same-place}
-use Rattle.cache_laws.proofs.Transfer.{barred_is, StepsAlike, Reading, Writing, leaves-left, leaves-alike, read_steps, read_reads, read_others, write_steps, write_writes, write_others}
+use Rattle.cache_laws.proofs.Transfer.{barred_is, StepsAlike, Reading, Writing, leaves-left, leaves-alike, read_steps, read_reads}
+use Rattle.cache_laws.proofs.Transfer.{read_others, write_steps, write_writes, write_others}
 use Rattle.i2c_base.proofs.Booleans.{and_last}
 
 -- ---- what is kept of one device
@@ -52,7 +56,12 @@ held_view : (b : BoardView) (xs zs : List TargetState) (d : ℕ) (v : DeviceView
     → slice_get xs d ≡ Some (Lm75 x) → slice_get zs d ≡ Some (Lm75 y) → word_of y r ≡ word_of x r
     → IsHeld b xs d v r p → IsHeld b zs d v r p
 held_view b xs zs d v r p x y at there same h =
-    record { view = y; state = there; bytes = ap (λ (w : ℕ). bytes_of w) same ∙ ap (λ (z : Lm75View). bytes_of (word_of z r)) is ∙ h.bytes; opens = h.opens }
+    record {
+      view = y;
+      state = there;
+      bytes = ap (λ (w : ℕ). bytes_of w) same ∙ ap (λ (z : Lm75View). bytes_of (word_of z r)) is ∙ h.bytes;
+      opens = h.opens;
+    }
   where
     is : x ≡ h.view
     is = let f : Some (Lm75 x) ≡ Some (Lm75 h.view) = sym at ∙ h.state in cc
@@ -177,12 +186,14 @@ at_place a k e = (
     and_first false y f = f
 
 -- an access there is granted the device, where its driver's are
-place_granted : (b : BoardView) (t : TransferView) (a : Access) (is : IsAccess t a) (k : Kept) (v : DeviceView) → k.bus ≡ v.bus → k.addr ≡ v.addr
+place_granted : (b : BoardView) (t : TransferView) (a : Access) (is : IsAccess t a) (k : Kept) (v : DeviceView) → k.bus ≡ v.bus
+    → k.addr ≡ v.addr
     → is_at a k ≡ true → granted_on b v.bus true v.addr ≡ Some k.device → is_granted b t k.device ≡ true
 place_granted b t a is k v bus addr at granted =
     ap (λ (ms : List Msg). list_any (λ (m : Msg). is_it (granted_on b t.bus t.force m.addr) k.device) ms) is.msgs
     ∙ ap (λ (o : Option ℕ). is_it o k.device || list_any (λ (m : Msg). is_it (granted_on b t.bus t.force m.addr) k.device) is.rest) here
-    ∙ ap (λ (z : Bool). z || list_any (λ (m : Msg). is_it (granted_on b t.bus t.force m.addr) k.device) is.rest) (eq-eqb k.device k.device refl)
+    ∙ ap (λ (z : Bool). z || list_any (λ (m : Msg). is_it (granted_on b t.bus t.force m.addr) k.device) is.rest)
+    (eq-eqb k.device k.device refl)
   where
     places : (k.bus ≡ a.bus) × (k.addr ≡ a.addr)
     places = at_place a k at
@@ -220,12 +231,14 @@ open_granted b tree cached xs t cut a is k h at none =
         ap (λ (i : ℕ). is_busy (grant_of b i h.v.addr true)) (sym h.bus ∙ places.0 ∙ is.bus)
         ∙ ap (λ (i : ℕ). is_busy (grant_of b t.bus i true)) (sym h.addr ∙ places.1 ∙ sym is.addr)
         ∙ ap (λ (z : Bool). is_busy (grant_of b t.bus is.first.addr z)) (sym is.force)
-        ∙ (or_parts (is_busy (grant_of b t.bus is.first.addr t.force)) (list_any (λ (m : Msg). is_busy (grant_of b t.bus m.addr t.force)) is.rest)
+        ∙ (or_parts (is_busy (grant_of b t.bus is.first.addr t.force))
+        (list_any (λ (m : Msg). is_busy (grant_of b t.bus m.addr t.force)) is.rest)
         (sym (ap (λ (ms : List Msg). list_any (λ (m : Msg). is_busy (grant_of b t.bus m.addr t.force)) ms) is.msgs) ∙ any_free)).0
 
 -- an access of a driver
 access_read : (v : DeviceView) (r : SensorRegister)
-    → access_of (register_read v r) ≡ access_if (is_kept (number_of r)) (record { bus = v.bus; addr = v.addr; register = number_of r; sent = None })
+    → access_of (register_read v r) ≡ access_if (is_kept (number_of r))
+    (record { bus = v.bus; addr = v.addr; register = number_of r; sent = None })
 access_read v r =
     ap (λ (z : Bool). access_if (z && is_kept (number_of r)) (record { bus = v.bus; addr = v.addr; register = number_of r; sent = None }))
     (eq-eqb v.addr v.addr refl)
@@ -238,7 +251,8 @@ kept_register n e = by (eqb n 2) (eqb n 3) refl refl (e)
         → (r : SensorRegister) × (n ≡ number_of r) × (is_kept (number_of r) ≡ true)
     by true y f g h = (Hysteresis, eqb-true n 2 f, refl)
     by false true f g h = (Limit, eqb-true n 3 g, refl)
-    by false false f g h = absurd (let z : (false || false) ≡ true = sym (ap (λ (i : Bool). i || eqb n 3) f ∙ ap (λ (i : Bool). false || i) g) ∙ h in cc)
+    by false false f g h = absurd (let z : (false || false) ≡ true =
+        sym (ap (λ (i : Bool). i || eqb n 3) f ∙ ap (λ (i : Bool). false || i) g) ∙ h in cc)
 
 brought_error : (o : Option Pair) (e : Errno) → brought o (reply.Err e) ≡ None
 brought_error None e = refl
@@ -255,7 +269,8 @@ word_new x Temperature w kept = absurd (let f : false ≡ true = kept in cc)
 word_new x Hysteresis w kept = refl
 word_new x Limit w kept = refl
 
-word_else : (x : Lm75View) (p : ℕ) (r q : SensorRegister) (w : ℕ) → (q ≡ r → ⊥) → word_of (with_word (record x { phase = Idle; pointer = p }) r w) q ≡ word_of x q
+word_else : (x : Lm75View) (p : ℕ) (r q : SensorRegister) (w : ℕ) → (q ≡ r → ⊥)
+    → word_of (with_word (record x { phase = Idle; pointer = p }) r w) q ≡ word_of x q
 word_else x p Temperature q w ne = word_moved x p q
 word_else x p Hysteresis Temperature w ne = refl
 word_else x p Hysteresis Hysteresis w ne = absurd (ne refl)
@@ -268,7 +283,8 @@ word_else x p Limit Limit w ne = absurd (ne refl)
 bytes_written : (old high low : ℕ) → IsLowByte low → bytes_of (with_low (with_high old high) low) ≡ high ∷ low ∷ []
 bytes_written old high low is =
     elim is [
-      | inl zero_is ↦ ap (λ (i : ℕ). bytes_of (with_low (with_high old high) i)) zero_is ∙ split 0 (with_low (with_high old high) 0) (omega arith) (omega arith)
+      | inl zero_is ↦ ap (λ (i : ℕ). bytes_of (with_low (with_high old high) i)) zero_is ∙ split 0 (with_low (with_high old high) 0)
+          (omega arith) (omega arith)
           ∙ ap (λ (i : ℕ). high ∷ i ∷ []) (sym zero_is)
       | inr half_is ↦ ap (λ (i : ℕ). bytes_of (with_low (with_high old high) i)) half_is
           ∙ split 128 (with_low (with_high old high) 128) (omega arith) (omega arith)
@@ -318,7 +334,8 @@ module _ (b : BoardView) (tree : IsTree b) (callers : ℕ → Cached) (cached : 
           }
       by false e =
           knows_same b cached xs (flat b xs (register_read v r) cut).states k
-          (read_others b tree cached d v at is xs ys same r cut k.device (λ f. (let g : true ≡ false = sym (eq-eqb k.device d f) ∙ e in absurd cc))) h
+          (read_others b tree cached d v at is xs ys same r cut k.device
+          (λ f. (let g : true ≡ false = sym (eq-eqb k.device d f) ∙ e in absurd cc))) h
 
   -- a transfer of the caller that keeps this
   knows_leaves : (t : TransferView) → ((d : ℕ) → cached d ≡ true → is_granted b t d ≡ false) → (k : Kept) → Knows b cached xs k
@@ -331,7 +348,8 @@ module _ (b : BoardView) (tree : IsTree b) (callers : ℕ → Cached) (cached : 
       at_it : (a : Access) → access_of t ≡ Some a → is_at a k ≡ true → (o : Option Errno) → barred b t cut ≡ o
           → Knows b cached (flat b xs t cut).states (with_register k a.register (brought a.sent (flat b xs t cut).reply))
       at_it a e at None o =
-          absurd (let f : true ≡ false = sym (open_granted b tree cached xs t cut a (access-is t a e) k h at o) ∙ none k.device h.is_cached in cc)
+          absurd (let f : true ≡ false = sym (open_granted b tree cached xs t cut a (access-is t a e) k h at o)
+          ∙ none k.device h.is_cached in cc)
       at_it a e at (Some x) o =
           let nothing : brought a.sent (flat b xs t cut).reply ≡ None =
           ap (λ (z : FlatTold). brought a.sent z.reply) (barred_is b t cut x o xs) ∙ brought_error a.sent x in
@@ -356,7 +374,8 @@ module _ (b : BoardView) (tree : IsTree b) (callers : ℕ → Cached) (cached : 
       → Knows b cached (flat b xs (register_read v r) cut).states
       (learn_by (access_of (register_read v r)) (flat b xs (register_read v r) cut).reply k)
   knows_reads d v r is at k h =
-      subst (λ (o : Option Access). Knows b cached (flat b xs (register_read v r) cut).states (learn_by o (flat b xs (register_read v r) cut).reply k))
+      subst (λ (o : Option Access). Knows b cached (flat b xs (register_read v r) cut).states
+      (learn_by o (flat b xs (register_read v r) cut).reply k))
       (sym (access_read v r)) (by_kept (is_kept (number_of r)) refl)
     where
       reads : Reading b v d (same.sensors d is).view r (flat b xs (register_read v r) cut)
@@ -373,7 +392,11 @@ module _ (b : BoardView) (tree : IsTree b) (callers : ℕ → Cached) (cached : 
       new e ev p told_is =
           elim reads.reply_is [
             | inl good ↦
-                let pair_is : Some (record { high = byte_of_word (word_of (same.sensors d is).view r) 0; low = byte_of_word (word_of (same.sensors d is).view r) 1 }) ≡ Some p =
+                let pair_is : Some (record {
+                  high = byte_of_word (word_of (same.sensors d is).view r) 0;
+                  low =
+                      byte_of_word (word_of (same.sensors d is).view r) 1;
+                }) ≡ Some p =
                 sym (ap (λ (z : Reply). brought None z) good.0) ∙ told_is in
                 record {
                   view = record ((same.sensors d is).view) { phase = Idle; pointer = reads.p };
@@ -384,7 +407,11 @@ module _ (b : BoardView) (tree : IsTree b) (callers : ℕ → Cached) (cached : 
             | inr bad ↦ absurd (let f : None ≡ Some p = sym (ap (λ (z : Reply). brought None z) bad.1) ∙ told_is in cc)
           ]
         where
-          pair_bytes : Some (record { high = byte_of_word (word_of (same.sensors d is).view r) 0; low = byte_of_word (word_of (same.sensors d is).view r) 1 }) ≡ Some p
+          pair_bytes : Some (record {
+            high = byte_of_word (word_of (same.sensors d is).view r) 0;
+            low =
+                byte_of_word (word_of (same.sensors d is).view r) 1;
+          }) ≡ Some p
               → bytes_of (word_of (same.sensors d is).view r) ≡ p.high ∷ p.low ∷ []
           pair_bytes f = ap (λ (o : Option Pair). pair_list o) f
 
@@ -397,7 +424,8 @@ module _ (b : BoardView) (tree : IsTree b) (callers : ℕ → Cached) (cached : 
           let places = at_place (record { bus = v.bus; addr = v.addr; register = number_of r; sent = None }) k e in
           let one : k.device ≡ d = same-place b tree k.device d h.v v h.at at (sym h.bus ∙ places.0) (sym h.addr ∙ places.1) in
           let ev : h.v ≡ v = (let f : Some h.v ≡ Some v = sym h.at ∙ ap (λ (i : ℕ). slice_get b.devices i) one ∙ at in cc) in
-          knows_put b cached xs (flat b xs (register_read v r) cut).states k h r (brought None (flat b xs (register_read v r) cut).reply) kept
+          knows_put b cached xs (flat b xs (register_read v r) cut).states k h r (brought None
+          (flat b xs (register_read v r) cut).reply) kept
           (new one ev)
           (λ q ne p held. held_view b xs (flat b xs (register_read v r) cut).states k.device h.v q p (same.sensors d is).view
           (record ((same.sensors d is).view) { phase = Idle; pointer = reads.p })
@@ -413,7 +441,8 @@ module _ (b : BoardView) (tree : IsTree b) (callers : ℕ → Cached) (cached : 
       by_kept true e = by_at e (is_at (record { bus = v.bus; addr = v.addr; register = number_of r; sent = None }) k) refl
 
   -- a write of another device
-  knows_other_write : (d : ℕ) (v : DeviceView) (r : SensorRegister) (high low : ℕ) (kept : is_kept (number_of r) ≡ true) (is : cached d ≡ true)
+  knows_other_write : (d : ℕ) (v : DeviceView) (r : SensorRegister) (high low : ℕ) (kept : is_kept (number_of r) ≡ true)
+      (is : cached d ≡ true)
       (at : slice_get b.devices d ≡ Some v) → (k : Kept) → (k.device ≡ d → ⊥) → Knows b cached xs k
       → Knows b cached (flat b xs (register_write v r high low) cut).states k
   knows_other_write d v r high low kept is at k ne h =
@@ -426,10 +455,17 @@ module _ (b : BoardView) (tree : IsTree b) (callers : ℕ → Cached) (cached : 
       (learn_by (access_of (register_write v r high low)) (flat b xs (register_write v r high low) cut).reply k)
   knows_writes d v r high low kept is at low_is k h =
       subst (λ (z : Bool). Knows b cached (flat b xs (register_write v r high low) cut).states
-      (learn_by (access_if z (record { bus = v.bus; addr = v.addr; register = number_of r; sent = Some (record { high = high; low = low }) }))
+      (learn_by (access_if z (record {
+        bus = v.bus;
+        addr = v.addr;
+        register = number_of r;
+        sent =
+            Some (record { high = high; low = low });
+      }))
       (flat b xs (register_write v r high low) cut).reply k))
       (sym kept)
-      (by_at (is_at (record { bus = v.bus; addr = v.addr; register = number_of r; sent = Some (record { high = high; low = low }) }) k) refl)
+      (by_at (is_at (record { bus = v.bus; addr = v.addr; register = number_of r; sent = Some (record { high = high; low = low }) }) k)
+      refl)
     where
       writes : Writing b v d (same.sensors d is).view r high low (flat b xs (register_write v r high low) cut)
       writes = write_writes b tree cached d v at is xs ys same r high low kept cut
@@ -472,7 +508,13 @@ module _ (b : BoardView) (tree : IsTree b) (callers : ℕ → Cached) (cached : 
               ∙ eq-eqb k.addr v.addr (h.addr ∙ ap (λ (z : DeviceView). z.addr) ev)) ∙ e in
               absurd cc
       by_at true e =
-          let places = at_place (record { bus = v.bus; addr = v.addr; register = number_of r; sent = Some (record { high = high; low = low }) }) k e in
+          let places = at_place (record {
+            bus = v.bus;
+            addr = v.addr;
+            register = number_of r;
+            sent =
+                Some (record { high = high; low = low });
+          }) k e in
           let one : k.device ≡ d = same-place b tree k.device d h.v v h.at at (sym h.bus ∙ places.0) (sym h.addr ∙ places.1) in
           let ev : h.v ≡ v = (let f : Some h.v ≡ Some v = sym h.at ∙ ap (λ (i : ℕ). slice_get b.devices i) one ∙ at in cc) in
           knows_put b cached xs (flat b xs (register_write v r high low) cut).states k h r
@@ -488,18 +530,21 @@ module _ (b : BoardView) (tree : IsTree b) (callers : ℕ → Cached) (cached : 
   abbrev pub KnowsAll : List TargetState → List Kept → Type 0
   KnowsAll zs ks = AllByRecursion (Knows b cached zs) ks
 
-  all_own : (t : TransferView) → ((k : Kept) → Knows b cached xs k → Knows b cached (flat b xs t cut).states (learn_by (access_of t) (flat b xs t cut).reply k))
+  all_own : (t : TransferView) → ((k : Kept) → Knows b cached xs k → Knows b cached (flat b xs t cut).states
+      (learn_by (access_of t) (flat b xs t cut).reply k))
       → (ks : List Kept) → KnowsAll xs ks → KnowsAll (flat b xs t cut).states (learned ks (Some t) (flat b xs t cut).reply)
   all_own t each ks all = by (access_of t) each ks all
     where
-      by : (o : Option Access) → ((k : Kept) → Knows b cached xs k → Knows b cached (flat b xs t cut).states (learn_by o (flat b xs t cut).reply k))
+      by : (o : Option Access) → ((k : Kept) → Knows b cached xs k → Knows b cached (flat b xs t cut).states
+          (learn_by o (flat b xs t cut).reply k))
           → (js : List Kept) → KnowsAll xs js → KnowsAll (flat b xs t cut).states (learned_by o (flat b xs t cut).reply js)
       by None step [] h = tt
       by None step (j ∷ js) h = (step j h.0, by None step js h.1)
       by (Some a) step [] h = tt
       by (Some a) step (j ∷ js) h = (step j h.0, by (Some a) step js h.1)
 
-  all_other : (zs : List TargetState) (ks : List Kept) → ((k : Kept) → list_any (λ (j : Kept). eqb j.device k.device) ks ≡ true → Knows b cached xs k → Knows b cached zs k)
+  all_other : (zs : List TargetState) (ks : List Kept) → ((k : Kept) → list_any (λ (j : Kept). eqb j.device k.device) ks ≡ true
+      → Knows b cached xs k → Knows b cached zs k)
       → KnowsAll xs ks → KnowsAll zs ks
   all_other zs [] each h = tt
   all_other zs (k ∷ ks) each h = (
@@ -559,7 +604,8 @@ pair_from b cached xs a p (k ∷ ks) all e = by (is_at a k) refl (pair_from b ca
     by true at more = (k, all.0, at, sym (ap (λ (z : Bool). cond z (register_of k a.register) (pair_at ks a)) at) ∙ e)
     by false at more = more (sym (ap (λ (z : Bool). cond z (register_of k a.register) (pair_at ks a)) at) ∙ e)
 
-register_held : (b : BoardView) (cached : ℕ → Bool) (xs : List TargetState) (k : Kept) (h : Knows b cached xs k) (r : SensorRegister) (p : Pair)
+register_held : (b : BoardView) (cached : ℕ → Bool) (xs : List TargetState) (k : Kept) (h : Knows b cached xs k) (r : SensorRegister)
+    (p : Pair)
     → is_kept (number_of r) ≡ true → register_of k (number_of r) ≡ Some p → IsHeld b xs k.device h.v r p
 register_held b cached xs k h Temperature p kept e = absurd (let f : false ≡ true = kept in cc)
 register_held b cached xs k h Hysteresis p kept e = h.hysteresis p e
@@ -597,7 +643,8 @@ hit_parts ks (Some a) answer e = by a.sent refl (pair_at ks a) refl
     by : (s : Option Pair) → a.sent ≡ s → (o : Option Pair) → pair_at ks a ≡ o
         → (x : Access) × (p : Pair) × (Some a ≡ Some x) × (x.sent ≡ None) × (pair_at ks x ≡ Some p) × (answer ≡ reply_of p)
     by (Some q) f o g =
-        absurd (let h : None ≡ Some answer = sym (ap (λ (z : Option Pair). cond (is_some z) None (option_map reply_of (pair_at ks a))) f) ∙ e in cc)
+        absurd (let h : None ≡ Some answer = sym (ap (λ (z : Option Pair). cond (is_some z) None (option_map reply_of (pair_at ks a))) f)
+        ∙ e in cc)
     by None f None g =
         absurd (let h : None ≡ Some answer = sym (ap (λ (z : Option Pair). cond (is_some z) None (option_map reply_of (pair_at ks a))) f
         ∙ ap (λ (z : Option Pair). option_map reply_of z) g) ∙ e in cc)
@@ -643,12 +690,15 @@ hit-is b tree callers cached xs c t harmless ks all answer e = by harmless
     by : IsHarmless b callers cached c t → IsRead b cached xs t answer
     by (Leaves none) = absurd (let f : true ≡ false = sym granted ∙ none from.0.device from.1.is_cached in cc)
     by (Reads d v r is_cached at same_t) =
-        let access_is : access_if (is_kept (number_of r)) (record { bus = v.bus; addr = v.addr; register = number_of r; sent = None }) ≡ Some parts.0 =
+        let access_is : access_if (is_kept (number_of r)) (record { bus = v.bus; addr = v.addr; register = number_of r; sent = None })
+        ≡ Some parts.0 =
         sym (access_read v r) ∙ ap (λ (z : TransferView). access_of z) (sym same_t) ∙ parts.2 in
-        let h = if_access (is_kept (number_of r)) (record { bus = v.bus; addr = v.addr; register = number_of r; sent = None }) parts.0 access_is in
+        let h = if_access (is_kept (number_of r)) (record { bus = v.bus; addr = v.addr; register = number_of r; sent = None }) parts.0
+        access_is in
         let one : from.0.device ≡ d =
         same-place b tree from.0.device d from.1.v v from.1.at at
-        (sym from.1.bus ∙ places.0 ∙ sym (ap (λ (z : Access). z.bus) h.1)) (sym from.1.addr ∙ places.1 ∙ sym (ap (λ (z : Access). z.addr) h.1)) in
+        (sym from.1.bus ∙ places.0 ∙ sym (ap (λ (z : Access). z.bus) h.1)) (sym from.1.addr ∙ places.1
+        ∙ sym (ap (λ (z : Access). z.addr) h.1)) in
         let ev : from.1.v ≡ v = (let f : Some from.1.v ≡ Some v = sym from.1.at ∙ ap (λ (i : ℕ). slice_get b.devices i) one ∙ at in cc) in
         let er : reg.0 ≡ r = number_same reg.0 r (sym reg.1 ∙ sym (ap (λ (z : Access). z.register) h.1)) in
         record {
@@ -669,7 +719,8 @@ hit-is b tree callers cached xs c t harmless ks all answer e = by harmless
         (record { bus = v.bus; addr = v.addr; register = number_of r; sent = Some (record { high = high; low = low }) }) ≡ Some parts.0 =
         ap (λ (z : TransferView). access_of z) (sym same_t) ∙ parts.2 in
         let h = if_access (is_kept (number_of r))
-        (record { bus = v.bus; addr = v.addr; register = number_of r; sent = Some (record { high = high; low = low }) }) parts.0 access_is in
+        (record { bus = v.bus; addr = v.addr; register = number_of r; sent = Some (record { high = high; low = low }) }) parts.0
+        access_is in
         let f : Some (record { high = high; low = low }) ≡ None = ap (λ (z : Access). z.sent) h.1 ∙ parts.3 in cc)
 
 -- what is known after a hit is what was: the registers have it
@@ -678,7 +729,8 @@ pub hit-knows : (b : BoardView) → IsTree b → (cached : ℕ → Bool) (xs : L
     → (ks : List Kept) → AllByRecursion (Knows b cached xs) ks
     → AllByRecursion (Knows b cached xs) (learned ks (Some (register_read v r)) (reply.Read (bytes_of (word_of x r))))
 hit-knows b tree cached xs d v r is at opens x state ks all =
-    subst (λ (o : Option Access). AllByRecursion (Knows b cached xs) (learned_by o (reply.Read (bytes_of (word_of x r))) ks)) (sym (access_read v r))
+    subst (λ (o : Option Access). AllByRecursion (Knows b cached xs) (learned_by o (reply.Read (bytes_of (word_of x r))) ks))
+    (sym (access_read v r))
     (by_kept (is_kept (number_of r)) refl ks all)
   where
     new : (k : Kept) (h : Knows b cached xs k) → k.device ≡ d → h.v ≡ v → (p : Pair)
@@ -703,13 +755,15 @@ hit-knows b tree cached xs d v r is at opens x state ks all =
 
     all_at : (kept : is_kept (number_of r) ≡ true) (js : List Kept) → AllByRecursion (Knows b cached xs) js
         → AllByRecursion (Knows b cached xs)
-        (map (learn_at (record { bus = v.bus; addr = v.addr; register = number_of r; sent = None }) (reply.Read (bytes_of (word_of x r)))) js)
+        (map (learn_at (record { bus = v.bus; addr = v.addr; register = number_of r; sent = None })
+        (reply.Read (bytes_of (word_of x r)))) js)
     all_at kept [] h = tt
     all_at kept (j ∷ js) h =
         (by_at kept j h.0 (is_at (record { bus = v.bus; addr = v.addr; register = number_of r; sent = None }) j) refl, all_at kept js h.1)
 
     by_kept : (z : Bool) → is_kept (number_of r) ≡ z → (js : List Kept) → AllByRecursion (Knows b cached xs) js
         → AllByRecursion (Knows b cached xs)
-        (learned_by (access_if z (record { bus = v.bus; addr = v.addr; register = number_of r; sent = None })) (reply.Read (bytes_of (word_of x r))) js)
+        (learned_by (access_if z (record { bus = v.bus; addr = v.addr; register = number_of r; sent = None }))
+        (reply.Read (bytes_of (word_of x r))) js)
     by_kept false e js h = h
     by_kept true e js h = all_at e js h

@@ -1,6 +1,7 @@
 -- The full order: the transfers of a journal with the hits between them give the journal's replies with the hits filled in, and the
 -- devices that it leaves but for pointers. The inductions go over replies, hits, entries and callers.
-use Rattle.std.proofs.Common.{◌≡◌, ℕ, zero, suc, ◌<◌, ◌≤◌, Bool, true, false, cond, ◌||◌, List, [], ◌∷◌, ◌++◌, map, Option, Some, None, eqb, refl, sym, ◌∙◌, ap, subst, arith}
+use Rattle.std.proofs.Common.{◌≡◌, ℕ, zero, suc, ◌<◌, ◌≤◌, Bool, true, false, cond, ◌||◌, List, [], ◌∷◌, ◌++◌, map, Option, Some, None, eqb}
+use Rattle.std.proofs.Common.{refl, sym, ◌∙◌, ap, subst, arith}
 use Rattle.std.proofs.lemmas.Bool.{eqb-true, eq-eqb}
 use Rattle.std.proofs.lemmas.List.{append_assoc, append-nil}
 use Rattle.std.proofs.lemmas.List.Sums.{fold-append}
@@ -21,8 +22,11 @@ use Rattle.i2c_spec.specs.Targets.{TargetState, Lm75, opening_state, row_of_kind
 use Rattle.i2c_spec.specs.Flat.{flat}
 use Rattle.i2c_spec.specs.History.{History, opening_history, changed_at, with_told, one_more, history}
 use Rattle.bus_spec.specs.Readings.{replies, order}
-use Rattle.cache_laws.specs.Cache.{Access, Kept, Cached, Filled, Asking, access_of, is_at, with_register, brought, learn_at, learned_by, learned, known_from, known, hit, hits_from, with_hits, all_of, more_filled, filled, answered, asks_of, cached_asks, unknown}
-use Rattle.cache_laws.specs.Order.{hits_of, order_before, last_hits, full_order, register_read, IsHarmless, MayBeCached, SameSensor, SameButPointers, IsReplayed}
+use Rattle.cache_laws.specs.Cache.{Access, Kept, Cached, Filled, Asking, access_of, is_at, with_register, brought, learn_at, learned_by}
+use Rattle.cache_laws.specs.Cache.{learned, known_from, known, hit, hits_from, with_hits, all_of, more_filled, filled, answered, asks_of}
+use Rattle.cache_laws.specs.Cache.{cached_asks, unknown}
+use Rattle.cache_laws.specs.Order.{hits_of, order_before, last_hits, full_order, register_read, IsHarmless, MayBeCached, SameSensor}
+use Rattle.cache_laws.specs.Order.{SameButPointers, IsReplayed}
 use Rattle.cache_laws.proofs.One.{bytes_of, word_of}
 use Rattle.cache_laws.proofs.Transfer.{StepsAlike, HitAlike, hit-alike}
 use Rattle.cache_laws.proofs.Known.{Knows, IsRead, knows-own, knows-other, steps-alike, hit-is, hit-knows}
@@ -101,7 +105,8 @@ module _ (b : BoardView) (tree : IsTree b) (xs : ℕ → Cached) (cached : ℕ �
         defined = h.defined;
         replies_are = λ c. h.replies_are c ∙ e c;
         same = h.same;
-        knows = λ c. subst (λ (rs : List Reply). AllByRecursion (Knows b cached states) (known (xs c).asks (xs c).kept rs)) (e c) (h.knows c);
+        knows = λ c. subst (λ (rs : List Reply). AllByRecursion (Knows b cached states) (known (xs c).asks (xs c).kept rs)) (e c)
+            (h.knows c);
       }
 
   -- one transfer more of a caller in the history
@@ -177,14 +182,17 @@ module _ (b : BoardView) (tree : IsTree b) (xs : ℕ → Cached) (cached : ℕ �
       → Runs states ((c, cut_at.No) ∷ o) (changed_at full c (full c ++ answer ∷ []))
   hit_runs states o full h c answer is = with_asked ((xs c).asks (full c)) refl
     where
-      with_asked : (z : Option TransferView) → (xs c).asks (full c) ≡ z → Runs states ((c, cut_at.No) ∷ o) (changed_at full c (full c ++ answer ∷ []))
-      with_asked None asks = absurd (let f : None ≡ Some answer = sym (ap (λ (z : Option TransferView). hit (known (xs c).asks (xs c).kept (full c)) z) asks) ∙ is in cc)
+      with_asked : (z : Option TransferView) → (xs c).asks (full c) ≡ z → Runs states ((c, cut_at.No) ∷ o)
+          (changed_at full c (full c ++ answer ∷ []))
+      with_asked None asks = absurd (let f : None ≡ Some answer =
+          sym (ap (λ (z : Option TransferView). hit (known (xs c).asks (xs c).kept (full c)) z) asks) ∙ is in cc)
       with_asked (Some t) asks =
           record {
             told = with_told h.told c (flat b h.told.states t cut_at.No);
             defined = one_told o h.told h.defined c cut_at.No t (ap (xs c).asks (h.replies_are c) ∙ asks);
             replies_are = λ e. replies_by e (eqb e c);
-            same = subst (λ (z : TransferView). SameButPointers cached states (flat b h.told.states z cut_at.No).states) (sym read.transfer) alike.states;
+            same = subst (λ (z : TransferView). SameButPointers cached states (flat b h.told.states z cut_at.No).states)
+                (sym read.transfer) alike.states;
             knows = λ e. by e (eqb e c) refl;
           }
         where
@@ -192,7 +200,8 @@ module _ (b : BoardView) (tree : IsTree b) (xs : ℕ → Cached) (cached : ℕ �
           answered_here = ap (λ (z : Option TransferView). hit (known (xs c).asks (xs c).kept (full c)) z) (sym asks) ∙ is
 
           read : IsRead b cached states t answer
-          read = hit-is b tree xs cached states c t (may.harmless c (full c) t asks) (known (xs c).asks (xs c).kept (full c)) (h.knows c) answer
+          read = hit-is b tree xs cached states c t (may.harmless c (full c) t asks) (known (xs c).asks (xs c).kept (full c))
+              (h.knows c) answer
               answered_here
 
           alike : HitAlike b cached states h.told.states read.d read.v read.r
@@ -246,15 +255,19 @@ module _ (b : BoardView) (tree : IsTree b) (xs : ℕ → Cached) (cached : ℕ �
     where
       by : (z : Option Reply) → hit (known (xs c).asks (xs c).kept (full c)) ((xs c).asks (full c)) ≡ z
           → ((answer : Reply) → Runs states ((c, cut_at.No) ∷ o) (changed_at full c (full c ++ answer ∷ [])) → (e : ℕ)
-          → Runs states (map (λ (r : Reply). (e, cut_at.No)) (hits_from (xs e).asks (xs e).kept n (changed_at full c (full c ++ answer ∷ []) e)) ++ ((c, cut_at.No) ∷ o))
+          → Runs states (map (λ (r : Reply). (e, cut_at.No)) (hits_from (xs e).asks (xs e).kept n
+          (changed_at full c (full c ++ answer ∷ []) e)) ++ ((c, cut_at.No) ∷ o))
           (changed_at (changed_at full c (full c ++ answer ∷ [])) e
-          (changed_at full c (full c ++ answer ∷ []) e ++ hits_from (xs e).asks (xs e).kept n (changed_at full c (full c ++ answer ∷ []) e))))
+          (changed_at full c (full c ++ answer ∷ []) e ++ hits_from (xs e).asks (xs e).kept n
+          (changed_at full c (full c ++ answer ∷ []) e))))
           → Runs states (map (λ (r : Reply). (c, cut_at.No)) (hits_from (xs c).asks (xs c).kept (suc n) (full c)) ++ o)
           (changed_at full c (full c ++ hits_from (xs c).asks (xs c).kept (suc n) (full c)))
       by None e more =
           subst (λ (z : Option Reply). Runs states
-          (map (λ (r : Reply). (c, cut_at.No)) (option_map_or (λ (r : Reply). r ∷ hits_from (xs c).asks (xs c).kept n (full c ++ r ∷ [])) z []) ++ o)
-          (changed_at full c (full c ++ option_map_or (λ (r : Reply). r ∷ hits_from (xs c).asks (xs c).kept n (full c ++ r ∷ [])) z []))) (sym e)
+          (map (λ (r : Reply). (c, cut_at.No)) (option_map_or (λ (r : Reply). r ∷ hits_from (xs c).asks (xs c).kept n
+          (full c ++ r ∷ [])) z []) ++ o)
+          (changed_at full c (full c ++ option_map_or (λ (r : Reply). r ∷ hits_from (xs c).asks (xs c).kept n (full c ++ r ∷ [])) z [])))
+          (sym e)
           (runs_as states o full (changed_at full c (full c ++ [])) (λ i. none_by i (eqb i c) refl) h)
         where
           none_by : (i : ℕ) (z : Bool) → eqb i c ≡ z → full i ≡ cond z (full c ++ []) (full i)
@@ -262,8 +275,10 @@ module _ (b : BoardView) (tree : IsTree b) (xs : ℕ → Cached) (cached : ℕ �
           none_by i false f = refl
       by (Some answer) e more =
           subst (λ (z : Option Reply). Runs states
-          (map (λ (r : Reply). (c, cut_at.No)) (option_map_or (λ (r : Reply). r ∷ hits_from (xs c).asks (xs c).kept n (full c ++ r ∷ [])) z []) ++ o)
-          (changed_at full c (full c ++ option_map_or (λ (r : Reply). r ∷ hits_from (xs c).asks (xs c).kept n (full c ++ r ∷ [])) z []))) (sym e)
+          (map (λ (r : Reply). (c, cut_at.No)) (option_map_or (λ (r : Reply). r ∷ hits_from (xs c).asks (xs c).kept n
+          (full c ++ r ∷ [])) z []) ++ o)
+          (changed_at full c (full c ++ option_map_or (λ (r : Reply). r ∷ hits_from (xs c).asks (xs c).kept n (full c ++ r ∷ [])) z [])))
+          (sym e)
           (subst (λ (l : List (ℕ × Cut)). Runs states l
           (changed_at full c (full c ++ (answer ∷ hits_from (xs c).asks (xs c).kept n (full c ++ answer ∷ [])))))
           (all_one (hits_from (xs c).asks (xs c).kept n (full c ++ answer ∷ [])))
@@ -280,12 +295,14 @@ module _ (b : BoardView) (tree : IsTree b) (xs : ℕ → Cached) (cached : ℕ �
           (more answer (hit_runs states o full h c answer e) c))))
         where
           all_one : (rs : List Reply)
-              → map (λ (r : Reply). (c, cut_at.No)) rs ++ ((c, cut_at.No) ∷ o) ≡ (c, cut_at.No) ∷ map (λ (r : Reply). (c, cut_at.No)) rs ++ o
+              → map (λ (r : Reply). (c, cut_at.No)) rs ++ ((c, cut_at.No) ∷ o) ≡ (c, cut_at.No) ∷ map
+              (λ (r : Reply). (c, cut_at.No)) rs ++ o
           all_one [] = refl
           all_one (r ∷ rs) = ap (λ (l : List (ℕ × Cut)). (c, cut_at.No) ∷ l) (all_one rs)
 
           twice : (i : ℕ) (z : Bool)
-              → cond z ((full c ++ answer ∷ []) ++ hits_from (xs c).asks (xs c).kept n (full c ++ answer ∷ [])) (cond z (full c ++ answer ∷ []) (full i))
+              → cond z ((full c ++ answer ∷ []) ++ hits_from (xs c).asks (xs c).kept n (full c ++ answer ∷ []))
+              (cond z (full c ++ answer ∷ []) (full i))
               ≡ cond z (full c ++ (answer ∷ hits_from (xs c).asks (xs c).kept n (full c ++ answer ∷ []))) (full i)
           twice i true = append_assoc (full c) (answer ∷ []) (hits_from (xs c).asks (xs c).kept n (full c ++ answer ∷ []))
           twice i false = refl
@@ -294,7 +311,8 @@ module _ (b : BoardView) (tree : IsTree b) (xs : ℕ → Cached) (cached : ℕ �
   hits_behind : (states : List TargetState) (o : List (ℕ × Cut)) (full : ℕ → List Reply) → Runs states o full → (c : ℕ) (rs : List Reply)
       → full c ≡ (filled (xs c) rs).full → Runs states (hits_of xs c rs ++ o) (changed_at full c (answered (xs c) rs))
   hits_behind states o full h c rs e =
-      subst (λ (hs : List Reply). Runs states (map (λ (r : Reply). (c, cut_at.No)) hs ++ o) (changed_at full c ((filled (xs c) rs).full ++ hs)))
+      subst (λ (hs : List Reply). Runs states (map (λ (r : Reply). (c, cut_at.No)) hs ++ o)
+      (changed_at full c ((filled (xs c) rs).full ++ hs)))
       (sym (ap (λ (z : Filled). z.hits) (filled-is (xs c) rs)))
       (subst (λ (l : List Reply). Runs states
       (map (λ (r : Reply). (c, cut_at.No)) (hits_from (xs c).asks (xs c).kept ((xs c).left (filled (xs c) rs).full) l) ++ o)
@@ -375,13 +393,16 @@ module _ (b : BoardView) (tree : IsTree b) (xs : ℕ → Cached) (cached : ℕ �
           → cached_asks xs c (h0.replies c) ≡ Some t → with_told h0 c (flat b h0.states t cut) ≡ h
           → Runs h.states (order_before xs (entry.Settle c r cut ∷ past)) (full_of (entry.Settle c r cut ∷ past))
       with_before h0 t defined0 asks is =
-          subst (λ (z : History). Runs z.states ((c, cut) ∷ (hits_of xs c (replies past c) ++ order_before xs past)) (full_of (entry.Settle c r cut ∷ past))) is
+          subst (λ (z : History). Runs z.states ((c, cut) ∷ (hits_of xs c (replies past c) ++ order_before xs past))
+          (full_of (entry.Settle c r cut ∷ past))) is
           (runs_as (flat b h0.states t cut).states ((c, cut) ∷ (hits_of xs c (replies past c) ++ order_before xs past))
-          (changed_at hit_full c (hit_full c ++ (flat b h0.states t cut).reply ∷ [])) (full_of (entry.Settle c r cut ∷ past)) (λ e. full_by e (eqb e c) refl)
+          (changed_at hit_full c (hit_full c ++ (flat b h0.states t cut).reply ∷ [])) (full_of (entry.Settle c r cut ∷ past))
+          (λ e. full_by e (eqb e c) refl)
           (step_runs h0.states (hits_of xs c (replies past c) ++ order_before xs past) hit_full behind c cut t
           (ap (xs c).asks (at_own (full_of past) c (answered (xs c) (replies past c))) ∙ asked)))
         where
-          told_at : (e : ℕ) → changed_at h0.replies c (h0.replies c ++ (flat b h0.states t cut).reply ∷ []) e ≡ cond (eqb c e) (replies past e ++ r ∷ []) (replies past e)
+          told_at : (e : ℕ) → changed_at h0.replies c (h0.replies c ++ (flat b h0.states t cut).reply ∷ []) e ≡ cond (eqb c e)
+              (replies past e ++ r ∷ []) (replies past e)
           told_at e = ap (λ (z : History). z.replies e) is ∙ same e
 
           own_told : (h0.replies c ≡ replies past c) × ((flat b h0.states t cut).reply ≡ r)
@@ -412,7 +433,8 @@ module _ (b : BoardView) (tree : IsTree b) (xs : ℕ → Cached) (cached : ℕ �
           full_by : (e : ℕ) (z : Bool) → eqb e c ≡ z
               → cond z (hit_full c ++ (flat b h0.states t cut).reply ∷ []) (hit_full e) ≡ full_of (entry.Settle c r cut ∷ past) e
           full_by e true f =
-              ap (λ (rs : List Reply). rs ++ (flat b h0.states t cut).reply ∷ []) (at_own (full_of past) c (answered (xs c) (replies past c)))
+              ap (λ (rs : List Reply). rs ++ (flat b h0.states t cut).reply ∷ []) (at_own (full_of past) c
+              (answered (xs c) (replies past c)))
               ∙ ap (λ (z : Reply). answered (xs c) (replies past c) ++ z ∷ []) own_told.1
               ∙ sym (ap (λ (z : Filled). z.full) (filled-more (xs c) (replies past c) r))
               ∙ ap (λ (z : Bool). (filled (xs c) (cond z (replies past c ++ r ∷ []) (replies past c))).full) (sym (eq-eqb c c refl))
@@ -420,9 +442,11 @@ module _ (b : BoardView) (tree : IsTree b) (xs : ℕ → Cached) (cached : ℕ �
           full_by e false f =
               let ne : e ≡ c → ⊥ = λ g. (let k : true ≡ false = sym (eq-eqb e c g) ∙ f in absurd cc) in
               at_other (full_of past) c (answered (xs c) (replies past c)) e ne
-              ∙ ap (λ (z : Bool). (filled (xs e) (cond z (replies past e ++ r ∷ []) (replies past e))).full) (sym (apart_not c e (λ g. ne (sym g))))
+              ∙ ap (λ (z : Bool). (filled (xs e) (cond z (replies past e ++ r ∷ []) (replies past e))).full)
+              (sym (apart_not c e (λ g. ne (sym g))))
 
-      asked_from : (h0 : History) → history b (cached_asks xs) (order past) ≡ Some h0 → (o : Option TransferView) → cached_asks xs c (h0.replies c) ≡ o
+      asked_from : (h0 : History) → history b (cached_asks xs) (order past) ≡ Some h0 → (o : Option TransferView)
+          → cached_asks xs c (h0.replies c) ≡ o
           → option_map (λ (t : TransferView). with_told h0 c (flat b h0.states t cut)) o ≡ Some h
           → Runs h.states (order_before xs (entry.Settle c r cut ∷ past)) (full_of (entry.Settle c r cut ∷ past))
       asked_from h0 defined0 None asks is = absurd (let f : None ≡ Some h = is in cc)
@@ -432,7 +456,8 @@ module _ (b : BoardView) (tree : IsTree b) (xs : ℕ → Cached) (cached : ℕ �
       from : (o : Option History) → history b (cached_asks xs) (order past) ≡ o
           → Runs h.states (order_before xs (entry.Settle c r cut ∷ past)) (full_of (entry.Settle c r cut ∷ past))
       from None e =
-          absurd (let f : None ≡ Some h = sym (ap (λ (z : Option History). option_and_then (one_more b (cached_asks xs) c cut) z) e) ∙ defined in cc)
+          absurd (let f : None ≡ Some h = sym (ap (λ (z : Option History). option_and_then (one_more b (cached_asks xs) c cut) z) e)
+          ∙ defined in cc)
       from (Some h0) e =
           asked_from h0 e (cached_asks xs c (h0.replies c)) refl
           (sym (ap (λ (z : Option History). option_and_then (one_more b (cached_asks xs) c cut) z) e) ∙ defined)
@@ -456,7 +481,8 @@ module _ (b : BoardView) (tree : IsTree b) (xs : ℕ → Cached) (cached : ℕ �
   full_above : (past : List Entry) (n e : ℕ) → n ≤ e → all_full past n e ≡ full_of past e
   full_above past zero e le = refl
   full_above past (suc n) e le =
-      at_other (all_full past n) n (answered (xs n) (replies past n)) e (λ f. absurd (omega (arith, le, f))) ∙ full_above past n e (omega (arith, le))
+      at_other (all_full past n) n (answered (xs n) (replies past n)) e (λ f. absurd (omega (arith, le, f)))
+      ∙ full_above past n e (omega (arith, le))
 
   full_below : (past : List Entry) (n e : ℕ) → e < n → all_full past n e ≡ answered (xs e) (replies past e)
   full_below past zero e lt = absurd (omega (arith, lt))

@@ -17,7 +17,8 @@ use Rattle.i2c_base.specs.declared.reply.Cut.TheVariants as cut_at
 use Rattle.i2c_spec.specs.Flat.{cut_in}
 use Rattle.cache_laws.specs.Cache.{is_kept}
 use Rattle.cache_laws.specs.Order.{SensorRegister, Temperature, Hysteresis, Limit, number_of}
-use Rattle.i2c_spec.specs.Conversation.{Listener, Said, TalkTold, AllTold, is_it, silence, say, with_byte, told, talk_all, is_empty, is_good, with_read}
+use Rattle.i2c_spec.specs.Conversation.{Listener, Said, TalkTold, AllTold, is_it, silence, say, with_byte, told, talk_all, is_empty}
+use Rattle.i2c_spec.specs.Conversation.{is_good, with_read}
 
 -- the sensor, whether the transfer has named it, and whether it listens
 pub record One : Type 0 where
@@ -74,7 +75,8 @@ gets_by fails last (suc n) t = then_by fails t (call.Get (ltb 0 n)) (λ s. gets_
 
 abbrev talk_by : (ℕ → Bool) → One → MessageView → Bool → TalkTold One
 talk_by fails w m last =
-    then_by fails (silence w) (call.Start m.addr m.reading) (λ t. cond m.reading (gets_by fails last m.len t) (puts_by fails last m.bytes t))
+    then_by fails (silence w) (call.Start m.addr m.reading) (λ t. cond m.reading (gets_by fails last m.len t)
+    (puts_by fails last m.bytes t))
 
 abbrev all_by : (ℕ → ℕ → Bool) → One → List MessageView → ℕ → List ℕ → AllTold One
 all_by fails w [] i got = record { bytes = got; now = w; end = end.Ok }
@@ -148,9 +150,27 @@ read_by addr r a0 a1 c0 c1 c2 c3 w = all_by (pick a0 a1 c0 c1 c2 c3) w (read_mes
 read_facts : (x : Lm75View) (addr q : ℕ) (r : SensorRegister) (a0 a1 c0 c1 c2 c3 : Bool)
     → HasRead x r (read_by addr r a0 a1 c0 c1 c2 c3 (rested x)) (read_by addr r a0 a1 c0 c1 c2 c3 (rested_at x q))
 read_facts x addr q r true a1 c0 c1 c2 c3 =
-    record { bytes = refl; end = refl; p = x.pointer; q = q; left = refl; other = refl; good = λ e. absurd (let f : false ≡ true = e in cc) }
+    record {
+      bytes = refl;
+      end = refl;
+      p = x.pointer;
+      q = q;
+      left = refl;
+      other = refl;
+      good =
+          λ e. absurd (let f : false ≡ true = e in cc);
+    }
 read_facts x addr q r false true c0 c1 c2 c3 =
-    record { bytes = refl; end = refl; p = x.pointer; q = q; left = refl; other = refl; good = λ e. absurd (let f : false ≡ true = e in cc) }
+    record {
+      bytes = refl;
+      end = refl;
+      p = x.pointer;
+      q = q;
+      left = refl;
+      other = refl;
+      good =
+          λ e. absurd (let f : false ≡ true = e in cc);
+    }
 read_facts x addr q Temperature false false true c1 c2 c3 =
     record { bytes = refl; end = refl; p = 0; q = 0; left = refl; other = refl; good = λ e. absurd (let f : false ≡ true = e in cc) }
 read_facts x addr q Temperature false false false true c2 c3 =
@@ -207,29 +227,149 @@ write_facts : (x : Lm75View) (addr q high low : ℕ) (r : SensorRegister) → is
     → HasWritten x r high low (write_by addr r high low c0 c1 c2 c3 c4 (rested x)) (write_by addr r high low c0 c1 c2 c3 c4 (rested_at x q))
 write_facts x addr q high low Temperature kept c0 c1 c2 c3 c4 = absurd (let f : false ≡ true = kept in cc)
 write_facts x addr q high low Hysteresis kept true c1 c2 c3 c4 =
-    record { bytes = refl; end = refl; p = x.pointer; q = q; word = x.hysteresis; left = refl; other = refl; good = λ e. absurd (let f : false ≡ true = e in cc) }
+    record {
+      bytes = refl;
+      end = refl;
+      p = x.pointer;
+      q = q;
+      word = x.hysteresis;
+      left = refl;
+      other = refl;
+      good =
+          λ e. absurd (let f : false ≡ true = e in cc);
+    }
 write_facts x addr q high low Hysteresis kept false true c2 c3 c4 =
-    record { bytes = refl; end = refl; p = x.pointer; q = q; word = x.hysteresis; left = refl; other = refl; good = λ e. absurd (let f : false ≡ true = e in cc) }
+    record {
+      bytes = refl;
+      end = refl;
+      p = x.pointer;
+      q = q;
+      word = x.hysteresis;
+      left = refl;
+      other = refl;
+      good =
+          λ e. absurd (let f : false ≡ true = e in cc);
+    }
 write_facts x addr q high low Hysteresis kept false false true c3 c4 =
-    record { bytes = refl; end = refl; p = 2; q = 2; word = x.hysteresis; left = refl; other = refl; good = λ e. absurd (let f : false ≡ true = e in cc) }
+    record {
+      bytes = refl;
+      end = refl;
+      p = 2;
+      q = 2;
+      word = x.hysteresis;
+      left = refl;
+      other = refl;
+      good =
+          λ e. absurd (let f : false ≡ true = e in cc);
+    }
 write_facts x addr q high low Hysteresis kept false false false true c4 =
-    record { bytes = refl; end = refl; p = 2; q = 2; word = with_high x.hysteresis high; left = refl; other = refl; good = λ e. absurd (let f : false ≡ true = e in cc) }
+    record {
+      bytes = refl;
+      end = refl;
+      p = 2;
+      q = 2;
+      word = with_high x.hysteresis high;
+      left = refl;
+      other = refl;
+      good =
+          λ e. absurd (let f : false ≡ true = e in cc);
+    }
 write_facts x addr q high low Hysteresis kept false false false false true =
-    record { bytes = refl; end = refl; p = 2; q = 2; word = with_low (with_high x.hysteresis high) low; left = refl; other = refl; good = λ e. absurd (let f : false ≡ true = e in cc) }
+    record {
+      bytes = refl;
+      end = refl;
+      p = 2;
+      q = 2;
+      word = with_low (with_high x.hysteresis high) low;
+      left = refl;
+      other = refl;
+      good =
+          λ e. absurd (let f : false ≡ true = e in cc);
+    }
 write_facts x addr q high low Hysteresis kept false false false false false =
-    record { bytes = refl; end = refl; p = 2; q = 2; word = with_low (with_high x.hysteresis high) low; left = refl; other = refl; good = λ e. refl }
+    record {
+      bytes = refl;
+      end = refl;
+      p = 2;
+      q = 2;
+      word = with_low (with_high x.hysteresis high) low;
+      left = refl;
+      other = refl;
+      good =
+          λ e. refl;
+    }
 write_facts x addr q high low Limit kept true c1 c2 c3 c4 =
-    record { bytes = refl; end = refl; p = x.pointer; q = q; word = x.limit; left = refl; other = refl; good = λ e. absurd (let f : false ≡ true = e in cc) }
+    record {
+      bytes = refl;
+      end = refl;
+      p = x.pointer;
+      q = q;
+      word = x.limit;
+      left = refl;
+      other = refl;
+      good =
+          λ e. absurd (let f : false ≡ true = e in cc);
+    }
 write_facts x addr q high low Limit kept false true c2 c3 c4 =
-    record { bytes = refl; end = refl; p = x.pointer; q = q; word = x.limit; left = refl; other = refl; good = λ e. absurd (let f : false ≡ true = e in cc) }
+    record {
+      bytes = refl;
+      end = refl;
+      p = x.pointer;
+      q = q;
+      word = x.limit;
+      left = refl;
+      other = refl;
+      good =
+          λ e. absurd (let f : false ≡ true = e in cc);
+    }
 write_facts x addr q high low Limit kept false false true c3 c4 =
-    record { bytes = refl; end = refl; p = 3; q = 3; word = x.limit; left = refl; other = refl; good = λ e. absurd (let f : false ≡ true = e in cc) }
+    record {
+      bytes = refl;
+      end = refl;
+      p = 3;
+      q = 3;
+      word = x.limit;
+      left = refl;
+      other = refl;
+      good =
+          λ e. absurd (let f : false ≡ true = e in cc);
+    }
 write_facts x addr q high low Limit kept false false false true c4 =
-    record { bytes = refl; end = refl; p = 3; q = 3; word = with_high x.limit high; left = refl; other = refl; good = λ e. absurd (let f : false ≡ true = e in cc) }
+    record {
+      bytes = refl;
+      end = refl;
+      p = 3;
+      q = 3;
+      word = with_high x.limit high;
+      left = refl;
+      other = refl;
+      good =
+          λ e. absurd (let f : false ≡ true = e in cc);
+    }
 write_facts x addr q high low Limit kept false false false false true =
-    record { bytes = refl; end = refl; p = 3; q = 3; word = with_low (with_high x.limit high) low; left = refl; other = refl; good = λ e. absurd (let f : false ≡ true = e in cc) }
+    record {
+      bytes = refl;
+      end = refl;
+      p = 3;
+      q = 3;
+      word = with_low (with_high x.limit high) low;
+      left = refl;
+      other = refl;
+      good =
+          λ e. absurd (let f : false ≡ true = e in cc);
+    }
 write_facts x addr q high low Limit kept false false false false false =
-    record { bytes = refl; end = refl; p = 3; q = 3; word = with_low (with_high x.limit high) low; left = refl; other = refl; good = λ e. refl }
+    record {
+      bytes = refl;
+      end = refl;
+      p = 3;
+      q = 3;
+      word = with_low (with_high x.limit high) low;
+      left = refl;
+      other = refl;
+      good =
+          λ e. refl;
+    }
 
 pub write-facts : (x : Lm75View) (addr q high low limit : ℕ) (r : SensorRegister) → is_kept (number_of r) ≡ true → (cuts : ℕ → Option ℕ)
     → HasWritten x r high low (talk_all one_listener limit (rested x) (write_messages addr (number_of r) high low) 0 cuts [])

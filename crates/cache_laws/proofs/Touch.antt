@@ -1,6 +1,7 @@
 -- Which transfers leave a bound sensor alone: those that aren't forced, those that don't name its address, and those of the driver of
 -- another device. The inductions go over the devices, and over the messages.
-use Rattle.std.proofs.Common.{◌≡◌, ℕ, Bool, true, false, cond, not, ◌&&◌, ◌||◌, List, [], ◌∷◌, Option, Some, None, eqb, refl, sym, ◌∙◌, ap, zero-add}
+use Rattle.std.proofs.Common.{◌≡◌, ℕ, Bool, true, false, cond, not, ◌&&◌, ◌||◌, List, [], ◌∷◌, Option, Some, None, eqb, refl, sym, ◌∙◌, ap}
+use Rattle.std.proofs.Common.{zero-add}
 use Rattle.std.proofs.lemmas.Bool.{eqb-true}
 use Rattle.std.specs.Prelude.{slice_get}
 use Rattle.std.specs.List.{position_from, list_any, AllByRecursion}
@@ -67,7 +68,8 @@ granted_there b s a force d v at e = (eqb-true v.addr a addr, by force v.bound r
 none_granted : (granted : ℕ → Option ℕ) (d : ℕ) (ms : List Msg) → AllByRecursion (λ (m : Msg). granted m.addr ≡ Some d → ⊥) ms
     → list_any (λ (m : Msg). is_it (granted m.addr) d) ms ≡ false
 none_granted granted d [] all = refl
-none_granted granted d (m ∷ ms) all = ap (λ (z : Bool). z || list_any (λ (n : Msg). is_it (granted n.addr) d) ms) (by (is_it (granted m.addr) d) refl)
+none_granted granted d (m ∷ ms) all = ap (λ (z : Bool). z || list_any (λ (n : Msg). is_it (granted n.addr) d) ms)
+    (by (is_it (granted m.addr) d) refl)
     ∙ none_granted granted d ms all.1
   where
     by : (z : Bool) → is_it (granted m.addr) d ≡ z → z ≡ false

@@ -1,6 +1,7 @@
 -- One transfer in two flat worlds that are the same but for the pointers of sensors: the same reply, and the same but for pointers
 -- again. One law for each kind of harmless transfer.
-use Rattle.std.proofs.Common.{◌≡◌, ℕ, Bool, true, false, ◌||◌, ◌⊎◌, inl, inr, List, [], ◌∷◌, Option, Some, None, eqb, refl, sym, ◌∙◌, ap, subst}
+use Rattle.std.proofs.Common.{◌≡◌, ℕ, Bool, true, false, ◌||◌, ◌⊎◌, inl, inr, List, [], ◌∷◌, Option, Some, None, eqb, refl, sym, ◌∙◌, ap}
+use Rattle.std.proofs.Common.{subst}
 use Rattle.std.proofs.lemmas.Bool.{eqb-true, eq-eqb, or_parts}
 use Rattle.std.specs.Prelude.{slice_get}
 use Rattle.std.specs.List.{AllByRecursion, list_any}
@@ -19,12 +20,15 @@ use Rattle.i2c_spec.specs.TreeFacts.{IsTree}
 use Rattle.i2c_spec.specs.Targets.Lm75Device.{Lm75View, Lm75Phase, Idle, with_high, with_low}
 use Rattle.i2c_spec.specs.Targets.{TargetState, Lm75}
 use Rattle.i2c_spec.specs.Messages.{messages_of}
-use Rattle.i2c_spec.specs.Flat.{FlatTold, granted_on, block_limit, cut_in, errno_of, or_done, barred, flat_by, flat_told, flat_messages, flat}
+use Rattle.i2c_spec.specs.Flat.{FlatTold, granted_on, block_limit, cut_in, errno_of, or_done, barred, flat_by, flat_told, flat_messages}
+use Rattle.i2c_spec.specs.Flat.{flat}
 use Rattle.i2c_spec.specs.Conversation.{is_it, talk_all, is_good}
 use Rattle.i2c_spec.proofs.MessageLemmas.{is_it-at}
 use Rattle.cache_laws.specs.Cache.{is_kept}
-use Rattle.cache_laws.specs.Order.{SensorRegister, Temperature, Hysteresis, Limit, number_of, register_read, register_write, is_granted, SameSensor, SameButPointers}
-use Rattle.cache_laws.proofs.One.{one_listener, alone, read_messages, write_messages, word_of, with_word, bytes_of, HasRead, HasWritten, read-facts, read-whole, write-facts}
+use Rattle.cache_laws.specs.Order.{SensorRegister, Temperature, Hysteresis, Limit, number_of, register_read, register_write, is_granted}
+use Rattle.cache_laws.specs.Order.{SameSensor, SameButPointers}
+use Rattle.cache_laws.proofs.One.{one_listener, alone, read_messages, write_messages, word_of, with_word, bytes_of, HasRead, HasWritten}
+use Rattle.cache_laws.proofs.One.{read-facts, read-whole, write-facts}
 use Rattle.cache_laws.proofs.Alike.{AllAlike, IsBeside, flat_all-alike, all-unnamed, all-beside, all-messages, none-all}
 use Rattle.cache_laws.proofs.Gate.{IsOpen, GoesThrough, read-goes, write-goes}
 
@@ -86,7 +90,8 @@ leaves-alike b cached t cut none xs ys same =
         × ((d : ℕ) → cached d ≡ false → slice_get (flat_by b xs t cut o).states d ≡ slice_get (flat_by b ys t cut o).states d)
     by (Some e) = (refl, same.others)
     by None =
-        let alike = flat_all-alike (λ (d : ℕ). cached d ≡ false) (granted_on b t.bus t.force) (block_limit b) xs ys (messages_of t) (cut_in cut)
+        let alike = flat_all-alike (λ (d : ℕ). cached d ≡ false) (granted_on b t.bus t.force) (block_limit b) xs ys (messages_of t)
+        (cut_in cut)
         (all-messages (λ (a : ℕ). (d : ℕ) → granted_on b t.bus t.force a ≡ Some d → cached d ≡ false) t.msgs t.out
         (own_messages cached (granted_on b t.bus t.force) t.msgs none)) same.others in (
           ap (λ z. or_done (errno_of z) t (flat_messages b xs t cut).bytes) alike.end
@@ -185,7 +190,8 @@ module _ (b : BoardView) (tree : IsTree b) (cached : ℕ → Bool) (d : ℕ) (v 
         by : (k : ℕ) (z : Bool) → eqb k d ≡ z → cached k ≡ true
             → SameSensor (slice_get (flat b xs t cut).states k) (slice_get (flat b ys t cut).states k)
         by k true e is =
-            subst (λ (i : ℕ). SameSensor (slice_get (flat b xs t cut).states i) (slice_get (flat b ys t cut).states i)) (sym (eqb-true k d e)) sensor
+            subst (λ (i : ℕ). SameSensor (slice_get (flat b xs t cut).states i) (slice_get (flat b ys t cut).states i))
+            (sym (eqb-true k d e)) sensor
         by k false e is =
             let ne : k ≡ d → ⊥ = λ f. (let g : true ≡ false = sym (eq-eqb k d f) ∙ e in absurd cc) in
             same_stays (slice_get xs k) (slice_get ys k) (slice_get (flat b xs t cut).states k) (slice_get (flat b ys t cut).states k)
@@ -212,15 +218,18 @@ module _ (b : BoardView) (tree : IsTree b) (cached : ℕ → Bool) (d : ℕ) (v 
       goes = read-goes b tree d v r cut at none
 
       facts : HasRead s.view r
-          (talk_all one_listener (block_limit b) (alone (record (s.view) { phase = Idle })) (read_messages v.addr (number_of r)) 0 (cut_in cut) [])
+          (talk_all one_listener (block_limit b) (alone (record (s.view) { phase = Idle })) (read_messages v.addr (number_of r)) 0
+          (cut_in cut) [])
           (talk_all one_listener (block_limit b) (alone (record (s.view) { phase = Idle; pointer = s.pointer }))
           (read_messages v.addr (number_of r)) 0 (cut_in cut) [])
       facts = read-facts s.view v.addr s.pointer (block_limit b) r (cut_in cut)
 
       beside_here : AllAlike (IsBeside d) (flat_messages b xs t cut)
-          (talk_all one_listener (block_limit b) (alone (record (s.view) { phase = Idle })) (read_messages v.addr (number_of r)) 0 (cut_in cut) [])
+          (talk_all one_listener (block_limit b) (alone (record (s.view) { phase = Idle })) (read_messages v.addr (number_of r)) 0
+          (cut_in cut) [])
       beside_here =
-          all-beside (granted_on b v.bus true) d (block_limit b) xs (record (s.view) { phase = Idle }) (read_messages v.addr (number_of r)) (cut_in cut)
+          all-beside (granted_on b v.bus true) d (block_limit b) xs (record (s.view) { phase = Idle }) (read_messages v.addr (number_of r))
+          (cut_in cut)
           (goes.granted, (goes.granted, tt)) here
 
       beside_there : AllAlike (IsBeside d) (flat_messages b ys t cut)
@@ -343,15 +352,18 @@ module _ (b : BoardView) (tree : IsTree b) (cached : ℕ → Bool) (d : ℕ) (v 
       gets = write-goes b tree d v r high low cut at none
 
       tells : HasWritten s.view r high low
-          (talk_all one_listener (block_limit b) (alone (record (s.view) { phase = Idle })) (write_messages v.addr (number_of r) high low) 0 (cut_in cut) [])
+          (talk_all one_listener (block_limit b) (alone (record (s.view) { phase = Idle })) (write_messages v.addr (number_of r) high low) 0
+          (cut_in cut) [])
           (talk_all one_listener (block_limit b) (alone (record (s.view) { phase = Idle; pointer = s.pointer }))
           (write_messages v.addr (number_of r) high low) 0 (cut_in cut) [])
       tells = write-facts s.view v.addr s.pointer high low (block_limit b) r kept (cut_in cut)
 
       beside_here_written : AllAlike (IsBeside d) (flat_messages b xs u cut)
-          (talk_all one_listener (block_limit b) (alone (record (s.view) { phase = Idle })) (write_messages v.addr (number_of r) high low) 0 (cut_in cut) [])
+          (talk_all one_listener (block_limit b) (alone (record (s.view) { phase = Idle })) (write_messages v.addr (number_of r) high low) 0
+          (cut_in cut) [])
       beside_here_written =
-          all-beside (granted_on b v.bus true) d (block_limit b) xs (record (s.view) { phase = Idle }) (write_messages v.addr (number_of r) high low) (cut_in cut)
+          all-beside (granted_on b v.bus true) d (block_limit b) xs (record (s.view) { phase = Idle })
+          (write_messages v.addr (number_of r) high low) (cut_in cut)
           (gets.granted, tt) here
 
       beside_there_written : AllAlike (IsBeside d) (flat_messages b ys u cut)
@@ -374,15 +386,18 @@ module _ (b : BoardView) (tree : IsTree b) (cached : ℕ → Bool) (d : ℕ) (v 
       there_is_written : flat b ys u cut ≡ there_told_written
       there_is_written = ap (λ (o : Option Errno). flat_by b ys u cut o) none
 
-      state_here_written : slice_get here_told_written.states d ≡ Some (Lm75 (with_word (record (s.view) { phase = Idle; pointer = tells.p }) r tells.word))
+      state_here_written : slice_get here_told_written.states d ≡ Some
+          (Lm75 (with_word (record (s.view) { phase = Idle; pointer = tells.p }) r tells.word))
       state_here_written = beside_here_written.now.state ∙ ap (λ (x : Lm75View). Some (Lm75 x)) tells.left
 
-      state_there_written : slice_get there_told_written.states d ≡ Some (Lm75 (with_word (record (s.view) { phase = Idle; pointer = tells.q }) r tells.word))
+      state_there_written : slice_get there_told_written.states d ≡ Some
+          (Lm75 (with_word (record (s.view) { phase = Idle; pointer = tells.q }) r tells.word))
       state_there_written = beside_there_written.now.state ∙ ap (λ (x : Lm75View). Some (Lm75 x)) tells.other
 
       replies_same_written : here_told_written.reply ≡ there_told_written.reply
       replies_same_written =
-          ap (λ z. or_done (errno_of z) u (flat_messages b xs u cut).bytes) (beside_here_written.end ∙ tells.end ∙ sym beside_there_written.end)
+          ap (λ z. or_done (errno_of z) u (flat_messages b xs u cut).bytes) (beside_here_written.end ∙ tells.end
+          ∙ sym beside_there_written.end)
           ∙ ap (λ (bytes : List ℕ). or_done (errno_of (flat_messages b ys u cut).end) u bytes)
           (beside_here_written.bytes ∙ tells.bytes ∙ sym beside_there_written.bytes)
 
@@ -393,16 +408,19 @@ module _ (b : BoardView) (tree : IsTree b) (cached : ℕ → Bool) (d : ℕ) (v 
             rests = phase_with (record (s.view) { phase = Idle; pointer = tells.p }) r tells.word;
             here = state_here_written;
             pointer = tells.q;
-            there = state_there_written ∙ ap (λ (x : Lm75View). Some (Lm75 x)) (pointer_with (record (s.view) { phase = Idle; pointer = tells.p }) r tells.word tells.q);
+            there = state_there_written ∙ ap (λ (x : Lm75View). Some (Lm75 x)) (pointer_with
+                (record (s.view) { phase = Idle; pointer = tells.p }) r tells.word tells.q);
           }
 
       through_steps_written : StepsAlike cached (flat b xs u cut) (flat b ys u cut)
       through_steps_written =
           record {
-            reply_is = ap (λ (z : FlatTold). z.reply) here_is_written ∙ replies_same_written ∙ sym (ap (λ (z : FlatTold). z.reply) there_is_written);
+            reply_is = ap (λ (z : FlatTold). z.reply) here_is_written ∙ replies_same_written
+                ∙ sym (ap (λ (z : FlatTold). z.reply) there_is_written);
             states = all_same u cut (write_other gets)
                 (subst (λ (z : FlatTold). SameSensor (slice_get z.states d) (slice_get (flat b ys u cut).states d)) (sym here_is_written)
-                (subst (λ (z : FlatTold). SameSensor (slice_get here_told_written.states d) (slice_get z.states d)) (sym there_is_written) sensor_same_written));
+                (subst (λ (z : FlatTold). SameSensor (slice_get here_told_written.states d) (slice_get z.states d))
+                (sym there_is_written) sensor_same_written));
           }
 
       through_writes : Writing b v d s.view r high low (flat b xs u cut)
@@ -465,7 +483,8 @@ same_trans x y z s w =
     view_is : w.view ≡ record (s.view) { pointer = s.pointer }
     view_is = let f : Some (Lm75 w.view) ≡ Some (Lm75 (record (s.view) { pointer = s.pointer })) = sym w.here ∙ s.there in cc
 
-pub record HitAlike (b : BoardView) (cached : ℕ → Bool) (xs ys : List TargetState) (d : ℕ) (v : DeviceView) (r : SensorRegister) : Type 0 where
+pub record HitAlike (b : BoardView) (cached : ℕ → Bool) (xs ys : List TargetState) (d : ℕ) (v : DeviceView)
+    (r : SensorRegister) : Type 0 where
   pub view : Lm75View
   pub here : slice_get xs d ≡ Some (Lm75 view)
   pub reply_is : (flat b ys (register_read v r) cut_at.No).reply ≡ reply.Read (bytes_of (word_of view r))

@@ -1,22 +1,16 @@
 -- The commands that a script has are few, and each is in range. The induction goes over the script's lines.
-use Rattle.std.proofs.Common.{◌≡◌, ℕ, ◌+◌, ◌<◌, ◌≤◌, true, false, cond, List, [], ◌∷◌, length, Option, Some, None, Result, Ok, Err, refl, subst, arith}
-use Rattle.std.specs.Prelude.{All, nat_le}
+use Rattle.caller_core.proofs.Cited.{◌≡◌, ℕ, ◌+◌, ◌<◌, ◌≤◌, true, false, cond, List, [], ◌∷◌, length, Option, Some, None, Result, Ok, Err}
+use Rattle.caller_core.proofs.Cited.{refl, subst, arith, All, All-nil, All-cons, BoardView, block_limit, line_read, words_of, lines_of}
+use Rattle.caller_core.proofs.Cited.{IsInRange, Cmd, HandlesView, handles_behind, CommandView, ScriptView, Place, command_of, at_most}
+use Rattle.caller_core.proofs.Cited.{lines_read, behind_commands, behind_line_read, commands_or_none, text_read, commands_of}
+use Rattle.std.specs.Prelude.{nat_le}
 use Rattle.std.proofs.lemmas.Bool.Decides.{nat_tests}
-use Rattle.std.proofs.lemmas.List.Elements.{All-nil, All-cons}
-use Rattle.i2c_base.specs.Board.{BoardView}
-use Rattle.i2c_spec.specs.Flat.{block_limit}
-use Rattle.tools.specs.Lines.{is_command, some_command, line_read}
-use Rattle.tools.specs.Splits.{words_of, lines_of}
+use Rattle.tools.specs.Lines.{is_command, some_command}
 use Rattle.tools.specs.LineSets.{Word, follow_words}
-use Rattle.tools.specs.Commands.{script_lines, IsInRange}
-use Rattle.tools.specs.declared.command.Cmd.{Cmd}
-use Rattle.dev_handle.specs.Handles.{HandlesView}
+use Rattle.tools.specs.Commands.{script_lines}
 use Rattle.tools.proofs.LineLemmas.{reads_lines, means_in_range}
-use Rattle.caller_core.specs.Runs.{handles_behind}
-use Rattle.caller_core.specs.View.{CommandView, ScriptView}
 use Rattle.caller_core.proofs.CommandLines.{AsksWithin, HasSectionLines, asks, answers, near_behind}
 use Rattle.caller_core.proofs.HandleLemmas.{AreNear, none_near}
-use Rattle.caller_core.specs.Scripts.{Place, command_of, at_most, lines_read, behind_commands, behind_line_read, commands_or_none, text_read, commands_of}
 
 -- a command that a line of the grammar means, over some board: its transfers are within the limits, and its lines are those of a
 -- section
@@ -62,7 +56,11 @@ next_of limit count c (Ok (Some d)) h e =
     (elim (nat_le 1000 count) as (λ b. nat_le 1000 count ≡ b → cond b past (Ok (Some d)) ≡ Ok (Some c)
     → IsNext limit count c) [
       | true ↦ λ full k. absurd cc
-      | false ↦ λ full k. let same : d ≡ c = cc in record { fits = subst (IsInRange limit) same (h d refl); room = grind (arith, nat_tests) }
+      | false ↦ λ full k. let same : d ≡ c = cc in record {
+        fits = subst (IsInRange limit) same (h d refl);
+        room =
+            grind (arith, nat_tests);
+      }
     ]) refl e
 next_of limit count c (Err word) h e =
     let past : Result (Option Cmd) ℕ = Err 0 in

@@ -1,19 +1,10 @@
 -- What is so of each command as it runs, a row a kind: its transfers are within the limits, and what it prints is lines of a section.
-use Rattle.std.proofs.Common.{ℕ, ◌<◌, List}
-use Rattle.std.specs.Prelude.{All}
-use Rattle.bus_journal.specs.Reports.{IsSectionLine}
-use Rattle.i2c_base.specs.Board.{BoardView}
-use Rattle.i2c_base.specs.declared.reply.Reply.{Reply}
-use Rattle.dev_handle.specs.Handles.{HandlesView}
+use Rattle.caller_core.proofs.Cited.{ℕ, ◌<◌, List, All, IsSectionLine, BoardView, Reply, HandlesView, IsInRange, Cmd, IsAsk}
+use Rattle.caller_core.proofs.Cited.{command_dialogue, command_run, handles_behind, CommandRun}
 use Rattle.i2c_drivers.specs.Runs.{driver_run}
 use Rattle.i2c_drivers.proofs.DriverLemmas as drivers
-use Rattle.tools.specs.Commands.{IsInRange}
-use Rattle.tools.specs.declared.command.Cmd.{Cmd}
 use Rattle.tools.specs.declared.command.Cmd.TheVariants as cmd
 use Rattle.tools.proofs.CommandLemmas as tools
-use Rattle.tools.proofs.TransferLemmas.{IsAsk}
-use Rattle.caller_core.specs.Runs.{command_dialogue, command_run, handles_behind}
-use Rattle.caller_core.specs.declared.run.CommandRun.{CommandRun}
 use Rattle.caller_core.proofs.HandleLemmas.{AreNear, handle_asks, handle_lines, near_after}
 
 -- each of its transfers is within the limits

@@ -1,22 +1,13 @@
 -- Scripts are fair callers.
-use Rattle.std.proofs.Common.{◌≡◌, ℕ, true, false, cond, List, [], ◌∷◌, ◌++◌, Some, None, ap, subst, sym, ◌∙◌, inl, inr}
-use Rattle.std.specs.Prelude.{All}
-use Rattle.std.specs.List.{fold}
-use Rattle.std.proofs.lemmas.Bool.Decides.{leb_tells}
-use Rattle.std.proofs.lemmas.List.Elements.{All-head, All-tail, All-drop}
-use Rattle.i2c_base.specs.declared.reply.Reply.{Reply}
-use Rattle.i2c_base.specs.Transfer.{TransferView}
-use Rattle.i2c_spec.specs.Cost.{cost_of}
+use Rattle.caller_core.proofs.Cited.{◌≡◌, ℕ, true, false, cond, List, [], ◌∷◌, ◌++◌, Some, None, ap, subst, sym, ◌∙◌, inl, inr, All, fold}
+use Rattle.caller_core.proofs.Cited.{leb_tells, All-head, All-tail, All-drop, Reply, TransferView, cost_of, place_after, is_over, IsAsk}
+use Rattle.caller_core.proofs.Cited.{Progress, command_talk, quiet_front, turn_to, over_with, replied_to, replied, progress, next_of}
+use Rattle.caller_core.proofs.Cited.{asked_at, commands_of, asked_by, cost_of_script, CommandView, ScriptView, same_Some, none-some}
 use Rattle.i2c_spec.proofs.CostLemmas.{cost_some}
-use Rattle.tools.specs.Dialogues.{place_after, is_over}
-use Rattle.tools.proofs.TransferLemmas.{IsAsk}
 use Rattle.caller_core.specs.Callers.{ScriptsAreFair}
-use Rattle.caller_core.specs.Turns.{Progress, command_talk, quiet_front, turn_to, over_with, replied_to, replied, progress, next_of, asked_at}
-use Rattle.caller_core.specs.Scripts.{commands_of, asked_by, left_of, cost_of_script}
-use Rattle.caller_core.specs.View.{CommandView, ScriptView}
+use Rattle.caller_core.specs.Scripts.{left_of}
 use Rattle.caller_core.proofs.CommandLemmas.{IsSpoken, commands_are_read}
 use Rattle.caller_core.proofs.SumLemmas.{sum_first, sum_falls}
-use Rattle.std.proofs.lemmas.Option.{same_Some, none-some}
 
 -- ---- what is left is part of the script
 

@@ -1,17 +1,15 @@
 -- What is so of the line of a handle, whatever handles are open before it: its transfers are within the limits, and what it prints is
 -- lines of a section.
-use Rattle.std.proofs.Common.{◌≡◌, ℕ, zero, suc, ◌^◌, ◌<◌, ◌≤◌, Bool, true, false, List, [], ◌∷◌, ◌++◌, cond, codes, Option, Some, None, Result, Ok, Err, nat_lt, refl, subst, arith}
-use Rattle.std.specs.Prelude.{⊤, All, IfSome}
-use Rattle.std.specs.Fmt.{decimal}
-use Rattle.std.proofs.lemmas.List.Elements.{All-nil, All-cons, All-append, All-head, All-tail, All-set}
-use Rattle.std.proofs.lemmas.List.Sums.{sum_by-cons}
-use Rattle.bus_journal.specs.Reports.{IsSectionLine}
-use Rattle.bus_journal.proofs.LineFeeds.{line-append, decimal-line}
+use Rattle.caller_core.proofs.Cited.{◌≡◌, ℕ, zero, suc, ◌^◌, ◌<◌, ◌≤◌, Bool, true, false, List, [], ◌∷◌, ◌++◌, cond, codes, Option, Some}
+use Rattle.caller_core.proofs.Cited.{None, Result, Ok, Err, nat_lt, refl, subst, arith, All, IfSome, decimal, All-nil, All-cons, All-append}
+use Rattle.caller_core.proofs.Cited.{All-head, All-tail, sum_by-cons, IsSectionLine, line-append, decimal-line, BoardView, buses}
+use Rattle.caller_core.proofs.Cited.{HandlesView, Desc}
+use Rattle.std.specs.Prelude.{⊤}
+use Rattle.std.proofs.lemmas.List.Elements.{All-set}
 use Rattle.i2c_base.specs.Addr.{IsTargetAddress}
-use Rattle.i2c_base.specs.Board.{BoardView}
 use Rattle.i2c_spec.specs.Grant.{grant_of, is_busy}
-use Rattle.i2c_spec.specs.Tree.{buses}
-use Rattle.dev_handle.specs.Handles.{HandlesView, handle_at, if_open, answer_by_handle, changed_if, changed, fresh, opened, open_answer, slave_answer, slaved, target_at, target_of, bus_and_force, with_pec}
+use Rattle.dev_handle.specs.Handles.{handle_at, if_open, answer_by_handle, changed_if, changed, fresh, opened, open_answer, slave_answer}
+use Rattle.dev_handle.specs.Handles.{slaved, target_at, target_of, bus_and_force, with_pec}
 use Rattle.dev_handle.specs.declared.fault.HandleFault.{HandleFault}
 use Rattle.dev_handle.specs.declared.fault.HandleFault.TheVariants as fault
 use Rattle.dev_handle.specs.declared.handle.OpenHandle.{OpenHandle}
@@ -22,14 +20,15 @@ use Rattle.tools.specs.Combined.{AreMessages, IsDescInRange, IsOpInRange, bytes_
 use Rattle.tools.specs.HandleLines.{IsHandleInRange}
 use Rattle.tools.specs.declared.command.handle.HandleCmd.{HandleCmd}
 use Rattle.tools.specs.declared.command.handle.HandleCmd.TheVariants as handle
-use Rattle.tools.specs.declared.lists.Desc.{Desc}
 use Rattle.tools.specs.declared.lists.DescOp.{DescOp}
 use Rattle.tools.specs.declared.lists.DescOp.TheVariants as op
 use Rattle.tools.specs.declared.run.ToolRun.{ToolRun}
 use Rattle.tools.specs.declared.run.call.HeldOp.TheVariants as held
-use Rattle.tools.proofs.FormLemmas.{AsksWithin, HasSectionLines, call_asks_within, call_lines, says_lines, says_nothing, transfer_asks_within, transfer_lines}
+use Rattle.tools.proofs.FormLemmas.{AsksWithin, HasSectionLines, call_asks_within, call_lines, says_lines, says_nothing}
+use Rattle.tools.proofs.FormLemmas.{transfer_asks_within, transfer_lines}
 use Rattle.tools.proofs.ValueLemmas.{others, result_line}
-use Rattle.caller_core.specs.HandleRuns.{run_by_answer, call_by_handle, callee_of, done_text, fault_text, handle_run, handles_after, message_by_handle, messages_at, number_text, says_line}
+use Rattle.caller_core.specs.HandleRuns.{run_by_answer, call_by_handle, callee_of, done_text, fault_text, handle_run, handles_after}
+use Rattle.caller_core.specs.HandleRuns.{message_by_handle, messages_at, number_text, says_line}
 
 -- ---- the numbers of open handles are those that their types have
 
@@ -113,7 +112,8 @@ place_near (Some h) p near e =
 
 -- ---- transfers
 
-by_asks : {X : Type 0} (f : X → ToolRun) (r : Result X HandleFault) → ((x : X) → r ≡ Ok x → AsksWithin (f x)) → AsksWithin (run_by_answer f r)
+by_asks : {X : Type 0} (f : X → ToolRun) (r : Result X HandleFault) → ((x : X) → r ≡ Ok x → AsksWithin (f x))
+    → AsksWithin (run_by_answer f r)
 by_asks f (Ok x) h = h x refl
 by_asks f (Err e) h = says_nothing (fault_text e ∷ [])
 
@@ -143,12 +143,14 @@ message_asks b v h o is are = by_asks (message_by_handle o) (answer_by_handle v 
 pub handle_asks : (b : BoardView) (v : HandlesView) (limit : ℕ) (c : HandleCmd) → IsHandleInRange limit c → AreNear v
     → AsksWithin (handle_run b v c)
 handle_asks b v limit (handle.Open bus) range are = says_nothing (number_text (open_answer b v bus) ∷ [])
-handle_asks b v limit (handle.Slave h addr force) range are = says_nothing (done_text (answer_by_handle v h (slave_answer b addr force)) ∷ [])
+handle_asks b v limit (handle.Slave h addr force) range are = says_nothing
+    (done_text (answer_by_handle v h (slave_answer b addr force)) ∷ [])
 handle_asks b v limit (handle.Pec h on) range are = says_nothing (done_text (answer_by_handle v h (λ x. Ok tt)) ∷ [])
 handle_asks b v limit (handle.Read h n) range are = message_asks b v h (op.Read n) (range.1, range.2) are
 handle_asks b v limit (handle.Write h bytes) range are = message_asks b v h (op.Write bytes) (range.1.each, range.1.few) are
 handle_asks b v limit (handle.Rdwr h ms) range are =
-    by_asks (messages_at ms) (answer_by_handle v h bus_and_force) (λ p e. messages_ask ms p range.1 (place_near (handle_at v h) p (near_at v h are) e))
+    by_asks (messages_at ms) (answer_by_handle v h bus_and_force) (λ p e. messages_ask ms p range.1
+    (place_near (handle_at v h) p (near_at v h are) e))
 handle_asks b v limit (handle.Proc h reg word) range are =
     by_asks (call_by_handle (held.ProcCall reg word)) (answer_by_handle v h target_of) (λ s e.
     let near : IsReached s = target_near (handle_at v h) s (near_at v h are) e in
@@ -180,7 +182,8 @@ number_line (Err e) = fault_line e
 one_line : (line : List ℕ) → IsSectionLine line → HasSectionLines (says_line line)
 one_line line is = says_lines (line ∷ []) (All-cons IsSectionLine line [] is (All-nil IsSectionLine))
 
-by_lines : {X : Type 0} (f : X → ToolRun) (r : Result X HandleFault) → ((x : X) → HasSectionLines (f x)) → HasSectionLines (run_by_answer f r)
+by_lines : {X : Type 0} (f : X → ToolRun) (r : Result X HandleFault) → ((x : X) → HasSectionLines (f x))
+    → HasSectionLines (run_by_answer f r)
 by_lines f (Ok x) h = h x
 by_lines f (Err e) h = one_line (fault_text e) (fault_line e)
 
@@ -191,9 +194,11 @@ pub handle_lines : (b : BoardView) (v : HandlesView) (c : HandleCmd) → HasSect
 handle_lines b v (handle.Open bus) = one_line (number_text (open_answer b v bus)) (number_line (open_answer b v bus))
 handle_lines b v (handle.Slave h addr force) =
     one_line (done_text (answer_by_handle v h (slave_answer b addr force))) (done_line (answer_by_handle v h (slave_answer b addr force)))
-handle_lines b v (handle.Pec h on) = one_line (done_text (answer_by_handle v h (λ x. Ok tt))) (done_line (answer_by_handle v h (λ x. Ok tt)))
+handle_lines b v (handle.Pec h on) = one_line (done_text (answer_by_handle v h (λ x. Ok tt)))
+    (done_line (answer_by_handle v h (λ x. Ok tt)))
 handle_lines b v (handle.Read h n) = by_lines (message_by_handle (op.Read n)) (answer_by_handle v h target_of) (message_lines (op.Read n))
-handle_lines b v (handle.Write h bytes) = by_lines (message_by_handle (op.Write bytes)) (answer_by_handle v h target_of) (message_lines (op.Write bytes))
+handle_lines b v (handle.Write h bytes) = by_lines (message_by_handle (op.Write bytes)) (answer_by_handle v h target_of)
+    (message_lines (op.Write bytes))
 handle_lines b v (handle.Rdwr h ms) =
     by_lines (messages_at ms) (answer_by_handle v h bus_and_force) (λ p. transfer_lines (record { force = p.1; bus = p.0; messages = ms }))
 handle_lines b v (handle.Proc h reg word) =

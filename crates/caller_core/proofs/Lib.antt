@@ -12,3 +12,4 @@ pub mod ScriptLemmas
 pub mod SectionLemmas
 pub mod SumLemmas
 pub mod TakeLemmas
+mod Cited

@@ -1,18 +1,9 @@
 -- A transfer that a script asks for is on a root that it names.
-use Rattle.std.proofs.Common.{◌≡◌, ℕ, zero, suc, ◌+◌, ◌-◌, ◌<◌, Bool, true, cond, ◌&&◌, ◌||◌, List, [], ◌∷◌, map, Some, None, refl, sym, ◌∙◌, ap, ap₂, arith, inl, inr, eq-eqb, lt-ltb}
-use Rattle.std.specs.Prelude.{All}
-use Rattle.std.specs.Int.{bit_at}
-use Rattle.std.specs.List.{list_any, range_with_len}
-use Rattle.std.proofs.lemmas.Bool.Decides.{leb_tells}
-use Rattle.std.proofs.lemmas.List.Elements.{All-head, All-nil, All-cons}
-use Rattle.i2c_base.specs.declared.reply.Reply.{Reply}
-use Rattle.i2c_base.specs.Board.{BoardView}
-use Rattle.i2c_base.specs.Transfer.{TransferView}
-use Rattle.i2c_spec.specs.Tree.{buses, root_of}
-use Rattle.tools.specs.Dialogues.{place_after}
-use Rattle.caller_core.specs.Roots.{names_root, command_names, HasRoots}
-use Rattle.caller_core.specs.Turns.{command_talk, progress, next_of, asked_at}
-use Rattle.caller_core.specs.View.{CommandView}
+use Rattle.caller_core.proofs.Cited.{◌≡◌, ℕ, zero, suc, ◌+◌, ◌-◌, ◌<◌, Bool, true, cond, ◌&&◌, ◌||◌, List, [], ◌∷◌, map, Some, None, refl}
+use Rattle.caller_core.proofs.Cited.{sym, ◌∙◌, ap, arith, inl, inr, All, bit_at, list_any, range_with_len, leb_tells, All-head, All-nil}
+use Rattle.caller_core.proofs.Cited.{All-cons, Reply, BoardView, TransferView, buses, root_of, place_after, names_root, command_names}
+use Rattle.caller_core.proofs.Cited.{HasRoots, command_talk, progress, next_of, asked_at, CommandView}
+use Rattle.std.proofs.Common.{ap₂, eq-eqb, lt-ltb}
 use Rattle.caller_core.proofs.FairLemmas.{left_all}
 use Rattle.std.proofs.lemmas.Bool.{or_right}
 

@@ -1,20 +1,14 @@
 -- Where a caller stands, before any reply and after each.
-use Rattle.std.proofs.Common.{◌≡◌, ℕ, zero, suc, ◌+◌, ◌<◌, ◌≤◌, Bool, true, false, cond, List, [], ◌∷◌, ◌++◌, length, map, take, drop, Some, None, refl, sym, ap, subst, ◌∙◌, append-nil, length-drop, arith, add-one, inl, inr}
-use Rattle.std.specs.Prelude.{◌==◌, slice_get}
-use Rattle.std.specs.List.{fold, flat_map}
-use Rattle.std.proofs.lemmas.Grind.{flat_map-append}
+use Rattle.caller_core.proofs.Cited.{◌≡◌, ℕ, zero, suc, ◌+◌, ◌<◌, ◌≤◌, Bool, true, false, cond, List, [], ◌∷◌, ◌++◌, length, map, take}
+use Rattle.caller_core.proofs.Cited.{drop, Some, None, refl, sym, ap, subst, ◌∙◌, append-nil, length-drop, arith, add-one, inl, inr, ◌==◌}
+use Rattle.caller_core.proofs.Cited.{slice_get, fold, flat_map, flat_map-append, leb_tells, eqb_tells, drop-append-le, slice_get_within}
+use Rattle.caller_core.proofs.Cited.{none-some, Fits, TransferView, Reply, Dialogue, next_place, place_after, is_over, AreReplies}
+use Rattle.caller_core.proofs.Cited.{command_text, quiet_text, section_text, Answered, Progress, command_talk, quiet, quiet_front, turn_to}
+use Rattle.caller_core.proofs.Cited.{over_with, replied_to, progress, next_of, asked_at, IsAt, CommandView}
 use Rattle.std.proofs.Math.Seq.{drop-length, drop-drop}
 use Rattle.std.proofs.Math.ListN.{drop_of_length-le}
-use Rattle.std.proofs.lemmas.Bool.Decides.{leb_tells, eqb_tells}
-use Rattle.std.proofs.lemmas.List.{length_push, drop-append-le, drop_more}
-use Rattle.std.proofs.lemmas.Option.{slice_get_within, get_or_from_slice_get, none-some}
-use Rattle.i2c_base.specs.Fitting.{Fits}
-use Rattle.i2c_base.specs.Transfer.{TransferView}
-use Rattle.i2c_base.specs.declared.reply.Reply.{Reply}
-use Rattle.tools.specs.Dialogues.{Dialogue, next_place, place_after, is_over, AreReplies}
-use Rattle.caller_core.specs.Scripts.{command_text, quiet_text, section_text}
-use Rattle.caller_core.specs.Turns.{Answered, Progress, command_talk, quiet, quiet_front, turn_to, over_with, replied_to, progress, next_of, asked_at, IsAt}
-use Rattle.caller_core.specs.View.{CommandView}
+use Rattle.std.proofs.lemmas.List.{length_push, drop_more}
+use Rattle.std.proofs.lemmas.Option.{get_or_from_slice_get}
 use Rattle.caller_core.proofs.SumLemmas.{progress_push, place_push}
 
 -- ---- the commands at the front that ask for nothing
@@ -64,7 +58,8 @@ not_over c k h = elim (leb_tells (command_talk c).places k) [ inl x ↦ absurd (
 
 asks_here : (c : CommandView) (cs : List CommandView) (own : List Reply) → place_after (command_talk c) own < (command_talk c).places
     → next_of (c ∷ cs) own ≡ Some ((command_talk c).at (place_after (command_talk c) own))
-asks_here c cs own h = ap (λ b. cond b None (Some ((command_talk c).at (place_after (command_talk c) own)))) (not_over c (place_after (command_talk c) own) h)
+asks_here c cs own h = ap (λ b. cond b None (Some ((command_talk c).at (place_after (command_talk c) own))))
+    (not_over c (place_after (command_talk c) own) h)
 
 pub asks : (cs : List CommandView) (rs : List Reply) (turn from place : ℕ) (c : CommandView) → IsAt cs rs turn from place
     → slice_get cs turn ≡ Some c → asked_at (progress cs rs) ≡ Some ((command_talk c).at place)
@@ -118,7 +113,8 @@ module _ (cs : List CommandView) (rs : List Reply) (turn from place : ℕ) (c : 
       ∙ ap (λ t. cond t (turn_to (over_with p c (drop from rs ++ r ∷ [])) (drop (turn + 1) cs))
       (record p { own = drop from rs ++ r ∷ [] })) (ap (λ j. is_over (command_talk c) j) place_more ∙ e)
 
-  pub text_stays : is_over (command_talk c) (next_place (command_talk c) place r) ≡ false → section_text cs (rs ++ r ∷ []) ≡ section_text cs rs
+  pub text_stays : is_over (command_talk c) (next_place (command_talk c) place r) ≡ false → section_text cs
+      (rs ++ r ∷ []) ≡ section_text cs rs
   text_stays e = ap (λ (p : Progress). flat_map command_text p.over) (by_end false e)
 
   pub text_goes : is_over (command_talk c) (next_place (command_talk c) place r) ≡ true
@@ -136,8 +132,10 @@ module _ (cs : List CommandView) (rs : List Reply) (turn from place : ℕ) (c : 
   -- the replies of the command whose turn it is, with one more
   pub fit_more : Fits ((command_talk c).at place) r → AreReplies (command_talk c) 0 (drop from (rs ++ r ∷ []))
   fit_more fits =
-      let there : Fits ((command_talk c).at (place_after (command_talk c) (drop from rs))) r = subst (λ j. Fits ((command_talk c).at j) r) (a.here c is) fits in
-      subst (λ (own : List Reply). AreReplies (command_talk c) 0 own) (sym own_more) (fit_push (command_talk c) 0 (drop from rs) r (a.fit c is) there)
+      let there : Fits ((command_talk c).at (place_after (command_talk c) (drop from rs))) r =
+      subst (λ j. Fits ((command_talk c).at j) r) (a.here c is) fits in
+      subst (λ (own : List Reply). AreReplies (command_talk c) 0 own) (sym own_more) (fit_push (command_talk c) 0 (drop from rs) r
+      (a.fit c is) there)
 
   pub stays : Fits ((command_talk c).at place) r → is_over (command_talk c) (next_place (command_talk c) place r) ≡ false
       → IsAt cs (rs ++ r ∷ []) turn from (next_place (command_talk c) place r)

@@ -1,9 +1,8 @@
 -- Commands with their words in one text: one more at the end leaves what stands before it.
-use Rattle.std.proofs.Common.{◌≡◌, ℕ, List, [], ◌∷◌, ◌++◌, length, take, drop, arith, refl, sym, length-drop}
+use Rattle.caller_core.proofs.Cited.{◌≡◌, ℕ, List, [], ◌∷◌, ◌++◌, length, take, drop, arith, refl, sym, length-drop, common_steps}
+use Rattle.caller_core.proofs.Cited.{drop-append-le, take_all, map-append, All-head, All-tail}
 use Rattle.std.specs.List.{All}
-use Rattle.std.proofs.lemmas.Grind.{common_steps}
-use Rattle.std.proofs.lemmas.List.{drop-append-le, take-append-le, drop_at, take_all, map-append}
-use Rattle.std.proofs.lemmas.List.Elements.{All-head, All-tail}
+use Rattle.std.proofs.lemmas.List.{take-append-le, drop_at}
 use Rattle.caller_core.specs.Kept.{echo_in, commands_in, IsInside}
 use Rattle.caller_core.specs.declared.commands.Placed.{Placed}
 

@@ -1,12 +1,7 @@
 -- Commands at the front that ask for nothing, one by one, and the room for what commands print.
-use Rattle.std.proofs.Common.{◌≡◌, ℕ, zero, suc, refl, ◌+◌, ◌<◌, Bool, true, false, cond, List, [], ◌∷◌, ◌++◌, map, take, drop, Some, ap, ◌∙◌, arith, add-one, inl, inr}
-use Rattle.std.specs.Prelude.{◌==◌, slice_get, sum_by}
-use Rattle.std.specs.List.{flat_map}
-use Rattle.std.proofs.lemmas.Bool.Decides.{eqb_tells}
-use Rattle.std.proofs.lemmas.List.Sums.{sum_by-cons}
-use Rattle.caller_core.specs.Scripts.{command_text, front_room, room_of, quiet_text}
-use Rattle.caller_core.specs.Turns.{command_talk, quiet, quiet_front}
-use Rattle.caller_core.specs.View.{CommandView}
+use Rattle.caller_core.proofs.Cited.{◌≡◌, ℕ, zero, suc, refl, ◌+◌, ◌<◌, Bool, true, false, cond, List, [], ◌∷◌, ◌++◌, map, take, drop, Some}
+use Rattle.caller_core.proofs.Cited.{ap, ◌∙◌, arith, add-one, inl, inr, ◌==◌, slice_get, sum_by, flat_map, eqb_tells, sum_by-cons}
+use Rattle.caller_core.proofs.Cited.{command_text, front_room, room_of, quiet_text, command_talk, quiet, quiet_front, CommandView}
 use Rattle.caller_core.proofs.PlaceLemmas.{there}
 
 take_cons : {X : Type 0} (n : ℕ) (x : X) (xs : List X) → take (n + 1) (x ∷ xs) ≡ x ∷ take n xs

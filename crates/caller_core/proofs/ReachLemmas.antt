@@ -1,28 +1,21 @@
 -- What is marked of a script's lines: one mark more, marks in turn, and a line after those before it.
-use Rattle.std.proofs.Common.{◌≡◌, ℕ, ◌+◌, ◌<◌, ◌≤◌, ◌==◌, nat_lt, Bool, true, false, ◌&&◌, ◌||◌, List, [], ◌∷◌, ◌++◌, length, take, drop, append_assoc, append-nil, filter_map, replicate, Option, Result, Ok, Err, get_or, slice_get, slice_set, Some, None, refl, sym, ap, subst, ◌∙◌, inl, inr, arith}
-use Rattle.std.specs.List.{list_any}
-use Rattle.std.specs.Option.{option_map_or}
-use Rattle.std.proofs.lemmas.Grind.{common_steps}
-use Rattle.std.proofs.lemmas.Bool.Decides.{eqb_tells}
-use Rattle.std.proofs.lemmas.List.{length-replicate, get_or-replicate, take_more, map-append, drop-drop}
+use Rattle.caller_core.proofs.Cited.{◌≡◌, ℕ, ◌+◌, ◌<◌, ◌≤◌, nat_lt, Bool, true, false, ◌&&◌, ◌||◌, List, [], ◌∷◌, ◌++◌, length, take, drop}
+use Rattle.caller_core.proofs.Cited.{append_assoc, append-nil, Option, Result, Ok, Err, get_or, slice_set, Some, None, refl, sym, ap, subst}
+use Rattle.caller_core.proofs.Cited.{◌∙◌, inl, inr, arith, list_any, option_map_or, common_steps, eqb_tells, take_more, map-append}
+use Rattle.caller_core.proofs.Cited.{drop-drop, list_any-append, slice_get_within, slice_get-get_or, BoardView, DeviceView, block_limit}
+use Rattle.caller_core.proofs.Cited.{line_read, lines_of, Desc, Cmd, addrs_of, commands_in, stands_at, writes_device, AreMarked, HasReach}
+use Rattle.caller_core.proofs.Cited.{HasReachedOn, at_most, Reach}
+use Rattle.std.proofs.Common.{◌==◌, filter_map, replicate, slice_get}
+use Rattle.std.proofs.lemmas.List.{length-replicate, get_or-replicate}
 use Rattle.std.proofs.lemmas.List.Elements.{filter_map-append}
-use Rattle.std.proofs.lemmas.List.Folds.{list_any-append}
-use Rattle.std.proofs.lemmas.Option.{slice_get_past, slice_get_within, slice_get-get_or}
-use Rattle.i2c_base.specs.Board.{BoardView, DeviceView}
+use Rattle.std.proofs.lemmas.Option.{slice_get_past}
 use Rattle.i2c_base.proofs.ListLemmas.{set_here, set_elsewhere}
 use Rattle.i2c_base.specs.Limits.{MOST_DEVICES}
-use Rattle.i2c_spec.specs.Flat.{block_limit}
-use Rattle.tools.specs.Lines.{line_read}
-use Rattle.tools.specs.Splits.{lines_of}
-use Rattle.tools.specs.declared.lists.Desc.{Desc}
-use Rattle.tools.specs.declared.command.Cmd.{Cmd}
 use Rattle.tools.specs.declared.command.Cmd.TheVariants as cmd
 use Rattle.tools.specs.declared.command.driver.DriverCmd.{DriverCmd}
 use Rattle.tools.specs.declared.command.driver.DriverCmd.TheVariants as driver
 use Rattle.tools.specs.declared.command.driver.lm75.Lm75Write.{Lm75Write}
-use Rattle.caller_core.specs.Reach.{addrs_of, command_in, commands_in, commands_of_lines, is_forced_by, is_write_to, stands_at, writes_device, AreMarked, HasReach, HasReachedOn}
-use Rattle.caller_core.specs.Scripts.{at_most}
-use Rattle.caller_core.specs.declared.reach.Reach.{Reach}
+use Rattle.caller_core.specs.Reach.{command_in, commands_of_lines, is_forced_by, is_write_to}
 
 -- a mark that stays, and three of them
 pub or_false : (x : Bool) → x ≡ (x || false)
@@ -111,7 +104,8 @@ has_more b cs c old new forced written has =
 
 -- no command reaches anything
 none_marked : (n i : ℕ) → i < n → slice_get (replicate n false) i ≡ Some false
-none_marked n i low = slice_get-get_or (replicate n false) i false (omega (arith, low, length-replicate n false)) ∙ ap Some (get_or-replicate n i false false low)
+none_marked n i low = slice_get-get_or (replicate n false) i false (omega (arith, low, length-replicate n false))
+    ∙ ap Some (get_or-replicate n i false false low)
 
 pub has_none : (b : BoardView) → length b.devices ≤ MOST_DEVICES
     → HasReach b [] (record { forced = replicate MOST_DEVICES false; written = replicate MOST_DEVICES false })

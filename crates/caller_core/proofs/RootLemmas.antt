@@ -1,26 +1,16 @@
 -- What one command or one transfer more adds to the roots that are named, and to the other totals.
-use Rattle.std.proofs.Common.{◌≡◌, ℕ, zero, suc, ◌+◌, ◌*◌, ◌%◌, ◌^◌, ◌<◌, ◌≤◌, inl, inr, Bool, true, false, cond, List, [], ◌∷◌, ◌++◌, length, take, get_or, max, Some, None, refl, sym, ap, subst, ◌∙◌, arith}
-use Rattle.std.specs.Prelude.{nat_lt, bit_or, ◌||◌, ◌&&◌, ◌==◌}
-use Rattle.std.specs.List.{sum_by, list_any}
-use Rattle.std.specs.Int.{bit_at}
-use Rattle.std.specs.Option.{option_map_or}
-use Rattle.std.proofs.lemmas.Bool.Decides.{eqb_tells}
-use Rattle.std.proofs.lemmas.List.{take_more}
-use Rattle.std.proofs.lemmas.List.Folds.{list_any-append}
+use Rattle.caller_core.proofs.Cited.{◌≡◌, ℕ, zero, suc, ◌+◌, ◌*◌, ◌^◌, ◌<◌, ◌≤◌, inl, inr, Bool, true, false, cond, List, [], ◌∷◌, ◌++◌}
+use Rattle.caller_core.proofs.Cited.{length, take, get_or, Some, None, refl, sym, ap, subst, ◌∙◌, arith, ◌==◌, list_any, bit_at}
+use Rattle.caller_core.proofs.Cited.{option_map_or, eqb_tells, take_more, list_any-append, BoardView, MOST_BYTES, TransferView, cost_of}
+use Rattle.caller_core.proofs.Cited.{buses, root_of, root_named, transfers_of, most_brought, names_root, command_names, HasBits}
+use Rattle.caller_core.proofs.Cited.{command_talk, CommandView, Totals}
+use Rattle.std.proofs.Common.{◌%◌, max}
+use Rattle.std.specs.Prelude.{nat_lt, bit_or, ◌||◌, ◌&&◌}
+use Rattle.std.specs.List.{sum_by}
 use Rattle.std.proofs.lemmas.List.Sums.{sum_by_push}
 use Rattle.std.proofs.lemmas.Nat.Bits.{bit_at-zero, bit_at_or, bit_at-pow_same, bit_at-pow_other}
-use Rattle.i2c_base.specs.Board.{BoardView}
-use Rattle.i2c_base.specs.Limits.{MOST_BYTES}
-use Rattle.i2c_base.specs.Transfer.{TransferView}
 use Rattle.i2c_base.specs.declared.transfer.Msg.{Msg}
-use Rattle.i2c_spec.specs.Cost.{cost_of}
-use Rattle.i2c_spec.specs.Tree.{buses, root_of, root_named}
-use Rattle.tools.specs.Dialogues.{AreAlike, transfers_of}
-use Rattle.tools.specs.Replies.{most_brought}
-use Rattle.caller_core.specs.Roots.{names_root, command_names, HasBits}
-use Rattle.caller_core.specs.Turns.{command_talk}
-use Rattle.caller_core.specs.View.{CommandView}
-use Rattle.caller_core.specs.declared.totals.Totals.{Totals}
+use Rattle.tools.specs.Dialogues.{AreAlike}
 
 -- a byte with one bit
 pub shifted : (k : ℕ) → k < 8 → 1 * 2 ^ k % 256 ≡ 2 ^ k
@@ -166,5 +156,8 @@ one_alike b t u one a is = record {
   few = is.few;
   bytes = is.bytes ∙ alike_by (λ n ms. most_brought (record t { bus = n; msgs = ms })) t u a;
   few_bytes = is.few_bytes;
-  roots = record { exactly = λ r. is.roots.exactly r ∙ alike_by (λ n ms. cond (names_root b r (record t { bus = n; msgs = ms })) 1 0) t u a };
+  roots = record {
+    exactly = λ r. is.roots.exactly r ∙ alike_by (λ n ms. cond (names_root b r (record t { bus = n; msgs = ms })) 1 0) t u
+        a;
+  };
 }

@@ -1,20 +1,14 @@
 -- A line of a script, after the commands before it.
-use Rattle.std.proofs.Common.{◌≡◌, ℕ, ◌+◌, ◌≤◌, List, [], ◌∷◌, ◌++◌, length, take, drop, Some, None, Result, Ok, Err, refl, sym, ap, ◌∙◌, append_assoc, length-append, subst, arith}
-use Rattle.std.proofs.lemmas.List.{drop-drop}
-use Rattle.i2c_base.specs.Board.{BoardView}
-use Rattle.i2c_spec.specs.Flat.{block_limit}
-use Rattle.dev_handle.specs.Handles.{HandlesView}
-use Rattle.tools.specs.Splits.{words_of, joined_words, lines_of}
-use Rattle.tools.specs.Lines.{line_read}
+use Rattle.caller_core.proofs.Cited.{◌≡◌, ℕ, ◌+◌, ◌≤◌, List, [], ◌∷◌, ◌++◌, length, take, drop, Some, None, Result, Ok, Err, refl, sym, ap}
+use Rattle.caller_core.proofs.Cited.{◌∙◌, append_assoc, subst, arith, drop-drop, BoardView, block_limit, HandlesView, words_of}
+use Rattle.caller_core.proofs.Cited.{joined_words, lines_of, line_read, Cmd, command_run, handles_behind, CommandRun, CommandView, Place}
+use Rattle.caller_core.proofs.Cited.{command_of, at_most, lines_read, behind_commands, behind_line_read, commands_or_none, text_read}
+use Rattle.caller_core.proofs.Cited.{IsStep, IsRefused}
+use Rattle.std.proofs.Common.{length-append}
 use Rattle.tools.specs.Readers.{FaultIs}
-use Rattle.tools.specs.declared.command.Cmd.{Cmd}
 use Rattle.tools.specs.declared.fault.LineFault.{LineFault}
 use Rattle.tools.specs.declared.fault.LineFault.TheVariants as line_fault
-use Rattle.caller_core.specs.Runs.{command_run, handles_behind}
-use Rattle.caller_core.specs.declared.run.CommandRun.{CommandRun}
-use Rattle.caller_core.specs.View.{CommandView}
-use Rattle.caller_core.specs.Scripts.{Place, command_of, at_most, lines_read, behind_commands, behind_line_read, fault_at, ScriptFaultIs, commands_or_none, text_read}
-use Rattle.caller_core.specs.ScriptSteps.{IsStep, IsRefused}
+use Rattle.caller_core.specs.Scripts.{fault_at, ScriptFaultIs}
 use Rattle.caller_core.proofs.CommandLemmas.{text_most}
 use Rattle.caller_core.specs.declared.script.ScriptFault.{ScriptFault}
 

@@ -1,28 +1,20 @@
 -- The section of a script is whole lines, of which none is `journal`.
-use Rattle.std.proofs.Common.{◌≡◌, ℕ, ◌+◌, true, false, cond, List, [], ◌∷◌, ◌++◌, get_or, codes, Some, None, Result, Ok, Err, refl, sym, ap, subst, ◌∙◌, append_assoc, arith}
-use Rattle.std.specs.Prelude.{All, ◌==◌, ◌&&◌, map, take}
-use Rattle.std.proofs.lemmas.Grind.{flat_map-append}
-use Rattle.std.specs.List.{flat_map, fold, list_any}
-use Rattle.std.proofs.lemmas.Bool.{or_from}
-use Rattle.std.proofs.lemmas.List.Elements.{All-nil, All-cons, All-head, All-tail, All-append, All-map, All-take, All-drop}
-use Rattle.i2c_base.specs.Board.{BoardView}
-use Rattle.i2c_base.specs.declared.reply.Reply.{Reply}
-use Rattle.i2c_spec.specs.Flat.{block_limit}
-use Rattle.bus_journal.specs.Reports.{IsLine, line_ended, IsSectionLine, HasNoJournalLine}
-use Rattle.bus_journal.proofs.LineFeeds.{line-append}
-use Rattle.tools.specs.Lines.{line_read}
+use Rattle.caller_core.proofs.Cited.{◌≡◌, ℕ, ◌+◌, true, false, cond, List, [], ◌∷◌, ◌++◌, get_or, codes, Some, None, Result, Ok, Err, refl}
+use Rattle.caller_core.proofs.Cited.{sym, ap, subst, ◌∙◌, append_assoc, arith, All, ◌==◌, flat_map-append, flat_map, fold, list_any}
+use Rattle.caller_core.proofs.Cited.{All-nil, All-cons, All-head, All-tail, All-append, All-drop, BoardView, Reply, block_limit, IsLine}
+use Rattle.caller_core.proofs.Cited.{IsSectionLine, line-append, line_read, words_of, joined_words, lines_of, Cmd, place_after, is_over}
+use Rattle.caller_core.proofs.Cited.{HandlesView, Answered, Progress, command_talk, quiet, quiet_front, turn_to, over_with, replied_to}
+use Rattle.caller_core.proofs.Cited.{replied, progress, Place, command_of, at_most, lines_read, behind_commands, behind_line_read}
+use Rattle.caller_core.proofs.Cited.{commands_or_none, commands_of, command_text, handles_behind, CommandView, ScriptView}
+use Rattle.std.specs.Prelude.{◌&&◌, map, take}
+use Rattle.std.proofs.lemmas.Bool.{or_from, or_parts}
+use Rattle.std.proofs.lemmas.List.Elements.{All-map, All-take}
+use Rattle.bus_journal.specs.Reports.{line_ended, HasNoJournalLine}
 use Rattle.tools.specs.Words.{begins_with_word, onto_first}
-use Rattle.tools.specs.Splits.{is_blank, begins_feed, words_of, behind_space, joined_words, lines_of}
-use Rattle.tools.specs.declared.command.Cmd.{Cmd}
-use Rattle.tools.specs.Dialogues.{place_after, is_over}
-use Rattle.dev_handle.specs.Handles.{HandlesView}
-use Rattle.caller_core.specs.Turns.{Answered, Progress, command_talk, quiet, quiet_front, turn_to, over_with, replied_to, replied, progress}
-use Rattle.caller_core.specs.Scripts.{Place, command_of, at_most, lines_read, behind_commands, behind_line_read, commands_or_none, script_read, commands_of, command_text}
+use Rattle.tools.specs.Splits.{is_blank, begins_feed, behind_space}
+use Rattle.caller_core.specs.Scripts.{script_read}
 use Rattle.caller_core.specs.Sections.{SectionsHaveNoJournalLine}
-use Rattle.caller_core.specs.Runs.{handles_behind}
-use Rattle.caller_core.specs.View.{CommandView, ScriptView}
 use Rattle.caller_core.proofs.CommandLines.{HasSectionLines, answers}
-use Rattle.std.proofs.lemmas.Bool.{or_parts}
 use Rattle.tools.proofs.SaysLemmas.{onto_lines}
 
 -- ---- no line feed stands in a line, its words, and what is printed of them
@@ -75,7 +67,8 @@ record HasLines (c : CommandView) : Type 0 where
   words : IsLine c.echo
   answer : HasSectionLines c.run
 
-behind_one : (b : BoardView) (v : HandlesView) (line : List ℕ) (c : Cmd) (more : Result (List CommandView) Place) (cs : List CommandView) → IsLine line
+behind_one : (b : BoardView) (v : HandlesView) (line : List ℕ) (c : Cmd) (more : Result (List CommandView) Place) (cs : List CommandView)
+    → IsLine line
     → ((ds : List CommandView) → more ≡ Ok ds → All HasLines ds)
     → behind_commands (command_of b v line c ∷ []) more ≡ Ok cs → All HasLines cs
 behind_one b v line c (Err p) cs is h e = absurd cc
@@ -97,7 +90,8 @@ read_lines b number count (l ∷ ls) v cs lines e =
       | Ok o ↦ (elim o as (λ x. behind_line_read b v number l (Ok x) (lines_read b (number + 1) count ls v)
           (lines_read b (number + 1) (count + 1) ls) ≡ Ok cs → All HasLines cs) [
             | None ↦ λ k. read_lines b (number + 1) count ls v cs more k
-            | Some c ↦ λ k. behind_one b v l c (lines_read b (number + 1) (count + 1) ls (handles_behind b v c)) cs (All-head IsLine l ls lines)
+            | Some c ↦ λ k. behind_one b v l c (lines_read b (number + 1) (count + 1) ls (handles_behind b v c)) cs
+                (All-head IsLine l ls lines)
                 (λ ds h. read_lines b (number + 1) (count + 1) ls (handles_behind b v c) ds more h) k
           ])
     ]) e
@@ -155,7 +149,8 @@ words_line a = codes "> " ++ a.command.echo
 abbrev answer_of : Answered → List (List ℕ)
 answer_of a = (command_talk a.command).lines a.replies
 
-command_lines : (a : Answered) (rest : List ℕ) → command_text a ++ rest ≡ line_ended (words_line a) ++ (flat_map line_ended (answer_of a) ++ rest)
+command_lines : (a : Answered) (rest : List ℕ) → command_text a ++ rest ≡ line_ended (words_line a)
+    ++ (flat_map line_ended (answer_of a) ++ rest)
 command_lines a rest =
     let echo : List ℕ = a.command.echo in
     let answer : List ℕ = flat_map line_ended (answer_of a) in

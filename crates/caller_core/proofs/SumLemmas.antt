@@ -1,15 +1,12 @@
 -- Each reply takes its transfer's part of a sum over what is still to come.
-use Rattle.std.proofs.Common.{◌≡◌, ℕ, zero, suc, ◌+◌, ◌-◌, ◌<◌, ◌≤◌, true, false, cond, List, [], ◌∷◌, ◌++◌, drop, map, Some, None, refl, sym, ap, ◌∙◌, arith, add-one, inl, inr}
-use Rattle.std.specs.Prelude.{sum_by}
-use Rattle.std.specs.List.{range_with_len}
-use Rattle.std.proofs.lemmas.Bool.Decides.{leb_tells, eqb_tells}
-use Rattle.std.proofs.lemmas.List.Sums.{fold_push, sum_by-cons}
-use Rattle.i2c_base.specs.Transfer.{TransferView}
-use Rattle.i2c_base.specs.declared.reply.Reply.{Reply}
-use Rattle.tools.specs.Dialogues.{Dialogue, next_place, place_after, is_over, sum_behind}
-use Rattle.caller_core.specs.Turns.{Answered, Progress, command_talk, quiet_front, turn_to, over_with, replied, progress, next_of, asked_at, sum_of, sum_from, sum_left}
-use Rattle.caller_core.specs.View.{CommandView}
-use Rattle.std.proofs.lemmas.Option.{same_Some, none-some}
+use Rattle.caller_core.proofs.Cited.{◌≡◌, ℕ, zero, suc, ◌+◌, ◌-◌, ◌<◌, ◌≤◌, true, false, cond, List, [], ◌∷◌, ◌++◌, drop, map, Some, None}
+use Rattle.caller_core.proofs.Cited.{refl, sym, ap, ◌∙◌, arith, add-one, inl, inr, sum_by, range_with_len, leb_tells, eqb_tells}
+use Rattle.caller_core.proofs.Cited.{sum_by-cons, TransferView, Reply, Dialogue, next_place, place_after, is_over, Answered, Progress}
+use Rattle.caller_core.proofs.Cited.{command_talk, quiet_front, turn_to, over_with, replied, progress, next_of, asked_at, sum_of, sum_left}
+use Rattle.caller_core.proofs.Cited.{CommandView, same_Some, none-some}
+use Rattle.std.proofs.lemmas.List.Sums.{fold_push}
+use Rattle.tools.specs.Dialogues.{sum_behind}
+use Rattle.caller_core.specs.Turns.{sum_from}
 
 -- ---- sums over places
 
@@ -80,11 +77,14 @@ falls_in f over (c ∷ cs) own r t e =
     elim (leb_tells (command_talk c).places k) [
       | inl x ↦ absurd (none-some t (sym (ap (λ b. cond b None (Some ((command_talk c).at k))) x.0) ∙ e))
       | inr x ↦
-          let same : (command_talk c).at k ≡ t = same_Some ((command_talk c).at k) t (sym (ap (λ b. cond b None (Some ((command_talk c).at k))) x.0) ∙ e) in
-          let here : sum_behind f (command_talk c) k ≡ f ((command_talk c).at k) + sum_behind f (command_talk c) (k + 1) = sum_here f (command_talk c) k x.1 in
+          let same : (command_talk c).at k ≡ t = same_Some ((command_talk c).at k) t
+          (sym (ap (λ b. cond b None (Some ((command_talk c).at k))) x.0) ∙ e) in
+          let here : sum_behind f (command_talk c) k ≡ f ((command_talk c).at k) + sum_behind f (command_talk c) (k + 1) =
+          sum_here f (command_talk c) k x.1 in
           let later : sum_behind f (command_talk c) (k + 1 + (command_talk c).skips k r) ≤ sum_behind f (command_talk c) (k + 1) =
           sum_later f (command_talk c) (k + 1) ((command_talk c).skips k r) in
-          let next : sum_behind f (command_talk c) (place_after (command_talk c) (own ++ r ∷ [])) ≡ sum_behind f (command_talk c) (k + 1 + (command_talk c).skips k r) =
+          let next : sum_behind f (command_talk c) (place_after (command_talk c) (own ++ r ∷ [])) ≡ sum_behind f (command_talk c)
+          (k + 1 + (command_talk c).skips k r) =
           ap (λ j. sum_behind f (command_talk c) j) (place_push c own r) in
           elim (is_over (command_talk c) (place_after (command_talk c) (own ++ r ∷ []))) as
           (λ b. sum_left f (cond b (turn_to (over_with p c (own ++ r ∷ [])) cs) (record p { own = own ++ r ∷ [] })) + f t

@@ -1,26 +1,18 @@
 -- A script that takes a reply: what it needs for that, and what it keeps.
-use Rattle.std.proofs.Common.{◌≡◌, ℕ, ◌+◌, ◌<◌, ◌≤◌, Bool, true, false, cond, List, [], ◌∷◌, ◌++◌, length, drop, get_or, Option, Some, None, refl, sym, ap, subst, ◌∙◌, arith}
-use Rattle.std.specs.Prelude.{All, IfSome, IsSome, slice_get, sum_by}
-use Rattle.std.proofs.lemmas.List.{length-map, map-append}
-use Rattle.std.proofs.lemmas.Option.{slice_get-get_or, same_Some}
-use Rattle.i2c_base.specs.Fitting.{Fits}
+use Rattle.caller_core.proofs.Cited.{◌≡◌, ℕ, ◌+◌, ◌<◌, ◌≤◌, Bool, true, false, cond, List, [], ◌∷◌, ◌++◌, length, drop, get_or, Option}
+use Rattle.caller_core.proofs.Cited.{Some, None, refl, sym, ap, subst, ◌∙◌, arith, All, IfSome, slice_get, sum_by, map-append}
+use Rattle.caller_core.proofs.Cited.{slice_get-get_or, same_Some, Fits, TransferView, Reply, reply_by, ReplyHead, PackedView, AreReplies}
+use Rattle.caller_core.proofs.Cited.{next_place, is_over, replies_of, most_brought, TextView, IsAsk, IsCaller, HasRoom, command_talk}
+use Rattle.caller_core.proofs.Cited.{quiet_front, progress, asked_at, sum_left, IsAt, commands_of, asked_by, command_text, quiet_text}
+use Rattle.caller_core.proofs.Cited.{section_text, room_of, CommandView, ScriptView, CallerView, Totals}
+use Rattle.std.specs.Prelude.{IsSome}
+use Rattle.std.proofs.lemmas.List.{length-map}
 use Rattle.i2c_base.specs.Need.{Covers, Need, bytes_given}
-use Rattle.i2c_base.specs.Transfer.{TransferView}
-use Rattle.i2c_base.specs.declared.reply.Reply.{Reply}
-use Rattle.i2c_base.specs.Replies.{reply_by, most_read}
-use Rattle.i2c_base.specs.declared.reply.ReplyHead.{ReplyHead}
+use Rattle.i2c_base.specs.Replies.{most_read}
 use Rattle.i2c_base.specs.declared.reply.ReplyHead.TheVariants as head
-use Rattle.packed.specs.View.{PackedView}
-use Rattle.tools.specs.Dialogues.{AreReplies, next_place, is_over}
-use Rattle.tools.specs.Replies.{reply_of, replies_of, most_brought}
-use Rattle.tools.specs.View.{TextView}
-use Rattle.tools.proofs.TransferLemmas.{IsAsk, brings_few}
+use Rattle.tools.specs.Replies.{reply_of}
+use Rattle.tools.proofs.TransferLemmas.{brings_few}
 use Rattle.caller_core.specs.Callers.{need_at, owed_by}
-use Rattle.caller_core.specs.Kept.{IsCaller, HasRoom}
-use Rattle.caller_core.specs.Turns.{command_talk, quiet_front, progress, asked_at, sum_left, IsAt}
-use Rattle.caller_core.specs.Scripts.{commands_of, asked_by, command_text, quiet_text, section_text, room_of}
-use Rattle.caller_core.specs.View.{CommandView, ScriptView, CallerView}
-use Rattle.caller_core.specs.declared.totals.Totals.{Totals}
 use Rattle.caller_core.proofs.CommandLemmas.{IsSpoken, commands_are_read, commands_most}
 use Rattle.caller_core.proofs.FairLemmas.{asked_from}
 use Rattle.caller_core.proofs.PlaceLemmas.{asks, turn_asked, not_over, over_past, own_more, fit_more, text_stays, text_goes, stays, goes}
@@ -104,7 +96,8 @@ module _ (script : ScriptView) (cs : List CommandView) (taken : PackedView Reply
   has_room room k bytes these =
       omega (arith, ap length these, k.few, room.bytes, sum_falls most_brought cs before r k.transfer k.next)
 
-  module _ (room : HasRoom cs taken printed turn) (k : IsTaking cs before turn r) (c : CommandView) (there : slice_get cs turn ≡ Some c) where
+  module _ (room : HasRoom cs taken printed turn) (k : IsTaking cs before turn r) (c : CommandView)
+      (there : slice_get cs turn ≡ Some c) where
     fits_here : Fits ((command_talk c).at place) r
     fits_here =
         let same : k.transfer ≡ (command_talk c).at place = same_Some k.transfer ((command_talk c).at place)
@@ -149,8 +142,10 @@ module _ (script : ScriptView) (cs : List CommandView) (taken : PackedView Reply
       pub stays_so : (next : ℕ) → next ≡ next_place (command_talk c) place r → next < (command_talk c).places
           → IsCaller script cs then.items printed.bytes turn from next totals
       stays_so next to more =
-          let no : is_over (command_talk c) (next_place (command_talk c) place r) ≡ false = ap (λ n. is_over (command_talk c) n) (sym to) ∙ not_over c next more in
-          let at : IsAt cs (before ++ r ∷ []) turn from (next_place (command_talk c) place r) = stays cs before turn from place c r is.at there
+          let no : is_over (command_talk c) (next_place (command_talk c) place r) ≡ false =
+          ap (λ n. is_over (command_talk c) n) (sym to) ∙ not_over c next more in
+          let at : IsAt cs (before ++ r ∷ []) turn from (next_place (command_talk c) place r) =
+          stays cs before turn from place c r is.at there
           fits_here no in
           record {
             whole = is.whole;
@@ -168,13 +163,15 @@ module _ (script : ScriptView) (cs : List CommandView) (taken : PackedView Reply
       pub stays_room : HasRoom cs then printed turn
       stays_room = record { replies = room_then; bytes = bytes_then; text = room.text }
 
-      pub goes_on : (text : TextView) (next end to : ℕ) → next ≡ next_place (command_talk c) place r → (command_talk c).places ≤ next → end ≡ length then.items
+      pub goes_on : (text : TextView) (next end to : ℕ) → next ≡ next_place (command_talk c) place r → (command_talk c).places ≤ next
+          → end ≡ length then.items
           → to ≡ turn + 1 + quiet_front (drop (turn + 1) cs)
           → text.bytes ≡ (printed.bytes ++ command_text (record { command = c; replies = drop from (replies_of then.items) }))
           ++ quiet_text (drop (turn + 1) cs)
           → IsCaller script cs then.items text.bytes to end 0 totals
       goes_on text next end to is_next past all is_to told =
-          let over : is_over (command_talk c) (next_place (command_talk c) place r) ≡ true = ap (λ n. is_over (command_talk c) n) (sym is_next)
+          let over : is_over (command_talk c) (next_place (command_talk c) place r) ≡ true =
+          ap (λ n. is_over (command_talk c) n) (sym is_next)
           ∙ over_past c next past in
           let last : end ≡ length (before ++ r ∷ []) = all ∙ sym (length-map then.items reply_of) ∙ ap length now in
           let at : IsAt cs (before ++ r ∷ []) (turn + 1 + quiet_front (drop (turn + 1) cs)) (length (before ++ r ∷ [])) 0 = goes cs before

@@ -1,6 +1,7 @@
 -- How many calls of the port a message made is told by its entry alone: by its end, its bytes and whether a stop is due. The
 -- inductions go over the bytes of a write, and over the bytes that are left to read.
-use Rattle.std.proofs.Common.{◌≡◌, ℕ, zero, suc, ◌+◌, ◌-◌, Bool, true, false, cond, ◌||◌, List, [], ◌∷◌, ◌++◌, length, length-append, Option, eqb, ltb, refl, sym, ◌∙◌, arith}
+use Rattle.std.proofs.Common.{◌≡◌, ℕ, zero, suc, ◌+◌, ◌-◌, Bool, true, false, cond, ◌||◌, List, [], ◌∷◌, ◌++◌, length, length-append}
+use Rattle.std.proofs.Common.{Option, eqb, ltb, refl, sym, ◌∙◌, arith}
 use Rattle.i2c_base.specs.declared.event.Answer.{Answer}
 use Rattle.i2c_base.specs.declared.event.Answer.TheVariants as answer
 use Rattle.i2c_base.specs.declared.port.PortCall.{PortCall}
@@ -9,7 +10,8 @@ use Rattle.i2c_base.specs.declared.entry.End.{End}
 use Rattle.i2c_base.specs.declared.entry.End.TheVariants as end
 use Rattle.i2c_spec.specs.Messages.{MessageView}
 use Rattle.check_laws.specs.Failed.{calls_told}
-use Rattle.i2c_spec.specs.Conversation.{Listener, Said, TalkTold, is_it, silence, say, with_byte, told, call_then, ended, puts, gets, gets_counted, by_answer, talk}
+use Rattle.i2c_spec.specs.Conversation.{Listener, Said, TalkTold, is_it, silence, say, with_byte, told, call_then, ended, puts, gets}
+use Rattle.i2c_spec.specs.Conversation.{gets_counted, by_answer, talk}
 
 module _ {W : Type 0} (l : Listener W) (cut : Option ℕ) (last : Bool) where
   abbrev IsCounted : TalkTold W → Type 0
@@ -23,12 +25,15 @@ module _ {W : Type 0} (l : Listener W) (cut : Option ℕ) (last : Bool) where
   by_test true u w hu hw = hu
   by_test false u w hu hw = hw
 
-  then_counted : (t : Said W) (c : PortCall) (next : Said W → TalkTold W) → IsCounted (next (say l t c)) → IsCounted (call_then l cut t c next)
+  then_counted : (t : Said W) (c : PortCall) (next : Said W → TalkTold W) → IsCounted (next (say l t c))
+      → IsCounted (call_then l cut t c next)
   then_counted t c next h =
       by_test (is_it cut (length t.calls)) (told (say l t call.Fault) (end.Cut (length t.calls))) (next (say l t c)) (omega arith) h
 
-  ended_counted : (stops : Bool) (t : Said W) (e : End) → calls_told last e (length t.bytes) ≡ length t.calls + cond stops 1 0 → IsCounted (ended l cut stops t e)
-  ended_counted true t e h = then_counted t call.Stop (λ s. told s e) (let f : calls_told last e (length t.bytes) ≡ length t.calls + 1 = h in sym (f ∙ (omega arith)))
+  ended_counted : (stops : Bool) (t : Said W) (e : End) → calls_told last e (length t.bytes) ≡ length t.calls + cond stops 1 0
+      → IsCounted (ended l cut stops t e)
+  ended_counted true t e h = then_counted t call.Stop (λ s. told s e) (let f : calls_told last e (length t.bytes) ≡ length t.calls + 1 =
+      h in sym (f ∙ (omega arith)))
   ended_counted false t e h = (let f : calls_told last e (length t.bytes) ≡ length t.calls + 0 = h in sym (f ∙ (omega arith)))
 
   even_more : (t : Said W) (c : PortCall) (byte : ℕ) → IsEven t → IsEven (with_byte (say l t c) byte)
@@ -71,15 +76,21 @@ module _ {W : Type 0} (l : Listener W) (cut : Option ℕ) (last : Bool) where
   answer_counts : (limit : ℕ) (m : MessageView) (a : Answer) (t : Said W) → IsEven t → IsCounted (by_answer l cut last limit m a t)
   answer_counts limit m answer.Ack t even =
       by_test m.reading (cond m.counted (gets_counted l cut last limit m.len t) (gets l cut last m.len t)) (puts l cut last m.bytes t)
-      (by_test m.counted (gets_counted l cut last limit m.len t) (gets l cut last m.len t) (counted_counts limit m.len t even) (gets_counts m.len t even))
+      (by_test m.counted (gets_counted l cut last limit m.len t) (gets l cut last m.len t) (counted_counts limit m.len t even)
+      (gets_counts m.len t even))
       (puts_counted m.bytes t even)
-  answer_counts limit m answer.Slow t even = ended_counted true t end.Slow (let f : length t.calls ≡ length t.bytes + 1 = even in omega arith)
-  answer_counts limit m answer.Nack t even = ended_counted true t end.Nack (let f : length t.calls ≡ length t.bytes + 1 = even in omega arith)
-  answer_counts limit m (answer.Byte byte) t even = ended_counted true t end.Nack (let f : length t.calls ≡ length t.bytes + 1 = even in omega arith)
-  answer_counts limit m answer.Nothing t even = ended_counted true t end.Nack (let f : length t.calls ≡ length t.bytes + 1 = even in omega arith)
+  answer_counts limit m answer.Slow t even = ended_counted true t end.Slow (let f : length t.calls ≡ length t.bytes + 1 = even in
+      omega arith)
+  answer_counts limit m answer.Nack t even = ended_counted true t end.Nack (let f : length t.calls ≡ length t.bytes + 1 = even in
+      omega arith)
+  answer_counts limit m (answer.Byte byte) t even = ended_counted true t end.Nack (let f : length t.calls ≡ length t.bytes + 1 = even in
+      omega arith)
+  answer_counts limit m answer.Nothing t even = ended_counted true t end.Nack (let f : length t.calls ≡ length t.bytes + 1 = even in
+      omega arith)
 
   -- so many calls as its end and its bytes tell
-  pub calls-told : (limit : ℕ) (w : W) (m : MessageView) → length (talk l limit w m last cut).calls ≡ calls_told last (talk l limit w m last cut).end (length (talk l limit w m last cut).bytes)
+  pub calls-told : (limit : ℕ) (w : W) (m : MessageView) → length (talk l limit w m last cut).calls ≡ calls_told last
+      (talk l limit w m last cut).end (length (talk l limit w m last cut).bytes)
   calls-told limit w m =
       then_counted (silence w) (call.Start m.addr m.reading) (λ t. by_answer l cut last limit m (l.answer w m.addr m.reading) t)
       (answer_counts limit m (l.answer w m.addr m.reading) (say l (silence w) (call.Start m.addr m.reading)) refl)

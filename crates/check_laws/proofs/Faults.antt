@@ -1,5 +1,6 @@
 -- The calls of a past fail as its entries tell. The induction goes over the entries.
-use Rattle.std.proofs.Common.{◌≡◌, ℕ, ◌+◌, ◌-◌, ◌<◌, Bool, true, false, not, ◌||◌, cond, List, [], ◌∷◌, ◌++◌, length, append_assoc, append-nil, reverse, Option, None, refl, sym, ◌∙◌, ap, subst, inl, inr, arith}
+use Rattle.std.proofs.Common.{◌≡◌, ℕ, ◌+◌, ◌-◌, ◌<◌, Bool, true, false, not, ◌||◌, cond, List, [], ◌∷◌, ◌++◌, length, append_assoc}
+use Rattle.std.proofs.Common.{append-nil, reverse, Option, None, refl, sym, ◌∙◌, ap, subst, inl, inr, arith}
 use Rattle.std.specs.Prelude.{◌==◌}
 use Rattle.std.specs.List.{AllByRecursion}
 use mathlib.Core.List.{reverse-cons}
@@ -37,7 +38,8 @@ use Rattle.bus_laws.proofs.past.Whole.{line_root}
 use Rattle.bus_laws.proofs.past.Known.{message_entry}
 use Rattle.journal_laws.proofs.past.CutTalks.{Went, BreaksOff, IsFront, talk-front}
 use Rattle.journal_laws.proofs.past.Failures.{went-older}
-use Rattle.check_laws.specs.Failed.{calls_told, is_last_told, calls_made, call_failed, gap_told, since_told, gaps_from, gaps_told, fails_by, FailBy}
+use Rattle.check_laws.specs.Failed.{calls_told, is_last_told, calls_made, call_failed, gap_told, since_told, gaps_from, gaps_told, fails_by}
+use Rattle.check_laws.specs.Failed.{FailBy}
 use Rattle.check_laws.proofs.CallsTold.{calls-told}
 use Rattle.check_laws.proofs.Gaps.{IsBy, none-by, both-by, went-by, broken-by, since-longer, since-before}
 use Rattle.journal_laws.proofs.past.GoesOn.{own_cut}
@@ -79,7 +81,8 @@ module _ (b : BoardView) (tree : IsTree b) (plain : IsPlainBoard b) (lines : Lin
       has =
           let reach = call-reaches b tree plain lines asks some callers past steps m.caller bus ms left next in
           let low : 0 < length reach.transfer.msgs = some m.caller ((now b asks past).settled m.caller) reach.transfer reach.asked in
-          let many : length (messages_of reach.transfer) ≡ length reach.transfer.msgs = length-messages reach.transfer.msgs reach.transfer.out in
+          let many : length (messages_of reach.transfer) ≡ length reach.transfer.msgs =
+          length-messages reach.transfer.msgs reach.transfer.out in
           let whole : length (messages_of reach.transfer) ≡ length ms = ap (λ (xs : List MessageView). length xs) reach.whole in
           omega (arith, low, many, whole)
 
@@ -114,7 +117,8 @@ module _ (b : BoardView) (tree : IsTree b) (plain : IsPlainBoard b) (lines : Lin
       made = calls_told (is_last_told m) m.end (length m.bytes)
 
       own : gaps_from b r 0 (message_entry m ∷ later) ≡ gap_told 0 (cut_of m.end) ++ gaps_from b r (since_told 0 made (cut_of m.end)) later
-      own = ap (λ (x : Bool). cond x (gap_told 0 (cut_of m.end) ++ gaps_from b r (since_told 0 made (cut_of m.end)) later) (gaps_from b r 0 later)) on
+      own = ap (λ (x : Bool). cond x (gap_told 0 (cut_of m.end) ++ gaps_from b r (since_told 0 made (cut_of m.end)) later)
+          (gaps_from b r 0 later)) on
 
       counted : length t.calls ≡ made
       counted =
@@ -123,28 +127,35 @@ module _ (b : BoardView) (tree : IsTree b) (plain : IsPlainBoard b) (lines : Lin
           ∙ ap (λ (e : End). calls_told (is_last_told m) e (length t.bytes)) (sym tells.end_told)
           ∙ ap (λ (xs : List ℕ). calls_told (is_last_told m) m.end (length xs)) (sym tells.bytes_told)
 
-      whole : t ≡ all → IsBy t.calls (gap_told 0 (cut_of m.end) ++ gaps_from b r (since_told 0 made (cut_of m.end)) later) (gaps_from b r 0 later)
+      whole : t ≡ all → IsBy t.calls (gap_told 0 (cut_of m.end) ++ gaps_from b r (since_told 0 made (cut_of m.end)) later)
+          (gaps_from b r 0 later)
       whole same =
-          let none : cut_of m.end ≡ None = ap cut_of (tells.end_told ∙ ap (λ (x : TalkTold World). x.end) same) ∙ own_cut all.end front.own_end in
+          let none : cut_of m.end ≡ None = ap cut_of (tells.end_told ∙ ap (λ (x : TalkTold World). x.end) same)
+          ∙ own_cut all.end front.own_end in
           let calls : t.calls ≡ front.more = ap (λ (x : TalkTold World). x.calls) same ∙ front.grown ∙ append-nil front.more in
-          subst (λ (o : Option ℕ). IsBy t.calls (gap_told 0 o ++ gaps_from b r (since_told 0 made o) later) (gaps_from b r 0 later)) (sym none)
+          subst (λ (o : Option ℕ). IsBy t.calls (gap_told 0 o ++ gaps_from b r (since_told 0 made o) later) (gaps_from b r 0 later))
+          (sym none)
           (went-on b r later t.calls made counted (subst (λ (xs : List PortCall). AllByRecursion Went xs) (sym calls) front.went))
 
-      broke : BreaksOff (cut_of m.end) [] front.more t → IsBy t.calls (gap_told 0 (cut_of m.end) ++ gaps_from b r (since_told 0 made (cut_of m.end)) later) (gaps_from b r 0 later)
+      broke : BreaksOff (cut_of m.end) [] front.more t → IsBy t.calls (gap_told 0 (cut_of m.end) ++ gaps_from b r
+          (since_told 0 made (cut_of m.end)) later) (gaps_from b r 0 later)
       broke broken =
-          let calls : t.calls ≡ call.Fault ∷ broken.own = broken.said ∙ ap (λ (xs : List PortCall). call.Fault ∷ xs) (append-nil broken.own) in
+          let calls : t.calls ≡ call.Fault ∷ broken.own = broken.said ∙ ap (λ (xs : List PortCall). call.Fault ∷ xs)
+          (append-nil broken.own) in
           let place : length (broken.own ++ []) ≡ broken.place = broken.counted in
           let same : length (broken.own ++ []) ≡ length broken.own = ap (λ (xs : List PortCall). length xs) (append-nil broken.own) in
           let gap : length broken.own ≡ 0 + broken.place = omega (arith, place, same) in
           let went : AllByRecursion Went broken.own = (went-older broken.later (broken.next ∷ broken.own)
           (subst (λ (xs : List PortCall). AllByRecursion Went xs) broken.whole_is front.went)).1 in
-          subst (λ (o : Option ℕ). IsBy t.calls (gap_told 0 o ++ gaps_from b r (since_told 0 made o) later) (gaps_from b r 0 later)) (sym broken.cut_is)
+          subst (λ (o : Option ℕ). IsBy t.calls (gap_told 0 o ++ gaps_from b r (since_told 0 made o) later) (gaps_from b r 0 later))
+          (sym broken.cut_is)
           (subst (λ (xs : List PortCall). IsBy xs ((0 + broken.place) ∷ gaps_from b r 0 later) (gaps_from b r 0 later)) (sym calls)
           (subst (λ (g : ℕ). IsBy (call.Fault ∷ broken.own) (g ∷ gaps_from b r 0 later) (gaps_from b r 0 later)) gap
           (broken-by broken.own (gaps_from b r 0 later) went)))
 
   -- the call of a line step
-  line-by : (job : Job) (c mux level : ℕ) (failed : Bool) (r : ℕ) → is_on_root b r (entry.Line c mux level failed) ≡ true → (later : List Entry)
+  line-by : (job : Job) (c mux level : ℕ) (failed : Bool) (r : ℕ) → is_on_root b r (entry.Line c mux level failed) ≡ true
+      → (later : List Entry)
       → IsBy (line_call job failed ∷ []) (gaps_from b r 0 (entry.Line c mux level failed ∷ later)) (gaps_from b r 0 later)
   line-by job c mux level true r on later =
       subst (λ (gs : List ℕ). IsBy (line_call job true ∷ []) gs (gaps_from b r 0 later))
@@ -153,7 +164,10 @@ module _ (b : BoardView) (tree : IsTree b) (plain : IsPlainBoard b) (lines : Lin
   line-by job c mux level false r on later =
       subst (λ (gs : List ℕ). IsBy (line_call job false ∷ []) gs (gaps_from b r 0 later))
       (sym (ap (λ (x : Bool). cond x (gaps_from b r (0 + 1) later) (gaps_from b r 0 later)) on))
-      (went-on b r later (line_call job false ∷ []) 1 refl (λ f. (let g : call.Line (line_mux job) (line_level job) ≡ call.Fault = f in cc), tt))
+      (went-on b r later (line_call job false ∷ []) 1 refl (
+        λ f. (let g : call.Line (line_mux job) (line_level job) ≡ call.Fault = f in cc),
+        tt,
+      ))
 
   -- WHAT AN ENTRY ADDS to the log of a root
   record Adds (past : List Entry) (e : Entry) (later : List Entry) (r : ℕ) : Type 0 where
@@ -161,7 +175,8 @@ module _ (b : BoardView) (tree : IsTree b) (plain : IsPlainBoard b) (lines : Lin
     calls : (now b asks (e ∷ past)).calls r ≡ new ++ (now b asks past).calls r
     by : IsBy new (gaps_from b r 0 (e ∷ later)) (gaps_from b r 0 later)
 
-  adds : (past : List Entry) → IsStepwise b callers asks past → (e : Entry) → May b callers asks (now b asks past) e → (later : List Entry) (r : ℕ)
+  adds : (past : List Entry) → IsStepwise b callers asks past → (e : Entry) → May b callers asks (now b asks past) e
+      → (later : List Entry) (r : ℕ)
       → Adds past e later r
   adds past steps (entry.Take c l) may later r = record { new = []; calls = refl; by = none-by (gaps_from b r 0 later) }
   adds past steps (entry.Free c l) may later r = record { new = []; calls = refl; by = none-by (gaps_from b r 0 later) }
@@ -170,7 +185,8 @@ module _ (b : BoardView) (tree : IsTree b) (plain : IsPlainBoard b) (lines : Lin
       elim (eqb_tells (root_of b bus) r) [
         | inl h ↦ record {
           new = (talk_of b n job left x).calls;
-          calls = sent ∙ subst (λ (k : ℕ). changed_at n.calls (root_of b (job_bus job)) ((talk_of b n job left x).calls ++ n.calls (root_of b (job_bus job))) k
+          calls = sent ∙ subst (λ (k : ℕ). changed_at n.calls (root_of b (job_bus job)) ((talk_of b n job left x).calls ++ n.calls
+              (root_of b (job_bus job))) k
               ≡ (talk_of b n job left x).calls ++ n.calls k) (root_is ∙ h.1)
               (at_same n.calls (root_of b (job_bus job)) ((talk_of b n job left x).calls ++ n.calls (root_of b (job_bus job))));
           by = talk-by past steps job left _ may.2.2 may.2.3 r h.0 later;
@@ -180,7 +196,8 @@ module _ (b : BoardView) (tree : IsTree b) (plain : IsPlainBoard b) (lines : Lin
           calls = sent ∙ at_other n.calls (root_of b (job_bus job)) ((talk_of b n job left x).calls ++ n.calls (root_of b (job_bus job))) r
               (λ same. h.1 (sym root_is ∙ sym same));
           by = subst (λ (gs : List ℕ). IsBy [] gs (gaps_from b r 0 later))
-              (sym (ap (λ (t : Bool). cond t (gap_told 0 (call_failed e) ++ gaps_from b r (since_told 0 (calls_made e) (call_failed e)) later)
+              (sym (ap (λ (t : Bool). cond t (gap_told 0 (call_failed e) ++ gaps_from b r (since_told 0 (calls_made e)
+              (call_failed e)) later)
               (gaps_from b r 0 later)) h.0))
               (none-by (gaps_from b r 0 later));
         }
@@ -208,7 +225,8 @@ module _ (b : BoardView) (tree : IsTree b) (plain : IsPlainBoard b) (lines : Lin
       elim (eqb_tells (root_of b (home_of_mux b mux)) r) [
         | inl h ↦ record {
           new = line_call job failed ∷ [];
-          calls = lined ∙ subst (λ (k : ℕ). changed_at n.calls (root_of b (job_bus job)) (line_call job failed ∷ n.calls (root_of b (job_bus job))) k
+          calls = lined ∙ subst (λ (k : ℕ). changed_at n.calls (root_of b (job_bus job)) (line_call job failed ∷ n.calls
+              (root_of b (job_bus job))) k
               ≡ line_call job failed ∷ n.calls k) (root_is ∙ h.1)
               (at_same n.calls (root_of b (job_bus job)) (line_call job failed ∷ n.calls (root_of b (job_bus job))));
           by = line-by job c mux level failed r h.0 later;
@@ -218,7 +236,8 @@ module _ (b : BoardView) (tree : IsTree b) (plain : IsPlainBoard b) (lines : Lin
           calls = lined ∙ at_other n.calls (root_of b (job_bus job)) (line_call job failed ∷ n.calls (root_of b (job_bus job))) r
               (λ same. h.1 (sym root_is ∙ sym same));
           by = subst (λ (gs : List ℕ). IsBy [] gs (gaps_from b r 0 later))
-              (sym (ap (λ (t : Bool). cond t (gap_told 0 (call_failed e) ++ gaps_from b r (since_told 0 (calls_made e) (call_failed e)) later)
+              (sym (ap (λ (t : Bool). cond t (gap_told 0 (call_failed e) ++ gaps_from b r (since_told 0 (calls_made e)
+              (call_failed e)) later)
               (gaps_from b r 0 later)) h.0))
               (none-by (gaps_from b r 0 later));
         }
@@ -237,7 +256,8 @@ module _ (b : BoardView) (tree : IsTree b) (plain : IsPlainBoard b) (lines : Lin
       root_is = sym (line_root b tree plain lines asks some callers past steps c r c job may.2.1)
           ∙ ap (λ (m : ℕ). root_of b (home_of_mux b m)) (sym may.2.2.of_mux)
 
-      lined : (now b asks (e ∷ past)).calls r ≡ changed_at n.calls (root_of b (job_bus job)) (line_call job failed ∷ n.calls (root_of b (job_bus job))) r
+      lined : (now b asks (e ∷ past)).calls r ≡ changed_at n.calls (root_of b (job_bus job))
+          (line_call job failed ∷ n.calls (root_of b (job_bus job))) r
       lined = ap (λ (o : Option Act). (lined_by b n o (first_note (current b asks n c)) failed).calls r) may.2.1
 
   told-by : (past later : List Entry) → IsStepwise b callers asks past → (r : ℕ)

@@ -1,5 +1,7 @@
 -- Where a caller steps otherwise than it is told, the step that is told is the first that isn't legal. The inductions go over lists.
-use Rattle.std.proofs.Common.{◌≡◌, ℕ, zero, suc, ◌+◌, ◌-◌, ◌<◌, ◌≤◌, Bool, true, false, cond, ◌&&◌, List, [], ◌∷◌, ◌++◌, length, length-append, append_assoc, reverse, take, drop, get_or, Some, None, refl, sym, ◌∙◌, ap, subst, inl, inr, arith}
+use Rattle.std.proofs.Common.{◌≡◌, ℕ, zero, suc, ◌+◌, ◌-◌, ◌<◌, ◌≤◌, Bool, true, false, cond, ◌&&◌, List, [], ◌∷◌, ◌++◌, length}
+use Rattle.std.proofs.Common.{length-append, append_assoc, reverse, take, drop, get_or, Some, None, refl, sym, ◌∙◌, ap, subst, inl, inr}
+use Rattle.std.proofs.Common.{arith}
 use Rattle.std.specs.Prelude.{slice_get, ◌==◌}
 use mathlib.Core.List.{reverse-cons}
 use Rattle.std.proofs.lemmas.Bool.{cases_lt, cases_Bool, and_parts, eqb-true, eq-eqb, and_from}
@@ -45,7 +47,8 @@ parted_at (y ∷ xs) zero x e = (let f : y ≡ x = (let g : Some y ≡ Some x = 
 parted_at (y ∷ xs) (suc n) x e = ap (λ (zs : List _). y ∷ zs) (parted_at xs n x e)
 
 -- WHAT BELONGS to a step
-belongs-joins : (e s : Entry) (past : List Entry) → BelongsTo s (e ∷ past) → (is_stepping e && (is_settle s && (caller_of e == caller_of s))) ≡ true
+belongs-joins : (e s : Entry) (past : List Entry) → BelongsTo s (e ∷ past)
+    → (is_stepping e && (is_settle s && (caller_of e == caller_of s))) ≡ true
 belongs-joins e (entry.Settle c r cut) past belongs =
     and_from (is_stepping e) (true && (caller_of e == c)) belongs.1 (eq-eqb (caller_of e) c belongs.0)
 belongs-joins e (entry.Take c l) past belongs = absurd belongs
@@ -53,7 +56,8 @@ belongs-joins e (entry.Free c l) past belongs = absurd belongs
 belongs-joins e (entry.Line c mux level failed) past belongs = absurd belongs
 belongs-joins e (entry.Message c bus why part parts addr reading bytes heard x) past belongs = absurd belongs
 
-joins-belongs : (e s : Entry) (past : List Entry) → (is_stepping e && (is_settle s && (caller_of e == caller_of s))) ≡ true → BelongsTo s (e ∷ past)
+joins-belongs : (e s : Entry) (past : List Entry) → (is_stepping e && (is_settle s && (caller_of e == caller_of s))) ≡ true
+    → BelongsTo s (e ∷ past)
 joins-belongs e (entry.Settle c r cut) past joins =
     let parts = and_parts (is_stepping e) (true && (caller_of e == c)) joins in
     (eqb-true (caller_of e) c parts.1, parts.0)
@@ -112,11 +116,14 @@ module _ (b : BoardView) (tree : IsTree b) (plain : IsPlainBoard b) (lines : Lin
       × IsTurn b callers asks past (record { caller = caller_of next; entries = told }))
       → IsLegal b callers asks (reverse told ++ past) → ⊥
   wrong_by told later is comes legal =
-      let whole : IsStepwise b callers asks (reverse told ++ past) = legal-steps b tree plain lines asks some limits callers (reverse told ++ past) legal in
-      let rests : (now b asks (reverse told ++ past)).due ≡ None = legal-due b tree plain lines asks some limits callers (reverse told ++ past) legal in
+      let whole : IsStepwise b callers asks (reverse told ++ past) = legal-steps b tree plain lines asks some limits callers
+      (reverse told ++ past) legal in
+      let rests : (now b asks (reverse told ++ past)).due ≡ None = legal-due b tree plain lines asks some limits callers
+      (reverse told ++ past) legal in
       let turn = comes whole in
       let all : reverse (reverse told ++ past) ++ later ≡ es =
-      ap (λ (xs : List Entry). xs ++ later) (reverse-append (reverse told) past ∙ ap (λ (xs : List Entry). xs ++ reverse (reverse told)) (reverse-reverse front)
+      ap (λ (xs : List Entry). xs ++ later) (reverse-append (reverse told) past ∙ ap (λ (xs : List Entry). xs ++ reverse (reverse told))
+      (reverse-reverse front)
       ∙ ap (λ (xs : List Entry). front ++ xs) (reverse-reverse told))
       ∙ append_assoc front told later ∙ ap (λ (xs : List Entry). front ++ xs) (sym is) in
       let fails : FailBy b asks (gaps_told b es) (reverse told ++ past) =
@@ -129,7 +136,8 @@ module _ (b : BoardView) (tree : IsTree b) (plain : IsPlainBoard b) (lines : Lin
           | inl stuck ↦ stuck-adds b tree plain lines asks some callers (gaps_told b es) past next turn.0 stuck
           | inr made ↦ (let t : Turn = made.turn in
               let same : t ≡ record { caller = caller_of next; entries = told } =
-              same-turn b tree plain lines asks some callers (gaps_told b es) past steps made.turn (record { caller = caller_of next; entries = told })
+              same-turn b tree plain lines asks some callers (gaps_told b es) past steps made.turn
+              (record { caller = caller_of next; entries = told })
               made.stepped.comes turn.1 made.stepped.own made.stepped.rests rests made.stepped.fails fails in
               made.differs (later, is ∙ ap (λ (xs : List Entry). xs ++ later) (sym (ap (λ (x : Turn). x.entries) same))))
         ]
@@ -235,7 +243,8 @@ module _ (b : BoardView) (tree : IsTree b) (plain : IsPlainBoard b) (lines : Lin
       let more = and_parts (is_settle s) (caller_of next == caller_of s) parts.1 in
       let both : up_to es (length front + 1) ≡ s ∷ next ∷ past = up-to 1
       ∙ ap (λ (xs : List Entry). reverse (take 2 (next ∷ xs)) ++ past) is in
-      let here : slice_get es (length front + 1) ≡ Some s = get_back front (next ∷ rest) 1 ∙ ap (λ (xs : List Entry). slice_get (next ∷ xs) 1) is in
+      let here : slice_get es (length front + 1) ≡ Some s = get_back front (next ∷ rest) 1 ∙ ap
+      (λ (xs : List Entry). slice_get (next ∷ xs) 1) is in
       record {
         ends = record {
           there = (let e : length es ≡ length front + length (next ∷ rest) = length-append front (next ∷ rest) in
@@ -275,11 +284,13 @@ module _ (b : BoardView) (tree : IsTree b) (plain : IsPlainBoard b) (lines : Lin
                 (one_wrong at (λ s ss f joins.
                 let g : x ∷ xs ≡ s ∷ ss = sym is ∙ f in
                 let same : x ≡ s = cc in
-                let h : false ≡ true = sym apart ∙ ap (λ (y : Entry). is_stepping next && (is_settle y && (caller_of next == caller_of y))) same ∙ joins in cc)))
+                let h : false ≡ true = sym apart ∙ ap (λ (y : Entry). is_stepping next && (is_settle y && (caller_of next == caller_of y)))
+                same ∙ joins in cc)))
           ]
 
 -- WHERE ALL BUT A FEW ask for nothing, the first wrong entry is that of the few
-pub fewer-wrong : (b : BoardView) (tree : IsTree b) (plain : IsPlainBoard b) (lines : LinesAreLocked b) (asks : Asks) (some : AsksForMessages asks)
+pub fewer-wrong : (b : BoardView) (tree : IsTree b) (plain : IsPlainBoard b) (lines : LinesAreLocked b) (asks : Asks)
+    (some : AsksForMessages asks)
     (limits : AsksWithinLimits asks) (callers fewer : ℕ) → fewer ≤ callers → ((c : ℕ) → fewer ≤ c → (rs : List Reply) → asks c rs ≡ None)
     → (es : List Entry) (i : ℕ) → IsFirstWrong b callers asks es i → IsFirstWrong b fewer asks es i
 fewer-wrong b tree plain lines asks some limits callers fewer low silent es i first =
@@ -296,8 +307,10 @@ fewer-wrong b tree plain lines asks some limits callers fewer low silent es i fi
       });
       before = λ j less ends.
           let legal = first.before j less ends in
-          let steps = (callers-known b callers fewer asks silent (up_to es j) (legal-steps b tree plain lines asks some limits callers (up_to es j) legal)).0 in
-          legal-with b tree plain lines asks some fewer (up_to es j) steps (legal-due b tree plain lines asks some limits callers (up_to es j) legal)
+          let steps = (callers-known b callers fewer asks silent (up_to es j) (legal-steps b tree plain lines asks some limits callers
+          (up_to es j) legal)).0 in
+          legal-with b tree plain lines asks some fewer (up_to es j) steps (legal-due b tree plain lines asks some limits callers
+          (up_to es j) legal)
           (replies-kept b tree plain lines asks some limits fewer (up_to es j) steps);
     }
   where

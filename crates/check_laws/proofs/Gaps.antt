@@ -1,6 +1,7 @@
 -- Gaps and logs: a log fails by the front of some gaps, and the rest of them is still to come. The inductions go over the entries, and
 -- over the calls that are put on top of a log.
-use Rattle.std.proofs.Common.{◌≡◌, ◌↔◌, ℕ, zero, suc, ◌+◌, ◌-◌, ◌<◌, Bool, true, false, cond, List, [], ◌∷◌, ◌++◌, length, length-append, append-nil, zero-add, reverse, Option, Some, None, refl, sym, ◌∙◌, ap, inl, inr, arith}
+use Rattle.std.proofs.Common.{◌≡◌, ◌↔◌, ℕ, zero, suc, ◌+◌, ◌-◌, ◌<◌, Bool, true, false, cond, List, [], ◌∷◌, ◌++◌, length, length-append}
+use Rattle.std.proofs.Common.{append-nil, zero-add, reverse, Option, Some, None, refl, sym, ◌∙◌, ap, inl, inr, arith}
 use Rattle.std.specs.Prelude.{slice_get, ◌==◌}
 use Rattle.std.specs.List.{AllByRecursion}
 use Rattle.std.proofs.lemmas.Bool.{cases_lt, lt-ltb, le-ltb, eq-eqb, ne_eqb, cases_order, cases_Bool}
@@ -65,7 +66,8 @@ module _ (b : BoardView) (r : ℕ) where
   since-longer [] s c n = refl
   since-longer (e ∷ es) s c n =
       elim (cases_Bool (is_on_root b r e)) [
-        | inl on ↦ ap (λ (gs : List ℕ). fails_by gs (s + n)) (gaps-on (s + c) e es on) ∙ by (since-longer es s (c + calls_made e) n) (call_failed e)
+        | inl on ↦ ap (λ (gs : List ℕ). fails_by gs (s + n)) (gaps-on (s + c) e es on) ∙ by (since-longer es s (c + calls_made e) n)
+            (call_failed e)
             ∙ sym (ap (λ (gs : List ℕ). fails_by gs n) (gaps-on c e es on))
         | inr off ↦ ap (λ (gs : List ℕ). fails_by gs (s + n)) (gaps-off (s + c) e es off) ∙ since-longer es s c n
             ∙ sym (ap (λ (gs : List ℕ). fails_by gs n) (gaps-off c e es off))
@@ -75,7 +77,8 @@ module _ (b : BoardView) (r : ℕ) where
           → fails_by (gap_told (s + c) o ++ gaps_from b r (since_told (s + c) (calls_made e) o) es) (s + n)
           ≡ fails_by (gap_told c o ++ gaps_from b r (since_told c (calls_made e) o) es) n
       by more None =
-          ap (λ (k : ℕ). fails_by (gaps_from b r k es) (s + n)) (let same : s + c + calls_made e ≡ s + (c + calls_made e) = omega arith in same)
+          ap (λ (k : ℕ). fails_by (gaps_from b r k es) (s + n)) (let same : s + c + calls_made e ≡ s + (c + calls_made e) = omega arith in
+          same)
           ∙ more
       by more (Some q) =
           ap (λ (k : ℕ). fails_by (k ∷ gaps_from b r 0 es) (s + n)) (let same : s + c + q ≡ s + (c + q) = omega arith in same)
@@ -85,7 +88,8 @@ module _ (b : BoardView) (r : ℕ) where
   since-before [] s n low = refl
   since-before (e ∷ es) s n low =
       elim (cases_Bool (is_on_root b r e)) [
-        | inl on ↦ ap (λ (gs : List ℕ). fails_by gs n) (gaps-on s e es on) ∙ by (since-before es (s + calls_made e) n (omega (arith, low))) (call_failed e)
+        | inl on ↦ ap (λ (gs : List ℕ). fails_by gs n) (gaps-on s e es on) ∙ by (since-before es (s + calls_made e) n (omega (arith, low)))
+            (call_failed e)
         | inr off ↦ ap (λ (gs : List ℕ). fails_by gs n) (gaps-off s e es off) ∙ since-before es s n low
       ]
     where
@@ -110,7 +114,8 @@ number-newer newer calls n =
     ∙ get_back (reverse calls) (reverse newer) n
 
 -- one log on top of another
-pub both-by : (newer log : List PortCall) (gaps left rest : List ℕ) → IsBy log gaps left → IsBy newer left rest → IsBy (newer ++ log) gaps rest
+pub both-by : (newer log : List PortCall) (gaps left rest : List ℕ) → IsBy log gaps left → IsBy newer left rest
+    → IsBy (newer ++ log) gaps rest
 both-by newer log gaps left rest old new =
     record {
       numbers = λ n low. elim (cases_lt n (length log)) [
@@ -128,7 +133,8 @@ both-by newer log gaps left rest old new =
                   ∙ (new.numbers (n - length log) within).1 (sym (old.behind (n - length log)) ∙ ap (fails_by gaps) (sym is) ∙ fails),
             ))
       ];
-      behind = λ n. ap (fails_by gaps) (let e : length (newer ++ log) + n ≡ length log + (length newer + n) = omega (arith, length-append newer log) in e)
+      behind = λ n. ap (fails_by gaps) (let e : length (newer ++ log) + n ≡ length log + (length newer + n) =
+          omega (arith, length-append newer log) in e)
           ∙ old.behind (length newer + n) ∙ new.behind n;
     }
 
@@ -195,8 +201,10 @@ gone_on-by gaps log (suc k) by = λ n low.
         λ fails. number-older (top ∷ []) (gone_on gaps log k) n older ∙ (gone_on-by gaps log k by n older).1 fails,
       )
       | inr later ↦ (let is : n ≡ length (gone_on gaps log k) = omega (arith, later, low) in (
-        λ failed. ap (fails_by gaps) is ∙ told (fails_by gaps (length (gone_on gaps log k))) (same_Some top call.Fault (sym (number-of top (gone_on gaps log k) n is) ∙ failed)),
-        λ fails. number-of top (gone_on gaps log k) n is ∙ ap (λ (t : Bool). Some (cond t call.Fault call.Stop)) (ap (fails_by gaps) (sym is) ∙ fails),
+        λ failed. ap (fails_by gaps) is ∙ told (fails_by gaps (length (gone_on gaps log k)))
+            (same_Some top call.Fault (sym (number-of top (gone_on gaps log k) n is) ∙ failed)),
+        λ fails. number-of top (gone_on gaps log k) n is ∙ ap (λ (t : Bool). Some (cond t call.Fault call.Stop))
+            (ap (fails_by gaps) (sym is) ∙ fails),
       ))
     ]
   where
@@ -211,7 +219,13 @@ gone_on-by gaps log (suc k) by = λ n low.
 pub there : (gaps : List ℕ) (one two : List PortCall) → FailsBy one gaps → FailsBy two gaps → (n : ℕ)
     → number_of (gone_on gaps one (length two)) n ≡ Some call.Fault → number_of (gone_on gaps two (length one)) n ≡ Some call.Fault
 there gaps one two by1 by2 n failed =
-    let low : n < length (reverse (gone_on gaps one (length two))) = slice_get_within (reverse (gone_on gaps one (length two))) n call.Fault failed in
+    let low : n < length (reverse (gone_on gaps one (length two))) =
+    slice_get_within (reverse (gone_on gaps one (length two))) n call.Fault failed in
     let low1 : n < length (gone_on gaps one (length two)) = omega (arith, low, length-reverse (gone_on gaps one (length two))) in
-    let low2 : n < length (gone_on gaps two (length one)) = omega (arith, low1, length-gone_on gaps one (length two), length-gone_on gaps two (length one)) in
+    let low2 : n < length (gone_on gaps two (length one)) = omega (
+      arith,
+      low1,
+      length-gone_on gaps one (length two),
+      length-gone_on gaps two (length one),
+    ) in
     (gone_on-by gaps two (length one) by2 n low2).1 ((gone_on-by gaps one (length two) by1 n low1).0 failed)

@@ -61,6 +61,7 @@ module _ (b : BoardView) (tree : IsTree b) (plain : IsPlainBoard b) (lines : Lin
       → ((r : ℕ) → r < length b.roots → FailedBy (calls_of b asks past r) (gaps r)) → FailBy b asks gaps past
   all-fail past steps gaps each = λ r. elim (cases_lt r (length b.roots)) [
     | inl low ↦ each r low
-    | inr high ↦ (λ n low. let none : length ((now b asks past).calls r) ≡ 0 = ap (λ (cs : List PortCall). length cs) (calls-nowhere r high past steps) in
+    | inr high ↦ (λ n low. let none : length ((now b asks past).calls r) ≡ 0 = ap (λ (cs : List PortCall). length cs)
+        (calls-nowhere r high past steps) in
         absurd (omega (arith, low, none, length-reverse ((now b asks past).calls r))))
   ]

@@ -31,13 +31,16 @@ module _ (b : BoardView) (tree : IsTree b) (plain : IsPlainBoard b) (lines : Lin
 
   pub same-turn : (past : List Entry) → IsStepwise b callers asks past → (t u : Turn) → IsTurn b callers asks past t
       → IsTurn b callers asks past u → t.caller ≡ u.caller → (now b asks (past_after past t)).due ≡ None
-      → (now b asks (past_after past u)).due ≡ None → FailBy b asks gaps (past_after past t) → FailBy b asks gaps (past_after past u) → t ≡ u
+      → (now b asks (past_after past u)).due ≡ None → FailBy b asks gaps (past_after past t) → FailBy b asks gaps (past_after past u)
+      → t ≡ u
   same-turn past steps t u is1 is2 own none1 none2 fails1 fails2 =
       one_turn b tree plain lines asks some callers past steps t u is1 is2 own none1 none2
       (λ r. gone_on (gaps r) (one r) (length (two r))) (λ r. gone_on (gaps r) (two r) (length (one r)))
       (λ r. gone_on-more (gaps r) (one r) (length (two r))) (λ r. gone_on-more (gaps r) (two r) (length (one r)))
-      (λ r n failed. there (gaps r) (one r) (two r) (log-fails (past_after past t) fails1 r) (log-fails (past_after past u) fails2 r) n failed)
-      (λ r n failed. there (gaps r) (two r) (one r) (log-fails (past_after past u) fails2 r) (log-fails (past_after past t) fails1 r) n failed)
+      (λ r n failed. there (gaps r) (one r) (two r) (log-fails (past_after past t) fails1 r)
+      (log-fails (past_after past u) fails2 r) n failed)
+      (λ r n failed. there (gaps r) (two r) (one r) (log-fails (past_after past u) fails2 r)
+      (log-fails (past_after past t) fails1 r) n failed)
     where
       one : ℕ → List PortCall
       one r = (now b asks (past_after past t)).calls r
@@ -52,7 +55,8 @@ module _ (b : BoardView) (tree : IsTree b) (plain : IsPlainBoard b) (lines : Lin
         | inl w ↦ (let does = does-next b callers asks (now b asks past) e may in
             let act : does.0 ≡ Take w.0 = (let f : Some does.0 ≡ Some (Take w.0) = sym does.1 ∙ w.2 in cc) in
             let is : e ≡ entry.Take (caller_of e) w.0 = subst (λ (a : Act). Does b asks (now b asks past) a e) act does.2 in
-            let free : May b callers asks (now b asks past) (entry.Take (caller_of e) w.0) = subst (λ (x : Entry). May b callers asks (now b asks past) x) is may in
+            let free : May b callers asks (now b asks past) (entry.Take (caller_of e) w.0) =
+            subst (λ (x : Entry). May b callers asks (now b asks past) x) is may in
             let f : None ≡ Some w.1 = sym free.3 ∙ holder-told b asks past w.0 ∙ w.3 in cc)
         | inr none ↦ never b callers asks (now b asks past) e may none
       ]

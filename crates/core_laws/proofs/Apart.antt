@@ -1,28 +1,16 @@
 -- What a step of one caller changes of the lock words answers no look of another: each is of a bus whose lock it has itself, and a
 -- walk asks of those whose locks its own caller has. The inductions go over updates and over a walk.
-use Rattle.std.proofs.Common.{◌≡◌, ℕ, List, [], ◌∷◌, ◌++◌, set, Option, Some, None, true, false, refl, sym, ◌∙◌, ap, subst}
-use Rattle.std.specs.Prelude.{slice_get, slice_index_or}
+use Rattle.core_laws.proofs.Cited.{◌≡◌, ℕ, List, [], ◌∷◌, ◌++◌, set, Option, Some, None, true, false, refl, sym, ◌∙◌, ap, subst, slice_get}
+use Rattle.core_laws.proofs.Cited.{slice_index_or, get_or-set_other, LockId, BoardView, home_of_mux, Mark, Job, Call, Select, SwitchOff}
+use Rattle.core_laws.proofs.Cited.{off_bus, off_mux, Act, ActOutcome, Passed, Sent, Lined, Note, MarkOf, KeptOf, WalkTree, Ends, Look, Then}
+use Rattle.core_laws.proofs.Cited.{seen, first_note, IsMarkOn, OwnHeld, MarksHeld, HoldsLocks, InLocks, SeenView, mark_on, kept_of}
+use Rattle.core_laws.proofs.Cited.{slots_of, marked, all_marked, updates_of_job, updates_after, applied_kept, MuxUpdate, mark_slot}
+use Rattle.core_laws.proofs.Cited.{holder_in, Place, Run, Whole, numbers_of, CoreKept, seen_of, next_of, WantsIn}
 use Rattle.std.specs.List.{AllByRecursion}
-use Rattle.std.proofs.lemmas.List.{get_or-set_other}
 use Rattle.i2c_base.specs.declared.entry.End.TheVariants as end
-use Rattle.i2c_base.specs.declared.ids.LockId.{LockId}
 use Rattle.i2c_base.specs.declared.ids.LockId.TheVariants as lock
-use Rattle.i2c_base.specs.Board.{BoardView}
-use Rattle.i2c_spec.specs.Tree.{home_of_mux}
-use Rattle.bus_spec.specs.Walk.{Mark, Job, Call, Select, SwitchOff, off_bus, off_mux, Act, ActOutcome, Passed, Sent, Lined, Note, MarkOf, KeptOf, WalkTree, Ends, Look, Then}
 use Rattle.bus_spec.specs.Walk as walk
-use Rattle.bus_spec.specs.Grammar.{seen, first_note}
-use Rattle.bus_laws.specs.Holds.{IsMarkOn, OwnHeld, MarksHeld, HoldsLocks}
-use Rattle.bus_laws.specs.Runs.{InLocks}
-use Rattle.mux_plan.specs.Plans.{SeenView, mark_on, kept_of, slots_of}
-use Rattle.mux_plan.specs.Marks.{marked, all_marked, left_open, updates_on, updates_of_job, updates_after, applied, applied_kept}
-use Rattle.mux_plan.specs.declared.marks.MuxUpdate.{MuxUpdate}
-use Rattle.mux_plan.proofs.Openings.{mark_slot}
-use Rattle.seg_locks.specs.Locks.{holder_in}
-use Rattle.core_laws.specs.Core.{Place, Run, Whole, numbers_of, CoreKept}
-use Rattle.core_laws.specs.Spots.{seen_of}
-use Rattle.core_laws.specs.Steps.{next_of}
-use Rattle.core_laws.specs.Wants.{WantsIn}
+use Rattle.mux_plan.specs.Marks.{left_open, updates_on, applied}
 use Rattle.core_laws.proofs.Core.{locks-here, number-here, seat-here}
 use Rattle.core_laws.proofs.Wants.{held-wants, send-wants, shift-wants}
 

@@ -1,33 +1,14 @@
 -- A step of one caller keeps the whole: what changes at its place is shown, and all else stays. No induction but over lists.
-use Rattle.std.proofs.Common.{◌≡◌, ℕ, zero, suc, ◌+◌, ◌*◌, ◌<◌, ◌≤◌, false, IsTrue, List, [], ◌∷◌, length, set, get_or, Option, Some, None, refl, sym, ◌∙◌, ap, subst, ◌⊎◌, inl, inr, arith}
-use Rattle.std.specs.Prelude.{slice_get}
-use Rattle.std.proofs.lemmas.Bool.Decides.{eqb_tells}
-use Rattle.std.proofs.lemmas.List.{length-set, map-set}
-use Rattle.std.proofs.lemmas.List.Sums.{sum_by-set}
-use Rattle.std.proofs.lemmas.Option.{slice_get_within, slice_get-get_or}
-use Rattle.i2c_base.specs.declared.entry.Entry.{Entry}
-use Rattle.i2c_base.specs.declared.errno.Errno.{Errno}
-use Rattle.i2c_base.specs.declared.ids.LockId.{LockId}
-use Rattle.i2c_base.specs.Board.{BoardView}
-use Rattle.bus_spec.specs.Walk.{Act, Settle, WalkTree, Ends, Look, Then}
-use Rattle.bus_spec.specs.Slots.{Slots}
-use Rattle.bus_spec.specs.Grammar.{seen, is_over, first_act}
-use Rattle.bus_laws.specs.Holds.{HoldsLocks}
-use Rattle.seg_locks.specs.Locks.{LocksView}
-use Rattle.core_laws.specs.Spots.{seen_of, Spot, IsTold, AreNumbered, AreRooted}
-use Rattle.bus_message.specs.Ports.{RootPort}
+use Rattle.core_laws.proofs.Cited.{◌≡◌, ℕ, zero, suc, ◌+◌, ◌*◌, ◌<◌, ◌≤◌, false, IsTrue, List, [], ◌∷◌, length, set, get_or, Option, Some}
+use Rattle.core_laws.proofs.Cited.{None, refl, sym, ◌∙◌, ap, subst, ◌⊎◌, inl, inr, arith, slice_get, eqb_tells, length-set, sum_by-set}
+use Rattle.core_laws.proofs.Cited.{slice_get_within, slice_get-get_or, Entry, Errno, LockId, BoardView, Act, Settle, WalkTree, Ends, Look}
+use Rattle.core_laws.proofs.Cited.{Then, Slots, seen, is_over, first_act, HoldsLocks, LocksView, seen_of, Spot, IsTold, AreNumbered}
+use Rattle.core_laws.proofs.Cited.{AreRooted, RootPort, Place, spot_of, numbers_of, trees_of, spots_of, pending, has_reply, IsLone, Run}
+use Rattle.core_laws.proofs.Cited.{Whole, StandsAt, IsGoing, SeatKept, CoreKept, IsLeft, next_of, slots_of, total, PortKept, HoldsAt}
+use Rattle.core_laws.proofs.Cited.{AreDistinct, TableKept, map_from, set_elsewhere, map_at}
+use Rattle.std.proofs.lemmas.List.{map-set}
 use Rattle.core_laws.proofs.Steps.{set_here}
-use Rattle.core_laws.specs.Core.{Place, spot_of, numbers_of, trees_of, spots_of, pending, has_reply, IsLone, Run, Whole, StandsAt, IsGoing, SeatKept, CoreKept}
-use Rattle.core_laws.specs.Seats.{IsLeft}
-use Rattle.core_laws.specs.Steps.{next_of}
-use Rattle.mux_plan.specs.Plans.{slots_of}
-use Rattle.core_laws.specs.Owed.{total}
-use Rattle.core_laws.specs.Ports.{PortKept, HoldsAt}
-use Rattle.core_laws.specs.Table.{AreDistinct, TableKept}
 use Rattle.core_laws.proofs.Owed.{total-set}
-use Rattle.i2c_base.proofs.ListLemmas.{map_from}
-use Rattle.i2c_base.proofs.ListLemmas.{set_elsewhere}
-use Rattle.i2c_base.proofs.ListLemmas.{map_at}
 
 pub set_same : {X : Type 0} (xs : List X) (i : ℕ) (x : X) → slice_get xs i ≡ Some x → set xs i x ≡ xs
 set_same [] i x h = refl

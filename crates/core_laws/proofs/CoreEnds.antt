@@ -1,41 +1,23 @@
 -- A walk that ends, with the next transfer loaded after it. No induction.
-use Rattle.std.proofs.Common.{◌≡◌, ℕ, ◌+◌, ◌-◌, ◌≤◌, true, false, List, [], ◌∷◌, ◌++◌, length, set, Option, Some, None, refl, sym, ◌∙◌, ap, subst, inl, arith}
-use Rattle.std.specs.Prelude.{not}
-use Rattle.i2c_base.specs.declared.ids.LockId.{LockId}
-use Rattle.i2c_base.specs.declared.errno.Errno.{Errno}
-use Rattle.i2c_base.specs.declared.entry.Entry.{Entry}
+use Rattle.core_laws.proofs.Cited.{◌≡◌, ℕ, ◌+◌, ◌-◌, ◌≤◌, true, false, List, [], ◌∷◌, ◌++◌, length, set, Option, Some, None, refl, sym, ◌∙◌}
+use Rattle.core_laws.proofs.Cited.{ap, subst, inl, arith, not, LockId, Errno, Entry, Reply, BoardView, Fits, TransferView, cost_of, Call}
+use Rattle.core_laws.proofs.Cited.{Free, Send, Settle, Passed, WalkTree, Ends, Look, Then, seen, is_over, rest_of, walk_for, reply_by}
+use Rattle.core_laws.proofs.Cited.{InLocks, slots_of, HoldsLocks, IsLockOf, with_holder, seen_of, Spot, IsTold, with_place, Place, spot_of}
+use Rattle.core_laws.proofs.Cited.{numbers_of, trees_of, spots_of, has_reply, IsLone, IsGoing, SeatKept, CoreKept, Run, IsFairRun, Whole}
+use Rattle.core_laws.proofs.Cited.{StandsAt, OwesUpTo, total, next_of, behind_of, TableKept, begun, bytes_given}
 use Rattle.i2c_base.specs.declared.entry.Entry.TheVariants as entry
-use Rattle.i2c_base.specs.declared.reply.Reply.{Reply}
 use Rattle.i2c_base.specs.declared.reply.Cut.TheVariants as cut_at
-use Rattle.i2c_base.specs.Board.{BoardView}
-use Rattle.i2c_base.specs.Fitting.{Fits}
-use Rattle.i2c_base.specs.Transfer.{TransferView}
-use Rattle.i2c_spec.specs.Cost.{cost_of}
-use Rattle.bus_spec.specs.Walk.{Call, Free, Send, Settle, Passed, WalkTree, Ends, Look, Then}
-use Rattle.bus_spec.specs.Grammar.{seen, is_over, rest_of, walk_for}
-use Rattle.bus_spec.specs.Stepwise.{reply_by}
-use Rattle.bus_laws.specs.Runs.{InLocks}
-use Rattle.mux_plan.specs.Plans.{slots_of}
-use Rattle.bus_laws.specs.Holds.{HoldsLocks, IsLockOf}
-use Rattle.seg_locks.specs.Locks.{with_holder}
-use Rattle.core_laws.specs.Spots.{seen_of, Spot, IsTold}
-use Rattle.core_laws.specs.Behind.{with_place, begun_with}
-use Rattle.core_laws.specs.Core.{Place, spot_of, numbers_of, trees_of, spots_of, has_reply, IsLone, IsGoing, SeatKept, CoreKept, Run, IsFairRun, Whole, StandsAt}
-use Rattle.core_laws.specs.Owed.{OwesUpTo, total}
-use Rattle.core_laws.specs.Steps.{next_of, behind_of}
-use Rattle.core_laws.specs.Table.{TableKept}
+use Rattle.core_laws.specs.Behind.{begun_with}
 use Rattle.core_laws.proofs.Looks.{looks-same}
 use Rattle.core_laws.proofs.Core.{are-numbered, core-stepped, set_same, going-on, spot-here, tree-here, number-here}
 use Rattle.core_laws.proofs.Holding.{holds-freed}
 use Rattle.core_laws.proofs.Ports.{sockets-still}
 use Rattle.core_laws.proofs.Table.{free-table, lock-there}
-use Rattle.bus_spec.specs.Past.{begun}
 use Rattle.core_laws.proofs.Steps.{told-end, told-lone}
 use Rattle.core_laws.proofs.CoreSteps.{less-owed}
 use Rattle.core_laws.proofs.Going.{settle-errs, settle-lone}
 use Rattle.core_laws.proofs.Loads.{seat-loaded, seat-over}
 use Rattle.core_laws.proofs.Owed.{owes-end}
-use Rattle.i2c_base.specs.Need.{bytes_given}
 
 ends_holding : (b : BoardView) (ls : List LockId) (w : WalkTree) → is_over w ≡ true → HoldsLocks b ls w → ls ≡ []
 ends_holding b ls Ends over h = h

@@ -1,42 +1,24 @@
 -- A line step of the whole. No induction.
-use Rattle.std.proofs.Common.{◌≡◌, ℕ, ◌+◌, ◌-◌, ◌≤◌, Bool, false, IsTrue, List, [], ◌∷◌, length, set, Option, Some, refl, sym, ◌∙◌, ap, subst, inl, arith}
-use Rattle.std.specs.Prelude.{slice_get, not}
-use Rattle.i2c_base.specs.declared.ids.LockId.{LockId}
+use Rattle.core_laws.proofs.Cited.{◌≡◌, ℕ, ◌+◌, ◌-◌, ◌≤◌, Bool, false, IsTrue, List, [], ◌∷◌, length, set, Option, Some, refl, sym, ◌∙◌, ap}
+use Rattle.core_laws.proofs.Cited.{subst, inl, arith, slice_get, not, LockId, Errno, Entry, Phase, MayStart, PortCall, cost_of, root_of}
+use Rattle.core_laws.proofs.Cited.{Job, Call, Send, Shift, Settle, Passed, Lined, ActOutcome, WalkTree, job_bus, seen, is_over, first_note}
+use Rattle.core_laws.proofs.Cited.{rest_of, SeenView, slots_of, HoldsLocks, SendsIn, turned_to, seen_of, RootPort, with_place, settled_with}
+use Rattle.core_laws.proofs.Cited.{Place, spot_of, numbers_of, trees_of, spots_of, has_reply, IsGoing, SeatKept, CoreKept, Run, IsFairRun}
+use Rattle.core_laws.proofs.Cited.{Whole, StandsAt, OwesUpTo, total, IsLeft, IsDecided, PortKept, behind_of, IsLined, TableKept, cut_told}
+use Rattle.core_laws.proofs.Cited.{line_call}
+use Rattle.std.proofs.Common.{length-append}
 use Rattle.i2c_base.specs.declared.ids.LockId.TheVariants as lock
-use Rattle.i2c_base.specs.declared.errno.Errno.{Errno}
-use Rattle.i2c_base.specs.declared.entry.Entry.{Entry}
 use Rattle.i2c_base.specs.declared.entry.Entry.TheVariants as entry
-use Rattle.i2c_base.specs.declared.port.Phase.{Phase}
-use Rattle.i2c_base.specs.Phases.{MayStart}
-use Rattle.i2c_base.specs.declared.port.PortCall.{PortCall}
-use Rattle.i2c_spec.specs.Cost.{cost_of}
-use Rattle.i2c_spec.specs.Tree.{root_of}
-use Rattle.bus_spec.specs.Walk.{Job, Call, Send, Shift, Settle, Passed, Lined, ActOutcome, WalkTree, job_bus}
-use Rattle.bus_spec.specs.Grammar.{seen, is_over, first_note, rest_of}
-use Rattle.mux_plan.specs.Plans.{SeenView, slots_of}
-use Rattle.bus_laws.specs.Holds.{HoldsLocks, SendsIn}
-use Rattle.core_laws.specs.Spots.{turned_to, seen_of}
-use Rattle.bus_message.specs.Ports.{RootPort}
-use Rattle.core_laws.specs.Behind.{with_place, line_entry, switched, settled_with}
-use Rattle.core_laws.specs.Core.{Place, spot_of, numbers_of, trees_of, spots_of, has_reply, IsGoing, SeatKept, CoreKept, Run, IsFairRun, Whole, StandsAt, IsShifted}
-use Rattle.core_laws.specs.Owed.{OwesUpTo, total}
-use Rattle.core_laws.specs.Seats.{IsLeft, IsDecided}
-use Rattle.core_laws.specs.Ports.{PortKept}
-use Rattle.core_laws.specs.Steps.{behind_of}
-use Rattle.core_laws.specs.Table.{TableKept}
+use Rattle.core_laws.specs.Behind.{line_entry, switched}
+use Rattle.core_laws.specs.Core.{IsShifted}
 use Rattle.core_laws.proofs.Looks.{looks-same}
 use Rattle.core_laws.proofs.Core.{are-numbered, core-stepped, set_same, going-on, left-on, spot-here, tree-here}
-use Rattle.core_laws.proofs.Holding.{holder-goes}
+use Rattle.core_laws.proofs.Holding.{holder-goes, holds-shifted}
 use Rattle.core_laws.proofs.Seats.{seat-behind, seat-settled, settled-goes, settled-pays}
 use Rattle.core_laws.proofs.Owed.{owes-step, total-set}
 use Rattle.core_laws.proofs.Ports.{sockets-spoken}
 use Rattle.core_laws.proofs.Turns.{rooted-kept}
-use Rattle.std.proofs.Common.{length-append}
-use Rattle.bus_spec.specs.Readings.{cut_told}
-use Rattle.bus_spec.specs.Past.{line_call}
 use Rattle.i2c_base.specs.declared.reply.Reply.TheVariants as answer
-use Rattle.core_laws.specs.Steps.{IsLined}
-use Rattle.core_laws.proofs.Holding.{holds-shifted}
 use Rattle.core_laws.proofs.ToldSteps.{line-keeps, line-settles}
 use Rattle.core_laws.proofs.Marked.{lined-table}
 use Rattle.core_laws.proofs.CoreSteps.{none_owed}

@@ -1,45 +1,22 @@
 -- The steps of the whole, each by the frame and its own lemmas. No induction.
-use Rattle.std.proofs.Common.{◌≡◌, ℕ, suc, ◌+◌, ◌-◌, ◌*◌, ◌≤◌, true, false, IsTrue, List, [], ◌∷◌, ◌++◌, length, set, Option, Some, None, refl, sym, ◌∙◌, ap, subst, ◌⊎◌, inl, inr, arith}
-use Rattle.std.specs.Prelude.{slice_get, take, not}
-use Rattle.std.proofs.lemmas.List.{append-nil}
-use Rattle.i2c_base.specs.declared.ids.LockId.{LockId}
+use Rattle.core_laws.proofs.Cited.{◌≡◌, ℕ, suc, ◌+◌, ◌-◌, ◌*◌, ◌≤◌, true, false, IsTrue, List, [], ◌∷◌, ◌++◌, length, set, Option, Some}
+use Rattle.core_laws.proofs.Cited.{None, refl, sym, ◌∙◌, ap, subst, ◌⊎◌, inl, inr, arith, slice_get, take, not, append-nil, LockId, Errno}
+use Rattle.core_laws.proofs.Cited.{Entry, Idle, Reply, Fits, FitsReads, cost_of, root_of, MessageView, messages_of, Job, Call, Select}
+use Rattle.core_laws.proofs.Cited.{SwitchOff, Take, Free, Send, Settle, Passed, Sent, ActOutcome, WalkTree, job_bus, is_last, seen, is_over}
+use Rattle.core_laws.proofs.Cited.{first_note, rest_of, message_cut, got_after, reply_by, IsBelow, weight_at, InLocks, SeenView, slots_of}
+use Rattle.core_laws.proofs.Cited.{HoldsLocks, SendsIn, IsLockOf, holder_in, with_holder, turned_to, seen_of, RootPort, MsgResult}
+use Rattle.core_laws.proofs.Cited.{with_place, message_entry, settled_with, Place, spot_of, numbers_of, trees_of, spots_of, has_reply}
+use Rattle.core_laws.proofs.Cited.{IsGoing, SeatKept, CoreKept, Run, IsFairRun, Whole, StandsAt, IsSent, OwesUpTo, total, message_most}
+use Rattle.core_laws.proofs.Cited.{IsLeft, IsDecided, NextMsg, IsInside, PortKept, next_of, behind_of, IsSaid, TableKept, got-grows}
+use Rattle.core_laws.proofs.Cited.{given-few, bytes_given}
 use Rattle.i2c_base.specs.declared.ids.LockId.TheVariants as lock
-use Rattle.i2c_base.specs.declared.errno.Errno.{Errno}
 use Rattle.i2c_base.specs.declared.entry.End.TheVariants as end
-use Rattle.i2c_base.specs.declared.entry.Entry.{Entry}
 use Rattle.i2c_base.specs.declared.entry.Entry.TheVariants as entry
-use Rattle.i2c_base.specs.declared.port.Phase.TheVariants.{Idle}
-use Rattle.i2c_base.specs.declared.reply.Reply.{Reply}
 use Rattle.i2c_base.specs.declared.reply.Cut.TheVariants as cut_at
-use Rattle.i2c_base.specs.Fitting.{Fits, FitsReads}
-use Rattle.i2c_spec.specs.Cost.{cost_of}
-use Rattle.i2c_spec.specs.Tree.{root_of}
-use Rattle.i2c_spec.specs.Messages.{MessageView, messages_of}
-use Rattle.bus_spec.specs.Walk.{Job, Call, Select, SwitchOff, Take, Free, Send, Settle, Passed, Sent, ActOutcome, WalkTree, job_bus, is_last}
-use Rattle.bus_spec.specs.Grammar.{seen, is_over, first_note, rest_of}
-use Rattle.bus_spec.specs.Readings.{message_cut}
-use Rattle.bus_spec.specs.Past.{got_after}
-use Rattle.bus_spec.specs.Stepwise.{reply_by, IsBelow}
-use Rattle.bus_laws.specs.Costs.{weight_at}
-use Rattle.bus_laws.specs.Runs.{InLocks}
-use Rattle.mux_plan.specs.Plans.{SeenView, slots_of}
-use Rattle.bus_laws.specs.Holds.{HoldsLocks, SendsIn, IsLockOf}
-use Rattle.seg_locks.specs.Locks.{holder_in, with_holder}
-use Rattle.core_laws.specs.Spots.{turned_to, seen_of}
-use Rattle.bus_message.specs.Ports.{RootPort}
-use Rattle.bus_message.specs.declared.message.MsgResult.{MsgResult}
 use Rattle.core_laws.proofs.Steps.{told-take, told-free}
-use Rattle.core_laws.specs.Behind.{with_place, passed, message_entry, spoken, settled_with}
-use Rattle.core_laws.specs.Core.{Place, spot_of, numbers_of, trees_of, spots_of, has_reply, IsGoing, SeatKept, CoreKept, Run, IsFairRun, Whole, StandsAt, IsSent}
-use Rattle.core_laws.specs.Owed.{OwesUpTo, total, message_most}
-use Rattle.core_laws.specs.Seats.{IsLeft, IsDecided}
-use Rattle.mux_plan.specs.declared.task.NextMsg.{NextMsg}
-use Rattle.core_laws.specs.Ports.{IsInside, PortKept}
-use Rattle.core_laws.specs.Steps.{next_of, behind_of, IsSaid}
-use Rattle.core_laws.specs.Table.{TableKept}
+use Rattle.core_laws.specs.Behind.{passed, spoken}
 use Rattle.core_laws.proofs.Looks.{looks-same}
 use Rattle.core_laws.proofs.Core.{are-numbered, core-stepped, set_same, going-on, left-on, spot-here, tree-here, number-here}
-use Rattle.bus_laws.proofs.past.Bytes.{got-grows, given-few}
 use Rattle.core_laws.proofs.Holding.{holder-goes, holds-taken, holds-freed, holds-sent}
 use Rattle.core_laws.proofs.ToldSteps.{message-keeps, message-settles}
 use Rattle.core_laws.proofs.Marked.{said-table}
@@ -49,7 +26,6 @@ use Rattle.core_laws.proofs.Ports.{sockets-still, sockets-spoken, inside-behind}
 use Rattle.core_laws.proofs.Table.{take-table, free-table, lock-there}
 use Rattle.core_laws.proofs.WalkSteps.{call-is, left-taken, left-freed}
 use Rattle.core_laws.proofs.Turns.{rooted-kept}
-use Rattle.i2c_base.specs.Need.{bytes_given}
 
 pub none_owed : (rs : List Reply) → has_reply rs ≡ false → rs ≡ []
 none_owed [] e = refl
@@ -184,7 +160,8 @@ module _ (run : Run) (fair : IsFairRun run) (whole : Whole) (core : CoreKept run
       quiet_seat = seat-behind run p n its ls behind (holds.1 (Sent msg.end bytes)) gone goes leaves got partway got_still
           (message_cut next.purpose next.part msg.end) quiet_less pays.1
 
-      free_now : (new.phase ≡ Idle) ⊎ ((is_last job more ≡ false) × (msg.end ≡ end.Ok)) → (new.phase ≡ Idle) ⊎ IsInside run.board behind new.root
+      free_now : (new.phase ≡ Idle) ⊎ ((is_last job more ≡ false) × (msg.end ≡ end.Ok)) → (new.phase ≡ Idle)
+          ⊎ IsInside run.board behind new.root
       free_now (inl idle) = inl idle
       free_now (inr x) = inr (inside x.0 x.1)
 
@@ -240,7 +217,8 @@ module _ (run : Run) (fair : IsFairRun run) (whole : Whole) (core : CoreKept run
           (lock.Bus (root_of run.board (job_bus job))) holds.0.rooted unsettled (n - weight_at run.board (Send job more)) pays.1
           reply fits
 
-      free_after : (new.phase ≡ Idle) ⊎ ((is_last job more ≡ false) × (msg.end ≡ end.Ok)) → (new.phase ≡ Idle) ⊎ IsInside run.board after new.root
+      free_after : (new.phase ≡ Idle) ⊎ ((is_last job more ≡ false) × (msg.end ≡ end.Ok)) → (new.phase ≡ Idle)
+          ⊎ IsInside run.board after new.root
       free_after (inl idle) = inl idle
       free_after (inr x) =
           (let i = inside x.0 x.1 in

@@ -1,26 +1,14 @@
 -- Whose walk has no next step has ended, and its caller asks for nothing more. No induction.
-use Rattle.std.proofs.Common.{◌≡◌, ℕ, Bool, true, false, List, [], Some, None, refl, sym, ◌∙◌, ap, subst, inl, inr}
-use Rattle.std.specs.Prelude.{slice_get}
-use Rattle.i2c_base.specs.declared.ids.LockId.{LockId}
+use Rattle.core_laws.proofs.Cited.{◌≡◌, ℕ, Bool, true, false, List, [], Some, None, refl, sym, ◌∙◌, ap, subst, inl, inr, slice_get, LockId}
+use Rattle.core_laws.proofs.Cited.{BoardView, WalkTree, Ends, Look, Then, Slots, mark_in, seen, is_over, first_act, IsMarkOn, HoldsLocks}
+use Rattle.core_laws.proofs.Cited.{InLocks, IsHeldUp, over_ends, holds_seen, slots_of, holder_in, Place, trees_of, Run, Whole, SeatKept}
+use Rattle.core_laws.proofs.Cited.{CoreKept, next_of, seen_of}
 use Rattle.i2c_base.specs.declared.ids.LockId.TheVariants as lock
-use Rattle.i2c_base.specs.Board.{BoardView}
-use Rattle.bus_spec.specs.Walk.{ask_bus, WalkTree, Ends, Look, Then}
-use Rattle.bus_spec.specs.Slots.{Slots, mark_in}
-use Rattle.bus_spec.specs.Grammar.{seen, is_over, first_act}
-use Rattle.bus_laws.specs.Holds.{IsMarkOn, HoldsLocks}
-use Rattle.bus_laws.specs.Runs.{InLocks}
-use Rattle.bus_laws.specs.Waiting.{IsHeldUp}
+use Rattle.bus_spec.specs.Walk.{ask_bus}
 use Rattle.bus_laws.proofs.past.Ready.{act_or_end}
-use Rattle.bus_laws.proofs.past.StandsFacts.{over_ends}
-use Rattle.bus_laws.proofs.walk.Waits.{holds_seen}
-use Rattle.mux_plan.specs.Plans.{slots_of}
-use Rattle.seg_locks.specs.Locks.{holder_in}
-use Rattle.core_laws.specs.Core.{Place, trees_of, Run, Whole, SeatKept, CoreKept}
-use Rattle.core_laws.specs.Steps.{next_of}
 use Rattle.core_laws.proofs.Core.{locks-here, owes-here, seat-here, tree-here}
 use Rattle.core_laws.proofs.Holding.{home_seen}
 use Rattle.core_laws.proofs.Opens.{none-ready}
-use Rattle.core_laws.specs.Spots.{seen_of}
 
 -- a look holds a lock, so a step comes after it
 none_over : (b : BoardView) (v : Slots) → ((p : ℕ) → IsMarkOn b p (mark_in (v p).slot)) → (ls : List LockId) (w : WalkTree)

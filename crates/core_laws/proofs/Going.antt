@@ -1,22 +1,9 @@
 -- Of which transfer a walk under way is, and what is owed where it ends or is a lone settle. No induction.
-use Rattle.std.proofs.Common.{◌≡◌, ℕ, true, [], ◌∷◌, Option, Some, sym, ◌∙◌, ap, subst, inl, inr}
-use Rattle.std.specs.Prelude.{slice_get}
-use Rattle.i2c_base.specs.declared.ids.LockId.{LockId}
-use Rattle.i2c_base.specs.declared.errno.Errno.{Errno}
-use Rattle.i2c_base.specs.declared.reply.Reply.{Reply}
-use Rattle.i2c_base.specs.Fitting.{Fits}
-use Rattle.bus_spec.specs.Walk.{Act, Free, Settle, Passed, WalkTree}
-use Rattle.bus_spec.specs.Grammar.{is_over}
-use Rattle.bus_laws.specs.Settles.{Settles}
-use Rattle.bus_laws.proofs.past.StandsFacts.{over_ends}
-use Rattle.bus_laws.proofs.walk.Next.{quiet-next}
-use Rattle.mux_plan.specs.Plans.{slots_of}
-use Rattle.core_laws.specs.Core.{Place, has_reply, IsLone, IsGoing, Run, Whole, CoreKept}
-use Rattle.core_laws.specs.Seats.{IsLeft}
-use Rattle.core_laws.specs.Steps.{next_of, behind_of}
+use Rattle.core_laws.proofs.Cited.{◌≡◌, ℕ, true, [], ◌∷◌, Option, Some, sym, ◌∙◌, ap, subst, inl, inr, slice_get, LockId, Errno, Reply}
+use Rattle.core_laws.proofs.Cited.{Fits, Act, Free, Settle, Passed, WalkTree, is_over, Settles, over_ends, quiet-next, slots_of, Place}
+use Rattle.core_laws.proofs.Cited.{has_reply, IsLone, IsGoing, Run, Whole, CoreKept, IsLeft, next_of, behind_of, seen_of}
 use Rattle.core_laws.proofs.Core.{owes-here, stands-here, going-on, left-on}
 use Rattle.core_laws.proofs.WalkSteps.{left-freed}
-use Rattle.core_laws.specs.Spots.{seen_of}
 
 module _ (run : Run) (whole : Whole) (core : CoreKept run whole) (place : ℕ) (p : Place)
     (here : slice_get whole.places place ≡ Some p) where

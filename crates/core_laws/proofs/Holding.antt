@@ -1,27 +1,16 @@
 -- What a walk holds after each of its steps, and where its marks are. The inductions go over lists of marks.
-use Rattle.std.proofs.Common.{◌≡◌, ℕ, zero, suc, ◌<◌, Bool, true, false, List, [], ◌∷◌, length, Option, Some, None, cond, eqb, refl, sym, subst, inl, inr, arith}
-use Rattle.std.specs.Prelude.{slice_index_or}
-use Rattle.std.proofs.lemmas.Bool.Decides.{eqb_tells, leb_tells}
-use Rattle.std.proofs.lemmas.List.{get_or_past}
-use Rattle.i2c_base.specs.declared.ids.LockId.{LockId}
-use Rattle.i2c_base.specs.declared.errno.Errno.{Errno}
+use Rattle.core_laws.proofs.Cited.{◌≡◌, ℕ, zero, suc, ◌<◌, Bool, true, false, List, [], ◌∷◌, length, Option, Some, None, cond, eqb, refl}
+use Rattle.core_laws.proofs.Cited.{sym, subst, inl, inr, arith, slice_index_or, eqb_tells, leb_tells, get_or_past, LockId, Errno, BoardView}
+use Rattle.core_laws.proofs.Cited.{Hop, buses, changed_at, Mark, Job, Call, Select, SwitchOff, off_bus, off_mux, Act, Take, Free, Send}
+use Rattle.core_laws.proofs.Cited.{Shift, Settle, ActOutcome, Passed, Sent, Lined, Note, WalkTree, Ends, Look, Then, Slots, At, MuxSlot}
+use Rattle.core_laws.proofs.Cited.{Clean, Marked, mark_in, turned_at, turned, set_marks, polled_slot, select_told, after_job, seen, is_over}
+use Rattle.core_laws.proofs.Cited.{first_act, first_note, rest_of, IsBelow, InLocks, first_is, changed-same, changed-other, SeenView}
+use Rattle.core_laws.proofs.Cited.{mark_on, slots_of, TellsMarks, IsLockOf, IsMarkOn, MarksHeld, SendsIn, HoldsLocks, holds_seen, LocksView}
+use Rattle.core_laws.proofs.Cited.{turned_to, TableKept}
 use Rattle.i2c_base.specs.declared.entry.End.TheVariants as end
-use Rattle.i2c_base.specs.Board.{BoardView}
-use Rattle.i2c_spec.specs.Tree.{Hop, buses}
-use Rattle.i2c_spec.specs.History.{changed_at}
-use Rattle.bus_spec.specs.Walk.{Mark, Job, Call, Select, SwitchOff, off_bus, off_mux, Act, Take, Free, Send, Shift, Settle, ActOutcome, Passed, Sent, Lined, Note, WalkTree, Ends, Look, Then, first_byte}
-use Rattle.bus_spec.specs.Slots.{Slots, At, MuxSlot, Clean, Marked, Polled, Found, mark_in, turned_at, turned, set_marks, polled_slot, select_told, after_job}
-use Rattle.bus_spec.specs.Grammar.{seen, is_over, first_act, first_note, rest_of}
-use Rattle.bus_spec.specs.Stepwise.{IsBelow}
-use Rattle.bus_laws.specs.Runs.{InLocks}
-use Rattle.bus_laws.proofs.past.StandsEntries.{first_is}
-use Rattle.bus_laws.proofs.tree.Slots.{changed-same, changed-other}
-use Rattle.mux_plan.specs.Plans.{SeenView, mark_on, slots_of, slot_of, TellsMarks}
-use Rattle.bus_laws.specs.Holds.{IsLockOf, IsMarkOn, MarksHeld, SendsIn, HoldsLocks}
-use Rattle.bus_laws.proofs.walk.Waits.{holds_seen}
-use Rattle.seg_locks.specs.Locks.{LocksView}
-use Rattle.core_laws.specs.Spots.{turned_to}
-use Rattle.core_laws.specs.Table.{TableKept}
+use Rattle.bus_spec.specs.Walk.{first_byte}
+use Rattle.bus_spec.specs.Slots.{Polled, Found}
+use Rattle.mux_plan.specs.Plans.{slot_of}
 
 -- who holds a lock has not ended
 pub holder-goes : (b : BoardView) (ls : List LockId) (w : WalkTree) → HoldsLocks b ls w → (l : LockId) → InLocks l ls → is_over w ≡ false

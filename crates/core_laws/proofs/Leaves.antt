@@ -1,16 +1,9 @@
 -- What a message leaves of its transfer, whichever it is and however it ended, and the reply that fits. No induction.
-use Rattle.std.proofs.Common.{◌≡◌, ℕ, ◌+◌, Bool, cond, List, Some, refl, sym, subst, ◌⊎◌, inl, inr}
-use Rattle.i2c_base.specs.declared.entry.End.{End}
+use Rattle.core_laws.proofs.Cited.{◌≡◌, ℕ, ◌+◌, Bool, cond, List, Some, refl, sym, subst, ◌⊎◌, inl, inr, End, BoardView, TransferView, Job}
+use Rattle.core_laws.proofs.Cited.{Call, Select, SwitchOff, Send, Sent, WalkTree, Slots, seen, first_act, rest_of, IsLeft, gone_after}
 use Rattle.i2c_base.specs.declared.entry.End.TheVariants as end
 use Rattle.i2c_base.specs.declared.entry.Purpose.TheVariants as purpose
-use Rattle.i2c_base.specs.Board.{BoardView}
-use Rattle.i2c_base.specs.Transfer.{TransferView}
-use Rattle.bus_spec.specs.Walk.{Job, Call, Select, SwitchOff, Send, Sent, WalkTree}
-use Rattle.bus_spec.specs.Slots.{Slots}
-use Rattle.bus_spec.specs.Grammar.{seen, first_act, rest_of}
-use Rattle.core_laws.specs.Seats.{IsLeft}
 use Rattle.mux_plan.specs.Plans.{is_call_through}
-use Rattle.core_laws.specs.Sends.{gone_after}
 use Rattle.core_laws.proofs.WalkSteps.{SendLeaves, select-leaves, off-leaves, went-leaves, ended-leaves}
 
 pub is_ok : (x : End) → (x ≡ end.Ok) ⊎ (x ≡ end.Ok → ⊥)

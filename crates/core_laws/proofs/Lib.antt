@@ -27,3 +27,4 @@ pub mod Opens
 pub mod Stuck
 pub mod Ended
 pub mod Laws
+mod Cited

@@ -1,18 +1,11 @@
 -- The seat of a caller whose next transfer is loaded, or which has none left. No induction.
-use Rattle.std.proofs.Common.{◌≡◌, ℕ, ◌+◌, ◌<◌, ◌≤◌, true, false, List, [], ◌∷◌, ◌++◌, length, Option, Some, None, refl, sym, ◌∙◌, ◌⊎◌, inl, inr, arith}
-use Rattle.i2c_base.specs.declared.errno.Errno.{Errno}
+use Rattle.core_laws.proofs.Cited.{◌≡◌, ℕ, ◌+◌, ◌<◌, ◌≤◌, true, false, List, [], ◌∷◌, ◌++◌, length, Option, Some, None, refl, sym, ◌∙◌, ◌⊎◌}
+use Rattle.core_laws.proofs.Cited.{inl, inr, arith, Errno, Reply, TransferView, cost_of, refusal, WalkTree, Ends, is_over, walk_by}
+use Rattle.core_laws.proofs.Cited.{walk_for, Place, IsLone, SeatKept, Run, IsFairRun, IsLeft}
 use Rattle.i2c_base.specs.declared.errno.Errno.TheVariants as errno
-use Rattle.i2c_base.specs.declared.reply.Reply.{Reply}
 use Rattle.i2c_base.specs.declared.reply.Reply.TheVariants as reply
 use Rattle.i2c_base.specs.declared.reply.Cut.TheVariants as cut_at
-use Rattle.i2c_base.specs.Transfer.{TransferView}
-use Rattle.i2c_spec.specs.Cost.{cost_of}
-use Rattle.i2c_spec.specs.Flat.{refusal}
-use Rattle.bus_spec.specs.Walk.{WalkTree, Ends}
-use Rattle.bus_spec.specs.Grammar.{is_over, walk_by, walk_for}
 use Rattle.bus_laws.proofs.walk.HoldsLaw.{walk-holds}
-use Rattle.core_laws.specs.Core.{Place, IsLone, SeatKept, Run, IsFairRun}
-use Rattle.core_laws.specs.Seats.{IsLeft}
 use Rattle.core_laws.proofs.Owed.{owes-load}
 use Rattle.core_laws.proofs.WalkSteps.{left-opened, opened-goes}
 

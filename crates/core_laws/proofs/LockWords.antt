@@ -1,28 +1,19 @@
 -- What lock words tell of kept channels: one channel for each mux, beside one mark for each bus. They answer every look of a
 -- walk that holds its locks, and they go on telling it after each step. The inductions go over walks and over marks.
-use Rattle.std.proofs.Common.{◌≡◌, ℕ, zero, suc, ◌<◌, Bool, true, false, cond, List, [], ◌∷◌, ◌++◌, length, set, Option, Some, None, refl, sym, ◌∙◌, ap, subst, arith, ◌⊎◌, inl, inr}
-use Rattle.std.specs.Prelude.{slice_index_or}
-use Rattle.std.proofs.lemmas.Bool.{eq-eqb}
-use Rattle.std.proofs.lemmas.Bool.Decides.{eqb_tells, leb_tells}
-use Rattle.std.proofs.lemmas.List.{length-set, get_or-set_other, get_or_past}
+use Rattle.core_laws.proofs.Cited.{◌≡◌, ℕ, zero, suc, ◌<◌, Bool, true, false, cond, List, [], ◌∷◌, ◌++◌, length, set, Option, Some, None}
+use Rattle.core_laws.proofs.Cited.{refl, sym, ◌∙◌, ap, subst, arith, ◌⊎◌, inl, inr, slice_index_or, eq-eqb, eqb_tells, leb_tells}
+use Rattle.core_laws.proofs.Cited.{length-set, get_or-set_other, get_or_past, LockId, BoardView, Hop, home_of_mux, changed_at, Mark, Job}
+use Rattle.core_laws.proofs.Cited.{Call, Select, SwitchOff, off_bus, off_mux, Act, ActOutcome, Passed, Sent, Lined, Note, MarkOf, KeptOf}
+use Rattle.core_laws.proofs.Cited.{WalkTree, Ends, Look, Then, Slots, At, MuxSlot, Clean, Marked, mark_in, turned_at, turned, set_marks}
+use Rattle.core_laws.proofs.Cited.{polled_slot, select_told, after_job, seen, IsMarkOn, OwnHeld, MarksHeld, HoldsLocks, changed-same}
+use Rattle.core_laws.proofs.Cited.{changed-other, SeenView, mark_on, kept_of, slots_of, slots_after, marked, all_marked, updates_of_job}
+use Rattle.core_laws.proofs.Cited.{updates_after, applied_kept, MuxUpdate, mark_slot, TellsKept, WantsIn}
 use Rattle.std.proofs.lemmas.Grind.{get_or-set_at}
-use Rattle.i2c_base.specs.declared.ids.LockId.{LockId}
 use Rattle.i2c_base.specs.declared.entry.End.TheVariants as end
-use Rattle.i2c_base.specs.Board.{BoardView}
-use Rattle.i2c_spec.specs.Tree.{Hop, home_of_mux}
-use Rattle.i2c_spec.specs.History.{changed_at}
-use Rattle.bus_spec.specs.Walk.{Mark, Job, Call, Select, SwitchOff, off_bus, off_mux, Act, ActOutcome, Passed, Sent, Lined, Note, MarkOf, KeptOf, WalkTree, Ends, Look, Then}
 use Rattle.bus_spec.specs.Walk as walk
-use Rattle.bus_spec.specs.Slots.{Slots, At, MuxSlot, Clean, Marked, mark_in, turned_at, turned, set_marks, polled_slot, select_told, after_job}
-use Rattle.bus_spec.specs.Grammar.{seen}
-use Rattle.bus_laws.specs.Holds.{IsMarkOn, OwnHeld, MarksHeld, AreApart, HoldsLocks}
-use Rattle.bus_laws.proofs.tree.Slots.{changed-same, changed-other, set_marks-other}
-use Rattle.mux_plan.specs.Plans.{SeenView, mark_on, kept_of, slots_of, slots_after}
-use Rattle.mux_plan.specs.Marks.{marked, all_marked, last_open, updates_of_job, updates_after, applied_kept}
-use Rattle.mux_plan.specs.declared.marks.MuxUpdate.{MuxUpdate}
-use Rattle.mux_plan.proofs.Openings.{mark_slot}
-use Rattle.core_laws.specs.Spots.{TellsKept}
-use Rattle.core_laws.specs.Wants.{WantsIn}
+use Rattle.bus_laws.specs.Holds.{AreApart}
+use Rattle.bus_laws.proofs.tree.Slots.{set_marks-other}
+use Rattle.mux_plan.specs.Marks.{last_open}
 use Rattle.bus_laws.proofs.world.Slots.{kept_other}
 
 -- THE LOOKS: each asks for a mux where it stands

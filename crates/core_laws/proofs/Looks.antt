@@ -1,11 +1,5 @@
 -- The lock words answer the looks of each walk as the journal does. No induction.
-use Rattle.std.proofs.Common.{◌≡◌, ℕ, IsTrue, List}
-use Rattle.i2c_base.specs.declared.ids.LockId.{LockId}
-use Rattle.bus_spec.specs.Grammar.{seen}
-use Rattle.bus_spec.specs.Past.{now}
-use Rattle.mux_plan.specs.Plans.{slots_of}
-use Rattle.core_laws.specs.Spots.{seen_of}
-use Rattle.core_laws.specs.Core.{Place, StandsAt, CoreKept, Run, Whole}
+use Rattle.core_laws.proofs.Cited.{◌≡◌, ℕ, IsTrue, List, LockId, seen, now, slots_of, seen_of, Place, StandsAt, CoreKept, Run, Whole}
 use Rattle.core_laws.proofs.LockWords.{seen-told}
 
 pub looks-same : (run : Run) (whole : Whole) (core : CoreKept run whole) → IsTrue run.tells

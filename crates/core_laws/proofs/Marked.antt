@@ -1,18 +1,8 @@
 -- The table after a message or a line step.
-use Rattle.std.proofs.Common.{◌≡◌, ℕ, List, Option, Some, subst}
-use Rattle.i2c_base.specs.declared.ids.LockId.{LockId}
-use Rattle.i2c_base.specs.Board.{BoardView}
-use Rattle.bus_spec.specs.Walk.{Job, Act, Send, Shift, ActOutcome, WalkTree}
-use Rattle.bus_spec.specs.Slots.{after_job}
-use Rattle.bus_spec.specs.Grammar.{seen, first_note}
-use Rattle.mux_plan.specs.Plans.{SeenView, mark_on, slots_of, slots_after, TellsMarks}
-use Rattle.bus_laws.specs.Holds.{HoldsLocks}
-use Rattle.seg_locks.specs.Locks.{LocksView}
-use Rattle.core_laws.specs.Spots.{seen_of, turned_to}
-use Rattle.core_laws.specs.Table.{TableKept}
-use Rattle.core_laws.specs.Steps.{next_of, AreMarked}
+use Rattle.core_laws.proofs.Cited.{◌≡◌, ℕ, List, Option, Some, subst, LockId, BoardView, Job, Act, Send, Shift, ActOutcome, WalkTree}
+use Rattle.core_laws.proofs.Cited.{after_job, seen, first_note, SeenView, mark_on, slots_of, slots_after, TellsMarks, HoldsLocks, LocksView}
+use Rattle.core_laws.proofs.Cited.{seen_of, turned_to, TableKept, next_of, AreMarked, mark_slot}
 use Rattle.core_laws.proofs.Holding.{home_seen, holds-sent, holds-shifted, home-after, home-told, mark-table}
-use Rattle.mux_plan.proofs.Openings.{mark_slot}
 
 tells_own : (s : SeenView) → TellsMarks (slots_of s) s.marks
 tells_own s = record { at = λ p low. mark_slot (mark_on s p) }

@@ -1,34 +1,25 @@
 -- What an entry tells of a message is so: its bytes and its end are those of the conversation, and who is told to have
 -- heard it is who hears its start.
-use Rattle.std.proofs.Common.{◌≡◌, ℕ, zero, suc, ◌+◌, ◌-◌, eqb, Bool, true, false, cond, List, length, Option, Some, None, unwrap_or, refl, sym, ◌∙◌, ap, arith}
-use Rattle.std.specs.Prelude.{is_some, slice_get}
-use Rattle.std.proofs.lemmas.Bool.{eq-eqb, ne_eqb}
+use Rattle.core_laws.proofs.Cited.{◌≡◌, ℕ, zero, suc, ◌+◌, ◌-◌, eqb, Bool, true, false, cond, List, length, Option, Some, None, refl, sym}
+use Rattle.core_laws.proofs.Cited.{◌∙◌, ap, arith, is_some, slice_get, eq-eqb, End, Purpose, BoardView, block_limit, bytes_most}
+use Rattle.core_laws.proofs.Cited.{MessageView, messages_of, message_most, Hop, World, hearers, has_heard, answer, Job, Call, Select}
+use Rattle.core_laws.proofs.Cited.{SwitchOff, Off, off_mux, job_purpose, message_of, is_last, HearsIn, heard_list, ends_with, chip_where}
+use Rattle.core_laws.proofs.Cited.{who_hears, NextMsg, IsMessageOf, IsHeard, message_for, TransferView}
+use Rattle.std.proofs.Common.{unwrap_or}
+use Rattle.std.proofs.lemmas.Bool.{ne_eqb}
 use Rattle.i2c_base.specs.declared.ids.Node.{Node}
 use Rattle.i2c_base.specs.declared.ids.Node.TheVariants as node
-use Rattle.i2c_base.specs.declared.entry.End.{End}
 use Rattle.i2c_base.specs.declared.entry.End.TheVariants as end
-use Rattle.i2c_base.specs.declared.entry.Purpose.{Purpose}
 use Rattle.i2c_base.specs.declared.entry.Purpose.TheVariants as purpose
 use Rattle.i2c_base.specs.declared.tree.Grant.{Grant}
 use Rattle.i2c_base.specs.declared.tree.Grant.TheVariants as grant
-use Rattle.i2c_base.specs.Board.{BoardView}
-use Rattle.i2c_spec.specs.Flat.{block_limit}
-use Rattle.i2c_spec.specs.Messages.{bytes_most}
-use Rattle.core_laws.specs.Owed.{message_most}
 use Rattle.i2c_spec.specs.Grant.{grant_of, named_of}
-use Rattle.i2c_spec.specs.Tree.{Hop, addr_of_mux}
-use Rattle.i2c_spec.specs.Messages.{MessageView, messages_of}
-use Rattle.i2c_spec.specs.World.{World, hearers, has_heard, answer}
-use Rattle.bus_spec.specs.Walk.{Job, Call, Select, SwitchOff, Off, off_mux, job_purpose, message_of, is_last, nth_message, chip_address}
-use Rattle.bus_spec.specs.Tells.{HearsIn, heard_list}
+use Rattle.i2c_spec.specs.Tree.{addr_of_mux}
+use Rattle.bus_spec.specs.Walk.{nth_message, chip_address}
 use Rattle.bus_spec.specs.Legal.{starts, start_failed}
 use Rattle.mux_plan.specs.Plans.{control_of}
-use Rattle.bus_laws.specs.Next.{chip_where, who_hears, heard_where}
-use Rattle.mux_plan.specs.declared.task.NextMsg.{NextMsg}
-use Rattle.core_laws.specs.Sends.{IsMessageOf}
-use Rattle.bus_message.specs.Sends.{IsHeard, device_of, control_message, message_for}
-use Rattle.mux_plan.specs.Plans.{ends_with}
-use Rattle.i2c_base.specs.Transfer.{TransferView}
+use Rattle.bus_laws.specs.Next.{heard_where}
+use Rattle.bus_message.specs.Sends.{device_of, control_message}
 
 -- who is told to have heard a message is the one who hears its start
 named_is : (w : World) (reading : Bool) (g : Grant)

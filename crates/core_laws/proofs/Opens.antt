@@ -1,34 +1,19 @@
 -- The whole holds at the opening, and where every walk waits all have ended. No induction.
-use Rattle.std.proofs.Common.{◌≡◌, ℕ, zero, suc, ◌+◌, ◌*◌, ◌≤◌, IsTrue, List, [], ◌∷◌, ◌++◌, length, map, replicate, Option, Some, None, refl, sym, ◌∙◌, ap, subst, inl, arith}
-use Rattle.std.specs.Prelude.{slice_get, slice_index_or}
+use Rattle.core_laws.proofs.Cited.{◌≡◌, ℕ, zero, suc, ◌+◌, ◌*◌, ◌≤◌, IsTrue, List, [], ◌∷◌, ◌++◌, length, Option, Some, None, refl, sym}
+use Rattle.core_laws.proofs.Cited.{◌∙◌, ap, subst, inl, arith, slice_get, slice_index_or, Entry, LockId, Phase, MayStart, Reply, WalkTree}
+use Rattle.core_laws.proofs.Cited.{seen, first_act, now, rank, PortCall, InLocks, slots_of, IsLockOf, IsMarkOn, HoldsLocks, IsHeldUp}
+use Rattle.core_laws.proofs.Cited.{LocksView, holder_in, rank_in, seen_of, Spot, SpotTold, IsTold, Place, spot_of, numbers_of, trees_of}
+use Rattle.core_laws.proofs.Cited.{spots_of, pending, SeatKept, CoreKept, Run, Whole, total, IsOnce, TableKept, map_from}
+use Rattle.std.proofs.Common.{map, replicate}
 use Rattle.std.proofs.lemmas.List.{length-map, length-replicate}
 use Rattle.std.proofs.lemmas.List.Sums.{sum_by-cons}
-use Rattle.i2c_base.specs.declared.entry.Entry.{Entry}
-use Rattle.i2c_base.specs.declared.ids.LockId.{LockId}
 use Rattle.i2c_base.specs.declared.ids.LockId.TheVariants as lock
-use Rattle.i2c_base.specs.declared.port.Phase.{Phase}
-use Rattle.i2c_base.specs.Phases.{MayStart}
-use Rattle.i2c_base.specs.declared.reply.Reply.{Reply}
-use Rattle.bus_spec.specs.Walk.{WalkTree}
-use Rattle.bus_spec.specs.Grammar.{seen, first_act}
-use Rattle.bus_spec.specs.Past.{now}
-use Rattle.bus_spec.specs.Readings.{rank}
-use Rattle.i2c_base.specs.declared.port.PortCall.{PortCall}
-use Rattle.bus_laws.specs.Runs.{InLocks}
-use Rattle.mux_plan.specs.Plans.{slots_of}
-use Rattle.bus_laws.specs.Holds.{IsLockOf, IsMarkOn, HoldsLocks}
-use Rattle.bus_laws.specs.Waiting.{LocksKept, IsHeldUp}
+use Rattle.bus_laws.specs.Waiting.{LocksKept}
 use Rattle.bus_laws.proofs.walk.Waits.{all-ended}
-use Rattle.seg_locks.specs.Locks.{LocksView, holder_in, rank_in, opened}
-use Rattle.core_laws.specs.Spots.{seen_of, Spot, SpotTold, IsTold}
-use Rattle.core_laws.specs.Core.{Place, spot_of, numbers_of, trees_of, spots_of, pending, SeatKept, CoreKept, Run, Whole}
-use Rattle.core_laws.specs.Owed.{total}
+use Rattle.seg_locks.specs.Locks.{opened}
 use Rattle.core_laws.specs.Opens.{AreFree, IsOpened}
-use Rattle.bus_laws.specs.Stands.{IsOnce}
-use Rattle.core_laws.specs.Table.{TableKept}
 use Rattle.core_laws.proofs.Core.{holds-at}
 use Rattle.core_laws.proofs.Holding.{mark_of_slot}
-use Rattle.i2c_base.proofs.ListLemmas.{map_from}
 
 abbrev nobody_has : Option ℕ
 nobody_has = None

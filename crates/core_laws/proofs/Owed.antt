@@ -1,21 +1,11 @@
 -- What each step takes off what is owed. No induction.
-use Rattle.std.proofs.Common.{◌≡◌, ◌<◌, ◌≤◌, ◌+◌, ◌-◌, ℕ, Bool, true, false, List, length, set, get_or, Option, Some, sym, ◌∙◌, ap, arith}
-use Rattle.std.specs.Prelude.{slice_get}
-use Rattle.std.proofs.lemmas.Option.{slice_get_within, slice_get-get_or}
-use Rattle.std.proofs.lemmas.List.Sums.{sum_by-set}
-use Rattle.i2c_base.specs.declared.errno.Errno.{Errno}
-use Rattle.i2c_base.specs.Board.{BoardView}
-use Rattle.i2c_base.specs.Transfer.{TransferView}
-use Rattle.i2c_spec.specs.Cost.{cost_of}
+use Rattle.core_laws.proofs.Cited.{◌≡◌, ◌<◌, ◌≤◌, ◌+◌, ◌-◌, ℕ, Bool, true, false, List, length, set, get_or, Option, Some, sym, ◌∙◌, ap}
+use Rattle.core_laws.proofs.Cited.{arith, slice_get, slice_get_within, slice_get-get_or, sum_by-set, Errno, BoardView, TransferView}
+use Rattle.core_laws.proofs.Cited.{cost_of, IsTree, Act, Settle, ActOutcome, Passed, WalkTree, Slots, walk_for, seen, first_act, rest_of}
+use Rattle.core_laws.proofs.Cited.{weight_at, within-next, OwesUpTo, total}
 use Rattle.i2c_spec.specs.Rules.{MeetsRules}
-use Rattle.i2c_spec.specs.TreeFacts.{IsTree}
-use Rattle.bus_spec.specs.Walk.{Act, Settle, ActOutcome, Passed, WalkTree}
-use Rattle.bus_spec.specs.Slots.{Slots}
-use Rattle.bus_spec.specs.Grammar.{walk_for, seen, first_act, rest_of}
-use Rattle.bus_laws.specs.Costs.{IsWithin, weight_at}
+use Rattle.bus_laws.specs.Costs.{IsWithin}
 use Rattle.bus_laws.proofs.walk.CostLaw.{walk-within}
-use Rattle.bus_laws.proofs.walk.Next.{within-next}
-use Rattle.core_laws.specs.Owed.{OwesUpTo, total}
 
 module _ (b : BoardView) (w : WalkTree) (unsettled : Bool) (behind n : ℕ) (owes : OwesUpTo b w unsettled behind n) (v : Slots) (act : Act)
     (first : first_act (seen v w) ≡ Some act) where

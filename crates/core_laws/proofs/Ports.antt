@@ -1,35 +1,16 @@
 -- What each step keeps of the ports, over ports that tell nothing too. No induction.
-use Rattle.std.proofs.Common.{◌≡◌, ℕ, zero, suc, ◌+◌, ◌*◌, ◌≤◌, Bool, true, false, IsTrue, List, length, set, Some, sym, ◌∙◌, ap, subst, ◌⊎◌, inl, inr, arith}
-use Rattle.std.specs.Prelude.{slice_get}
-use Rattle.std.proofs.lemmas.Bool.Decides.{eqb_tells}
-use Rattle.i2c_base.specs.declared.ids.LockId.{LockId}
+use Rattle.core_laws.proofs.Cited.{◌≡◌, ℕ, zero, suc, ◌+◌, ◌*◌, ◌≤◌, Bool, true, false, IsTrue, List, length, set, Some, sym, ◌∙◌, ap}
+use Rattle.core_laws.proofs.Cited.{subst, ◌⊎◌, inl, inr, arith, slice_get, eqb_tells, LockId, End, Idle, MayStart, BoardView, root_of}
+use Rattle.core_laws.proofs.Cited.{MessageView, Job, Call, Select, SwitchOff, Act, Send, Shift, Sent, WalkTree, Then, job_bus, is_last}
+use Rattle.core_laws.proofs.Cited.{Slots, seen, first_act, rest_of, InLocks, Settles, first_is, seen-first, call-goes-on, settles-sent}
+use Rattle.core_laws.proofs.Cited.{slots_of, HoldsLocks, LocksView, holder_in, seen_of, AreRooted, RootPort, AreDistinct, TableKept}
+use Rattle.core_laws.proofs.Cited.{IsInside, PortKept, HoldsAt, set_elsewhere}
 use Rattle.i2c_base.specs.declared.ids.LockId.TheVariants as lock
-use Rattle.i2c_base.specs.declared.entry.End.{End}
 use Rattle.i2c_base.specs.declared.entry.End.TheVariants as end
-use Rattle.i2c_base.specs.declared.port.Phase.TheVariants.{Idle}
-use Rattle.i2c_base.specs.Phases.{MayStart}
-use Rattle.i2c_base.specs.Board.{BoardView}
-use Rattle.i2c_spec.specs.Tree.{root_of}
-use Rattle.i2c_spec.specs.Messages.{MessageView}
-use Rattle.bus_spec.specs.Walk.{Job, Call, Select, SwitchOff, Act, Send, Shift, Sent, WalkTree, Then, job_bus, is_last}
-use Rattle.bus_spec.specs.Slots.{Slots}
-use Rattle.bus_spec.specs.Grammar.{seen, first_act, rest_of}
-use Rattle.bus_laws.specs.Runs.{InLocks}
-use Rattle.bus_laws.specs.Settles.{Settles}
-use Rattle.bus_laws.proofs.past.StandsEntries.{first_is}
-use Rattle.bus_laws.proofs.walk.Next.{seen-first, call-goes-on}
-use Rattle.bus_laws.proofs.walk.Next.{settles-sent}
-use Rattle.mux_plan.specs.Plans.{slots_of}
-use Rattle.bus_laws.specs.Holds.{HoldsLocks}
-use Rattle.seg_locks.specs.Locks.{LocksView, holder_in}
-use Rattle.core_laws.specs.Spots.{seen_of, AreRooted}
-use Rattle.bus_message.specs.Ports.{RootPort}
 use Rattle.core_laws.proofs.Steps.{set_here}
-use Rattle.core_laws.specs.Table.{AreDistinct, TableKept}
-use Rattle.core_laws.specs.Ports.{IsInside, IsFree, PortKept, HoldsAt}
+use Rattle.core_laws.specs.Ports.{IsFree}
 use Rattle.core_laws.proofs.Table.{set_at, one_place}
 use Rattle.core_laws.proofs.Holding.{holds-shifted}
-use Rattle.i2c_base.proofs.ListLemmas.{set_elsewhere}
 
 -- who is inside holds its root's lock
 inside-holds : (b : BoardView) (ls : List LockId) (w : WalkTree) (r : ℕ) → IsInside b w r → HoldsLocks b ls w → InLocks (lock.Bus r) ls

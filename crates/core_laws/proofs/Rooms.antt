@@ -1,27 +1,13 @@
 -- What is kept leaves room for the step that comes next: in the journal for its entries and their bytes, and in the log
 -- of its port. No induction.
-use Rattle.std.proofs.Common.{◌≡◌, ℕ, ◌+◌, ◌*◌, ◌-◌, ◌≤◌, Bool, true, false, IsTrue, cond, List, [], ◌∷◌, length, set, Option, Some, ap, inl, inr, arith}
-use Rattle.std.specs.Prelude.{slice_get, not}
-use Rattle.i2c_base.specs.declared.errno.Errno.{Errno}
-use Rattle.i2c_base.specs.declared.reply.Reply.{Reply}
+use Rattle.core_laws.proofs.Cited.{◌≡◌, ℕ, ◌+◌, ◌*◌, ◌-◌, ◌≤◌, Bool, true, false, IsTrue, cond, List, [], ◌∷◌, length, set, Option, Some}
+use Rattle.core_laws.proofs.Cited.{ap, inl, inr, arith, slice_get, not, Errno, Reply, MayStart, cost_of, Job, Act, Take, Free, Send, Shift}
+use Rattle.core_laws.proofs.Cited.{Settle, got_after, reply_by, weight_at, quiet-next, within-next, slots_of, Place, has_reply, pending}
+use Rattle.core_laws.proofs.Cited.{IsGoing, CoreKept, Run, Whole, total, message_most, seen_of, RootPort, next_of, got-grows, given-few}
+use Rattle.core_laws.proofs.Cited.{bytes_given}
 use Rattle.i2c_base.specs.Limits.{MOST_CALLS}
-use Rattle.i2c_base.specs.Phases.{MayStart}
-use Rattle.i2c_spec.specs.Cost.{cost_of}
-use Rattle.bus_spec.specs.Walk.{Job, Act, Take, Free, Send, Shift, Settle}
-use Rattle.bus_spec.specs.Past.{got_after}
-use Rattle.bus_spec.specs.Stepwise.{reply_by}
-use Rattle.bus_laws.specs.Costs.{weight_at}
-use Rattle.bus_laws.proofs.walk.Next.{quiet-next, within-next}
-use Rattle.mux_plan.specs.Plans.{slots_of}
-use Rattle.core_laws.specs.Core.{Place, has_reply, pending, IsGoing, CoreKept, Run, Whole}
-use Rattle.core_laws.specs.Owed.{total, message_most}
-use Rattle.core_laws.specs.Spots.{seen_of}
-use Rattle.bus_message.specs.Ports.{RootPort}
-use Rattle.core_laws.specs.Steps.{next_of}
-use Rattle.bus_laws.proofs.past.Bytes.{got-grows, given-few}
 use Rattle.core_laws.proofs.Core.{owes-here, pending-set, stands-here, going-on}
 use Rattle.core_laws.proofs.Owed.{total-set}
-use Rattle.i2c_base.specs.Need.{bytes_given}
 
 -- a part is no more than the sum
 part-owed : (owes : List ℕ) (place n : ℕ) → slice_get owes place ≡ Some n → n ≤ total owes

@@ -1,53 +1,33 @@
 -- A message, a line step and the settle after them keep what is told of all. No induction.
-use Rattle.std.proofs.Common.{◌≡◌, ℕ, zero, suc, ◌+◌, ◌<◌, ◌≤◌, Bool, false, cond, List, [], ◌∷◌, ◌++◌, length, reverse, set, Option, Some, None, refl, sym, ◌∙◌, ap, subst, inl, inr, arith}
-use Rattle.std.specs.Prelude.{slice_get, slice_index_or, is_some}
-use Rattle.std.proofs.lemmas.Bool.Decides.{eqb_tells, leb_tells}
-use Rattle.std.proofs.lemmas.List.{reverse-append, append-nil, get_or_past}
-use Rattle.i2c_base.specs.declared.errno.Errno.{Errno}
-use Rattle.i2c_base.specs.declared.entry.Entry.{Entry}
+use Rattle.core_laws.proofs.Cited.{◌≡◌, ℕ, zero, suc, ◌+◌, ◌<◌, ◌≤◌, Bool, false, cond, List, [], ◌∷◌, ◌++◌, length, set, Option, Some}
+use Rattle.core_laws.proofs.Cited.{None, refl, sym, ◌∙◌, ap, subst, inl, inr, arith, slice_get, slice_index_or, is_some, eqb_tells}
+use Rattle.core_laws.proofs.Cited.{leb_tells, append-nil, get_or_past, Errno, Entry, Purpose, PortCall, Reply, BoardView, TransferView}
+use Rattle.core_laws.proofs.Cited.{buses, root_of, IsTree, IsPlainBoard, MessageView, messages_of, World, hearers, has_heard, answer}
+use Rattle.core_laws.proofs.Cited.{block_limit, Asks, changed_at, Job, Call, Select, SwitchOff, off_mux, Act, Take, Free, Send, Shift}
+use Rattle.core_laws.proofs.Cited.{Settle, ActOutcome, Passed, Sent, Lined, WalkTree, Ends, Look, Then, job_bus, job_purpose, message_of}
+use Rattle.core_laws.proofs.Cited.{is_last, line_mux, line_level, Slots, mark_in, after_job, seen, is_over, first_act, first_note, rest_of}
+use Rattle.core_laws.proofs.Cited.{cut_told, message_cut, Now, current, now, step, line_call, is_due, got_after, IsNext, IsStepwise}
+use Rattle.core_laws.proofs.Cited.{reply_by, HearsIn, heard_list, SeenView, slots_of, slots_after, TellsMarks, ends_with, LinesAreLocked}
+use Rattle.core_laws.proofs.Cited.{NoSettle, AsksForMessages, who_hears, chip_where, at_same, LocksView, message_entry, seen_of, turned_to}
+use Rattle.core_laws.proofs.Cited.{TellsKept, Spot, SpotTold, IsTold, AreNumbered, AreRooted, RootPort, MsgResult, NextMsg, IsMessageOf}
+use Rattle.core_laws.proofs.Cited.{IsHeard, message_for, set_elsewhere}
+use Rattle.std.proofs.Common.{reverse}
+use Rattle.std.proofs.lemmas.List.{reverse-append}
 use Rattle.i2c_base.specs.declared.entry.Entry.TheVariants as entry
-use Rattle.i2c_base.specs.declared.entry.Purpose.{Purpose}
 use Rattle.i2c_base.specs.declared.entry.Purpose.TheVariants as purpose
-use Rattle.i2c_base.specs.declared.port.PortCall.{PortCall}
-use Rattle.i2c_base.specs.declared.reply.Reply.{Reply}
 use Rattle.i2c_base.specs.declared.reply.Cut.TheVariants as cut_at
-use Rattle.i2c_base.specs.Board.{BoardView}
-use Rattle.i2c_base.specs.Transfer.{TransferView}
-use Rattle.i2c_spec.specs.Tree.{buses, root_of}
-use Rattle.i2c_spec.specs.TreeFacts.{IsTree}
-use Rattle.i2c_spec.specs.Plain.{IsPlainBoard}
-use Rattle.i2c_spec.specs.Messages.{MessageView, messages_of}
-use Rattle.i2c_spec.specs.World.{World, hearers, has_heard, answer, after}
+use Rattle.i2c_spec.specs.World.{after}
 use Rattle.i2c_spec.specs.Conversation.{TalkTold, talk, world_listener}
-use Rattle.i2c_spec.specs.Flat.{block_limit}
-use Rattle.i2c_spec.specs.History.{Asks, changed_at}
-use Rattle.bus_spec.specs.Walk.{Job, Call, Select, SwitchOff, off_mux, Act, Take, Free, Send, Shift, Settle, ActOutcome, Passed, Sent, Lined, WalkTree, Ends, Look, Then, job_bus, job_purpose, message_of, is_last, line_mux, line_level}
-use Rattle.bus_spec.specs.Slots.{Slots, mark_in, after_job}
-use Rattle.bus_spec.specs.Grammar.{seen, is_over, first_act, first_note, rest_of}
-use Rattle.bus_spec.specs.Readings.{cut_told, message_cut}
-use Rattle.bus_spec.specs.Past.{Now, current, now, mark, step, sent, sent_by, lined, lined_by, line_call, moved, with_due, talk_of, is_due, got_after, cut_of}
-use Rattle.bus_spec.specs.Stepwise.{IsNext, IsStepwise, reply_by}
-use Rattle.bus_spec.specs.Tells.{HearsIn, heard_list, TellsMessage}
-use Rattle.mux_plan.specs.Plans.{SeenView, slots_of, slots_after, TellsMarks}
-use Rattle.bus_laws.specs.Lines.{LinesAreLocked}
-use Rattle.bus_laws.specs.Settles.{NoSettle}
-use Rattle.bus_laws.specs.Reach.{AsksForMessages}
-use Rattle.bus_laws.specs.Next.{WillReach, WillSwitch, who_hears, chip_where}
+use Rattle.bus_spec.specs.Past.{mark, sent, sent_by, lined, lined_by, moved, with_due, talk_of, cut_of}
+use Rattle.bus_spec.specs.Tells.{TellsMessage}
+use Rattle.bus_laws.specs.Next.{WillReach, WillSwitch}
 use Rattle.bus_laws.proofs.past.Marks.{mark-there}
 use Rattle.bus_laws.proofs.past.Next.{call-reaches, control-switches}
-use Rattle.bus_laws.proofs.past.StandsStep.{at_same, at_other}
-use Rattle.seg_locks.specs.Locks.{LocksView}
-use Rattle.core_laws.specs.Behind.{message_entry}
-use Rattle.core_laws.specs.Spots.{seen_of, turned_to, TellsKept, Spot, SpotTold, PortTold, IsTold, AreNumbered, AreRooted}
-use Rattle.bus_message.specs.Ports.{RootPort}
-use Rattle.bus_message.specs.declared.message.MsgResult.{MsgResult}
+use Rattle.bus_laws.proofs.past.StandsStep.{at_other}
+use Rattle.core_laws.specs.Spots.{PortTold}
 use Rattle.core_laws.proofs.Steps.{spot-told, set_here, own-ahead, spots-kept}
-use Rattle.mux_plan.specs.declared.task.NextMsg.{NextMsg}
-use Rattle.core_laws.specs.Sends.{IsMessageOf}
-use Rattle.bus_message.specs.Sends.{IsChipAddress, IsHeard, HasSent, message_for}
-use Rattle.mux_plan.specs.Plans.{ends_with}
+use Rattle.bus_message.specs.Sends.{IsChipAddress, HasSent}
 use Rattle.core_laws.proofs.MessageTold.{call-hears, control-hears, call-message, control-message, last-is}
-use Rattle.i2c_base.proofs.ListLemmas.{set_elsewhere}
 
 -- who settles next after a step, by what is left of the walk
 abbrev pub due_at : ℕ → Option Act → Option ℕ
@@ -235,7 +215,8 @@ module _ (b : BoardView) (tree : IsTree b) (plain : IsPlainBoard b) (lines : Lin
 
       talk_is : talk world_listener (block_limit b) old.world m (ends_with next.purpose next.part next.parts) (cut_of msg.end) ≡ talked
       talk_is =
-          ap (λ (w : World). talk world_listener (block_limit b) w m (ends_with next.purpose next.part next.parts) (cut_of msg.end)) world-is
+          ap (λ (w : World). talk world_listener (block_limit b) w m (ends_with next.purpose next.part next.parts)
+          (cut_of msg.end)) world-is
           ∙ ap (λ (y : MessageView). talk world_listener (block_limit b) (n.worlds r) y (ends_with next.purpose next.part next.parts)
           (cut_of msg.end)) is_said.message_is
           ∙ ap (λ (l : Bool). talk world_listener (block_limit b) (n.worlds r) (message_of b job left) l (cut_of msg.end)) last_is
@@ -279,7 +260,8 @@ module _ (b : BoardView) (tree : IsTree b) (plain : IsPlainBoard b) (lines : Lin
 
       step_is : step b asks n said ≡ behind
       step_is = ap (λ (a : Option Act). with_due c
-          (moved b asks n (sent_by b n c a (first_note (current b asks n c)) msg.reading bytes msg.end) c said (Sent msg.end bytes))) is_next
+          (moved b asks n (sent_by b n c a (first_note (current b asks n c)) msg.reading bytes msg.end) c said (Sent msg.end bytes)))
+          is_next
 
       module _ (w : WalkTree) (is : w ≡ rest_of (seen (slots_of (seen_of v)) x.tree) (Sent msg.end bytes)) (goes : is_over w ≡ false)
           (words : SeenView) (all : length words.marks ≡ buses b)

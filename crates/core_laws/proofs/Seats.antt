@@ -1,22 +1,10 @@
 -- The seat of a caller whose walk goes on after a step, and after its settle. No induction.
-use Rattle.std.proofs.Common.{◌≡◌, ℕ, ◌-◌, ◌≤◌, Bool, true, false, List, [], ◌∷◌, Option, Some, refl, sym, ◌∙◌, ap, subst, inl}
-use Rattle.std.specs.Prelude.{take, not}
-use Rattle.i2c_base.specs.declared.ids.LockId.{LockId}
-use Rattle.i2c_base.specs.declared.errno.Errno.{Errno}
-use Rattle.i2c_base.specs.declared.reply.Reply.{Reply}
+use Rattle.core_laws.proofs.Cited.{◌≡◌, ℕ, ◌-◌, ◌≤◌, Bool, true, false, List, [], ◌∷◌, Option, Some, refl, sym, ◌∙◌, ap, subst, inl, take}
+use Rattle.core_laws.proofs.Cited.{not, LockId, Errno, Reply, Fits, FitsReads, cost_of, Settle, Passed, WalkTree, seen, is_over, first_act}
+use Rattle.core_laws.proofs.Cited.{rest_of, IsMarkOn, HoldsLocks, InLocks, seen-first, mark_on, SeenView, slots_of, Place, Run, has_reply}
+use Rattle.core_laws.proofs.Cited.{IsGoing, SeatKept, OwesUpTo, IsLeft, IsDecided}
 use Rattle.i2c_base.specs.declared.reply.Cut.{Cut}
 use Rattle.i2c_base.specs.declared.reply.Cut.TheVariants as cut_at
-use Rattle.i2c_base.specs.Fitting.{Fits, FitsReads}
-use Rattle.i2c_spec.specs.Cost.{cost_of}
-use Rattle.bus_spec.specs.Walk.{Settle, Passed, WalkTree}
-use Rattle.bus_spec.specs.Grammar.{seen, is_over, first_act, rest_of}
-use Rattle.bus_laws.specs.Holds.{IsMarkOn, HoldsLocks}
-use Rattle.bus_laws.specs.Runs.{InLocks}
-use Rattle.bus_laws.proofs.walk.Next.{seen-first}
-use Rattle.mux_plan.specs.Plans.{mark_on, SeenView, slots_of}
-use Rattle.core_laws.specs.Core.{Place, Run, has_reply, IsGoing, SeatKept}
-use Rattle.core_laws.specs.Owed.{OwesUpTo}
-use Rattle.core_laws.specs.Seats.{IsLeft, IsDecided}
 use Rattle.core_laws.proofs.Holding.{holder-goes, holds-settled}
 use Rattle.core_laws.proofs.Owed.{owes-settle}
 use Rattle.core_laws.proofs.WalkSteps.{left-settled}

@@ -1,37 +1,20 @@
 -- What a message leaves of its transfer, with what was read so far, or with the reply that its settle decides. No induction.
-use Rattle.std.proofs.Common.{◌≡◌, ℕ, suc, ◌+◌, ◌<◌, Bool, false, List, [], length, Option, Some, refl, sym, ◌∙◌, ap, subst, ◌⊎◌, inl, inr, arith}
-use Rattle.std.specs.Prelude.{slice_get, take}
+use Rattle.core_laws.proofs.Cited.{◌≡◌, ℕ, suc, ◌+◌, ◌<◌, Bool, false, List, [], length, Option, Some, refl, sym, ◌∙◌, ap, subst, ◌⊎◌, inl}
+use Rattle.core_laws.proofs.Cited.{inr, arith, slice_get, take, Errno, Purpose, Reply, Fits, FitsReads, block_limit, MessageView, Job, Call}
+use Rattle.core_laws.proofs.Cited.{Select, SwitchOff, Send, Settle, Sent, WalkTree, job_purpose, Shift, Lined, got_after, reply_by, IsCall}
+use Rattle.core_laws.proofs.Cited.{length-messages, SeenView, slots_of, Place, has_reply, IsGoing, CoreKept, Run, Whole, IsSent, IsLeft}
+use Rattle.core_laws.proofs.Cited.{IsDecided, NextMsg, message_for, gone_after, next_of, behind_of, seen_of, RootPort, MsgResult}
 use Rattle.std.proofs.lemmas.List.{take_all}
-use Rattle.i2c_base.specs.declared.errno.Errno.{Errno}
 use Rattle.i2c_base.specs.declared.entry.End.TheVariants as end
-use Rattle.i2c_base.specs.declared.entry.Purpose.{Purpose}
-use Rattle.i2c_base.specs.declared.reply.Reply.{Reply}
-use Rattle.i2c_base.specs.Fitting.{Fits, FitsReads}
-use Rattle.i2c_spec.specs.Flat.{block_limit}
-use Rattle.i2c_spec.specs.Messages.{MessageView}
-use Rattle.bus_spec.specs.Walk.{Job, Call, Select, SwitchOff, Send, Settle, Sent, WalkTree, job_purpose, Shift, Lined}
-use Rattle.bus_spec.specs.Past.{got_after}
-use Rattle.bus_spec.specs.Stepwise.{reply_by}
-use Rattle.bus_laws.specs.Runs.{IsCall}
 use Rattle.bus_laws.proofs.past.Placed.{no_settle}
 use Rattle.bus_laws.proofs.walk.Reads.{message-reads}
-use Rattle.i2c_spec.proofs.MessageLemmas.{length-messages}
 use Rattle.i2c_spec.proofs.BlockLemmas.{is_block_limit}
-use Rattle.mux_plan.specs.Plans.{SeenView, slots_of}
-use Rattle.core_laws.specs.Core.{Place, has_reply, IsGoing, CoreKept, Run, Whole, IsSent}
-use Rattle.core_laws.specs.Seats.{IsLeft, IsDecided}
-use Rattle.mux_plan.specs.declared.task.NextMsg.{NextMsg}
-use Rattle.bus_message.specs.Sends.{message_for, call_message}
-use Rattle.core_laws.specs.Sends.{gone_after}
-use Rattle.core_laws.specs.Steps.{next_of, behind_of}
+use Rattle.bus_message.specs.Sends.{call_message}
 use Rattle.bus_message.specs.Talks.{Gives}
 use Rattle.core_laws.proofs.Core.{owes-here, stands-here, going-on, left-on}
 use Rattle.core_laws.proofs.CoreSteps.{none_owed}
 use Rattle.core_laws.proofs.Leaves.{is_ok, message-leaves}
 use Rattle.core_laws.proofs.WalkSteps.{SettlesNext, call-is, ended-leaves, line-leaves}
-use Rattle.core_laws.specs.Spots.{seen_of}
-use Rattle.bus_message.specs.Ports.{RootPort}
-use Rattle.bus_message.specs.declared.message.MsgResult.{MsgResult}
 use Rattle.bus_laws.proofs.past.Bytes.{reply-fits}
 
 module _ (run : Run) (whole : Whole) (core : CoreKept run whole)

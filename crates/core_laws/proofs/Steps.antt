@@ -1,38 +1,19 @@
 -- One step of one caller keeps what is told of all. No induction.
-use Rattle.std.proofs.Common.{◌≡◌, ℕ, zero, suc, ◌<◌, Bool, true, false, cond, List, [], ◌∷◌, ◌++◌, length, set, Option, Some, None, eqb, refl, sym, ◌∙◌, ap, subst, inl, inr, arith}
-use Rattle.std.specs.Prelude.{slice_get, slice_index_or}
-use Rattle.std.proofs.lemmas.Bool.Decides.{eqb_tells}
-use Rattle.std.proofs.lemmas.List.{get_or-set_same, get_or-set_other, length-set, append-nil}
-use Rattle.i2c_base.specs.declared.ids.LockId.{LockId}
+use Rattle.core_laws.proofs.Cited.{◌≡◌, ℕ, zero, suc, ◌<◌, Bool, true, false, cond, List, [], ◌∷◌, ◌++◌, length, set, Option, Some, None}
+use Rattle.core_laws.proofs.Cited.{eqb, refl, sym, ◌∙◌, ap, subst, inl, inr, arith, slice_get, slice_index_or, eqb_tells, get_or-set_other}
+use Rattle.core_laws.proofs.Cited.{length-set, append-nil, LockId, Entry, Reply, BoardView, buses, home_of_mux, IsTree, IsPlainBoard, Asks}
+use Rattle.core_laws.proofs.Cited.{Take, Free, Settle, Passed, WalkTree, Slots, mark_in, seen, is_over, first_act, rest_of, is_lock}
+use Rattle.core_laws.proofs.Cited.{caller_of, cut_told, Now, begun, current, now, step, IsNext, reply_by, Errno, LinesAreLocked}
+use Rattle.core_laws.proofs.Cited.{AsksForMessages, at_same, slots_of, ahead, IsLockOf, LocksView, holder_in, with_holder, seen_of, Spot}
+use Rattle.core_laws.proofs.Cited.{SpotTold, IsTold, AreNumbered, RootPort, set_elsewhere}
+use Rattle.std.proofs.lemmas.List.{get_or-set_same}
 use Rattle.i2c_base.specs.declared.ids.LockId.TheVariants as lock
-use Rattle.i2c_base.specs.declared.entry.Entry.{Entry}
 use Rattle.i2c_base.specs.declared.entry.Entry.TheVariants as entry
-use Rattle.i2c_base.specs.declared.reply.Reply.{Reply}
 use Rattle.i2c_base.specs.declared.reply.Cut.TheVariants as cut_at
-use Rattle.i2c_base.specs.Board.{BoardView}
-use Rattle.i2c_spec.specs.Tree.{buses, home_of_mux}
-use Rattle.i2c_spec.specs.TreeFacts.{IsTree}
-use Rattle.i2c_spec.specs.Plain.{IsPlainBoard}
-use Rattle.i2c_spec.specs.History.{Asks}
-use Rattle.bus_spec.specs.Walk.{Take, Free, Settle, Passed, WalkTree}
-use Rattle.bus_spec.specs.Slots.{Slots, mark_in}
-use Rattle.bus_spec.specs.Grammar.{seen, is_over, first_act, rest_of}
-use Rattle.bus_spec.specs.Readings.{is_lock, caller_of, cut_told}
-use Rattle.bus_spec.specs.Past.{Now, begun, current, now, step}
-use Rattle.bus_spec.specs.Stepwise.{May, IsNext, reply_by}
-use Rattle.i2c_base.specs.declared.errno.Errno.{Errno}
-use Rattle.bus_laws.specs.Lines.{LinesAreLocked}
-use Rattle.bus_laws.specs.Reach.{AsksForMessages}
+use Rattle.bus_spec.specs.Stepwise.{May}
 use Rattle.bus_laws.proofs.past.Ready.{takes-below}
-use Rattle.bus_laws.proofs.past.StandsStep.{at_same}
-use Rattle.mux_plan.specs.Plans.{slots_of}
-use Rattle.bus_laws.specs.Others.{ahead}
-use Rattle.bus_laws.specs.Holds.{IsLockOf}
 use Rattle.bus_laws.proofs.past.Others.{others-stay}
-use Rattle.seg_locks.specs.Locks.{LocksView, holder_in, with_holder}
-use Rattle.core_laws.specs.Spots.{seen_of, Spot, SpotTold, LocksTold, IsTold, AreNumbered}
-use Rattle.bus_message.specs.Ports.{RootPort}
-use Rattle.i2c_base.proofs.ListLemmas.{set_elsewhere}
+use Rattle.core_laws.specs.Spots.{LocksTold}
 
 pub set_here : {X : Type 0} (xs : List X) (i : ℕ) (x y : X) → slice_get (set xs i x) i ≡ Some y → x ≡ y
 set_here [] i x y h = absurd (let f : None ≡ Some y = h in cc)

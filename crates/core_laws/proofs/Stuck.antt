@@ -1,26 +1,14 @@
 -- Who is held up in memory is stuck by the journal, and who isn't is not. No induction.
-use Rattle.std.proofs.Common.{◌≡◌, ℕ, true, IsTrue, Some, None, sym, ◌∙◌, ap, inl, inr}
-use Rattle.std.specs.Prelude.{slice_get}
-use Rattle.i2c_base.specs.declared.ids.LockId.{LockId}
-use Rattle.bus_spec.specs.Walk.{Act, Take, WalkTree}
-use Rattle.bus_spec.specs.Grammar.{seen, first_act}
+use Rattle.core_laws.proofs.Cited.{◌≡◌, ℕ, true, IsTrue, Some, None, sym, ◌∙◌, ap, inl, inr, slice_get, LockId, Act, Take, WalkTree, seen}
+use Rattle.core_laws.proofs.Cited.{first_act, current, is_due, now, slots_of, ahead, IsHeldUp, holder_in, seen_of, SpotTold, IsTold, Place}
+use Rattle.core_laws.proofs.Cited.{spot_of, spots_of, numbers_of, IsLone, CoreKept, Run, Whole, next_of, IsLockOf, map_at}
 use Rattle.bus_spec.specs.Readings.{holder}
-use Rattle.bus_spec.specs.Past.{current, is_due, now}
 use Rattle.bus_laws.proofs.past.Laws.{holder-told}
-use Rattle.mux_plan.specs.Plans.{slots_of}
 use Rattle.bus_laws.specs.Ready.{IsStuck}
-use Rattle.bus_laws.specs.Others.{ahead}
-use Rattle.bus_laws.specs.Waiting.{IsHeldUp}
-use Rattle.seg_locks.specs.Locks.{holder_in}
-use Rattle.core_laws.specs.Spots.{seen_of, SpotTold, IsTold}
-use Rattle.core_laws.specs.Core.{Place, spot_of, spots_of, numbers_of, IsLone, CoreKept, Run, Whole}
-use Rattle.core_laws.specs.Steps.{next_of}
-use Rattle.bus_laws.specs.Holds.{IsLockOf}
 use Rattle.core_laws.proofs.Core.{stands-here}
 use Rattle.core_laws.proofs.Looks.{looks-same}
 use Rattle.core_laws.proofs.Table.{lock-there}
 use Rattle.core_laws.proofs.Wants.{take-wants}
-use Rattle.i2c_base.proofs.ListLemmas.{map_at}
 
 module _ (run : Run) (whole : Whole) (core : CoreKept run whole) (tell : IsTrue run.tells) (place : ℕ) (p : Place)
     (here : slice_get whole.places place ≡ Some p) where

@@ -1,23 +1,13 @@
 -- Each step keeps the table. The inductions go over lists of marks and over the looks in front of a walk.
-use Rattle.std.proofs.Common.{◌≡◌, ℕ, zero, suc, ◌+◌, ◌<◌, Bool, true, false, cond, List, [], ◌∷◌, length, set, Option, Some, None, refl, sym, ◌∙◌, ap, subst, inl, inr, arith}
-use Rattle.std.specs.Prelude.{slice_get, slice_index_or}
-use Rattle.std.proofs.lemmas.Bool.Decides.{eqb_tells, leb_tells}
-use Rattle.std.proofs.lemmas.List.{length-set, get_or_past}
-use Rattle.i2c_base.specs.declared.ids.LockId.{LockId}
+use Rattle.core_laws.proofs.Cited.{◌≡◌, ℕ, zero, suc, ◌+◌, ◌<◌, Bool, true, false, cond, List, [], ◌∷◌, length, set, Option, Some, None}
+use Rattle.core_laws.proofs.Cited.{refl, sym, ◌∙◌, ap, subst, inl, inr, arith, slice_get, slice_index_or, eqb_tells, leb_tells, length-set}
+use Rattle.core_laws.proofs.Cited.{get_or_past, LockId, BoardView, buses, is_lock, rank, IsBelow, InLocks, IsLockOf, IsMarkOn, LocksView}
+use Rattle.core_laws.proofs.Cited.{holder_in, rank_in, with_holder, IsOnce, AreDistinct, TableKept, set_elsewhere}
 use Rattle.i2c_base.specs.declared.ids.LockId.TheVariants as lock
-use Rattle.i2c_base.specs.Board.{BoardView}
-use Rattle.i2c_spec.specs.Tree.{buses}
-use Rattle.bus_spec.specs.Readings.{is_lock, rank}
-use Rattle.bus_spec.specs.Stepwise.{IsBelow}
-use Rattle.bus_laws.specs.Runs.{InLocks}
 use Rattle.bus_laws.proofs.past.Laws.{below_each}
-use Rattle.bus_laws.specs.Holds.{IsLockOf, IsMarkOn}
-use Rattle.seg_locks.specs.Locks.{LocksView, holder_in, rank_in, with_holder}
 use Rattle.core_laws.proofs.Steps.{set_here, word_set}
-use Rattle.bus_laws.specs.Stands.{IsOnce}
 use Rattle.bus_laws.proofs.past.StandsStep.{lock_tells}
-use Rattle.core_laws.specs.Table.{AreDistinct, IsHeldBy, TableKept}
-use Rattle.i2c_base.proofs.ListLemmas.{set_elsewhere}
+use Rattle.core_laws.specs.Table.{IsHeldBy}
 
 -- a place that is there is set
 pub set_at : {X : Type 0} (xs : List X) (i : ℕ) (x y : X) → slice_get xs i ≡ Some y → slice_get (set xs i x) i ≡ Some x

@@ -1,34 +1,13 @@
 -- The steps, with what they show in one record each. No induction.
-use Rattle.std.proofs.Common.{◌≡◌, ℕ, Bool, false, List, [], ◌∷◌, set, Option, Some, None, refl, sym, ◌∙◌, ap, subst}
-use Rattle.std.specs.Prelude.{slice_get}
-use Rattle.i2c_base.specs.declared.errno.Errno.{Errno}
-use Rattle.i2c_base.specs.declared.entry.Entry.{Entry}
+use Rattle.core_laws.proofs.Cited.{◌≡◌, ℕ, Bool, false, List, [], ◌∷◌, set, Option, Some, None, refl, sym, ◌∙◌, ap, subst, slice_get, Errno}
+use Rattle.core_laws.proofs.Cited.{Entry, Reply, BoardView, TransferView, IsTree, IsPlainBoard, Asks, Job, Act, Send, Shift, Settle, Passed}
+use Rattle.core_laws.proofs.Cited.{Sent, Lined, ActOutcome, WalkTree, line_mux, line_level, Slots, seen, is_over, first_act, first_note}
+use Rattle.core_laws.proofs.Cited.{rest_of, cut_told, message_cut, got_after, now, reply_by, LinesAreLocked, NoSettle, AsksForMessages}
+use Rattle.core_laws.proofs.Cited.{seen-first, SeenView, slots_of, slots_after, TellsMarks, LocksView, message_entry, seen_of, turned_to}
+use Rattle.core_laws.proofs.Cited.{TellsKept, Spot, IsTold, AreNumbered, AreRooted, RootPort, MsgResult, NextMsg, next_of, behind_of}
+use Rattle.core_laws.proofs.Cited.{IsSaid, IsLined, AreMarked}
 use Rattle.i2c_base.specs.declared.entry.Entry.TheVariants as entry
-use Rattle.i2c_base.specs.declared.reply.Reply.{Reply}
 use Rattle.i2c_base.specs.declared.reply.Cut.TheVariants as cut_at
-use Rattle.i2c_base.specs.Board.{BoardView}
-use Rattle.i2c_base.specs.Transfer.{TransferView}
-use Rattle.i2c_spec.specs.TreeFacts.{IsTree}
-use Rattle.i2c_spec.specs.Plain.{IsPlainBoard}
-use Rattle.i2c_spec.specs.History.{Asks}
-use Rattle.bus_spec.specs.Walk.{Job, Act, Send, Shift, Settle, Passed, Sent, Lined, ActOutcome, WalkTree, line_mux, line_level}
-use Rattle.bus_spec.specs.Slots.{Slots}
-use Rattle.bus_spec.specs.Grammar.{seen, is_over, first_act, first_note, rest_of}
-use Rattle.bus_spec.specs.Readings.{cut_told, message_cut}
-use Rattle.bus_spec.specs.Past.{got_after, now}
-use Rattle.bus_spec.specs.Stepwise.{reply_by}
-use Rattle.bus_laws.specs.Lines.{LinesAreLocked}
-use Rattle.bus_laws.specs.Settles.{NoSettle}
-use Rattle.bus_laws.specs.Reach.{AsksForMessages}
-use Rattle.bus_laws.proofs.walk.Next.{seen-first}
-use Rattle.mux_plan.specs.Plans.{SeenView, slots_of, slots_after, TellsMarks}
-use Rattle.seg_locks.specs.Locks.{LocksView}
-use Rattle.core_laws.specs.Behind.{message_entry}
-use Rattle.core_laws.specs.Spots.{seen_of, turned_to, TellsKept, Spot, IsTold, AreNumbered, AreRooted}
-use Rattle.bus_message.specs.Ports.{RootPort}
-use Rattle.bus_message.specs.declared.message.MsgResult.{MsgResult}
-use Rattle.mux_plan.specs.declared.task.NextMsg.{NextMsg}
-use Rattle.core_laws.specs.Steps.{next_of, behind_of, IsSaid, IsLined, AreMarked}
 use Rattle.core_laws.proofs.Said.{told-message, told-decided, told-line, told-line-decided, told-settle}
 use Rattle.core_laws.proofs.Table.{set_at}
 use Rattle.std.proofs.lemmas.List.{set-set}
@@ -77,7 +56,8 @@ module _ (b : BoardView) (tree : IsTree b) (plain : IsPlainBoard b) (lines : Lin
         told-message b tree plain lines asks some callers past spots v sockets None told numbered place x here sees refl once at old new
         port job left said.first next said.of said.rooted t gone said.whose
         bytes msg said.to_addr said.in_direction said.chip said.has
-        (behind_of v x.tree (Sent msg.end bytes)) refl goes words are.all (marks_by (Send job left) (Sent msg.end bytes) words said.first are)
+        (behind_of v x.tree (Sent msg.end bytes)) refl goes words are.all (marks_by (Send job left)
+        (Sent msg.end bytes) words said.first are)
         (kept_by (Send job left) (Sent msg.end bytes) words said.first are) quiet
 
     -- a message that decides, and its settle after it; the caller is told at its walk's end
@@ -97,7 +77,8 @@ module _ (b : BoardView) (tree : IsTree b) (plain : IsPlainBoard b) (lines : Lin
           told-decided b tree plain lines asks some callers past spots v sockets None told numbered place x here sees refl once at old new
           port job left said.first next said.of said.rooted t gone said.whose
           bytes msg said.to_addr said.in_direction said.chip said.has
-          (behind_of v x.tree (Sent msg.end bytes)) refl goes words are.all (marks_by (Send job left) (Sent msg.end bytes) words said.first are)
+          (behind_of v x.tree (Sent msg.end bytes)) refl goes words are.all (marks_by (Send job left)
+          (Sent msg.end bytes) words said.first are)
           (kept_by (Send job left) (Sent msg.end bytes) words said.first are) verdict settles in
           let look : seen (slots_of words) (behind_of v x.tree (Sent msg.end bytes)) ≡ behind_of v x.tree (Sent msg.end bytes) = seen-first
           (slots_of words) (behind_of v x.tree (Sent msg.end bytes)) (Settle verdict) settles in

@@ -1,22 +1,11 @@
 -- A message with its settle, and what it adds to the schedule's steps. No induction but over lists.
-use Rattle.std.proofs.Common.{◌≡◌, ℕ, ◌<◌, true, false, List, [], ◌∷◌, set, Some, refl, sym, ◌∙◌, ap, subst, inl, inr}
-use Rattle.std.specs.Prelude.{slice_get}
-use Rattle.std.proofs.lemmas.Bool.Decides.{eqb_tells}
-use Rattle.i2c_base.specs.declared.entry.Entry.{Entry}
-use Rattle.i2c_base.specs.Board.{BoardView}
-use Rattle.i2c_spec.specs.History.{Asks}
-use Rattle.bus_spec.specs.Readings.{caller_of}
-use Rattle.bus_spec.specs.Past.{now, is_due}
-use Rattle.bus_spec.specs.Grammar.{first_act}
-use Rattle.bus_spec.specs.Stepwise.{IsStepwise}
+use Rattle.core_laws.proofs.Cited.{◌≡◌, ℕ, ◌<◌, true, false, List, [], ◌∷◌, set, Some, refl, sym, ◌∙◌, ap, subst, inl, inr, slice_get}
+use Rattle.core_laws.proofs.Cited.{eqb_tells, Entry, BoardView, Asks, caller_of, now, is_due, first_act, IsStepwise, ahead, Spot}
+use Rattle.core_laws.proofs.Cited.{AreNumbered, AreRooted, RootPort, set_elsewhere}
 use Rattle.bus_spec.specs.Legal.{is_stepping}
 use Rattle.bus_spec.specs.Schedule.{is_settle}
-use Rattle.bus_laws.specs.Others.{ahead}
 use Rattle.bus_laws.specs.Coming.{IsTurn}
-use Rattle.core_laws.specs.Spots.{Spot, AreNumbered, AreRooted}
-use Rattle.bus_message.specs.Ports.{RootPort}
 use Rattle.core_laws.proofs.Steps.{set_here}
-use Rattle.i2c_base.proofs.ListLemmas.{set_elsewhere}
 
 -- a place of the new list is one of the old list, of the same number
 spot-was : (spots : List Spot) (place : ℕ) (x new : Spot) → slice_get spots place ≡ Some x → new.number ≡ x.number

@@ -1,24 +1,19 @@
 -- What one step leaves of a transfer's walk, whatever it gives: what is left is of the same transfer, and settles it in
 -- its place. No induction.
-use Rattle.std.proofs.Common.{◌≡◌, ℕ, ◌<◌, ◌+◌, ◌-◌, zero, suc, Bool, true, false, List, [], ◌∷◌, length, Option, Some, None, refl, sym, ◌∙◌, ap, subst, arith, ◌⊎◌, inl, inr}
-use Rattle.i2c_base.specs.declared.ids.LockId.{LockId}
-use Rattle.i2c_base.specs.declared.errno.Errno.{Errno}
-use Rattle.i2c_base.specs.declared.entry.End.{End}
+use Rattle.core_laws.proofs.Cited.{◌≡◌, ℕ, ◌<◌, ◌+◌, ◌-◌, zero, suc, Bool, true, false, List, [], ◌∷◌, length, Option, Some, None, refl}
+use Rattle.core_laws.proofs.Cited.{sym, ◌∙◌, ap, subst, arith, ◌⊎◌, inl, inr, LockId, Errno, End, BoardView, TransferView, refusal}
+use Rattle.core_laws.proofs.Cited.{MessageView, messages_of, IsTree, Hop, root_of, Job, Call, Select, SwitchOff, Off, Act, Take, Free, Send}
+use Rattle.core_laws.proofs.Cited.{Shift, Settle, Passed, Sent, Lined, WalkTree, Ends, Then, Note, Slots, walk_by, seen, is_over, first_act}
+use Rattle.core_laws.proofs.Cited.{rest_of, IsJobOf, IsCall, NoSettle, Settles, first_is, job-shifted, settles-sent, quiet-next}
+use Rattle.core_laws.proofs.Cited.{call-goes-on, seen-first, length-messages, IsLeft, IsDecided}
 use Rattle.i2c_base.specs.declared.entry.End.TheVariants as end
-use Rattle.i2c_base.specs.Board.{BoardView}
-use Rattle.i2c_base.specs.Transfer.{TransferView}
-use Rattle.i2c_spec.specs.Flat.{refusal}
-use Rattle.i2c_spec.specs.Messages.{MessageView, messages_of}
-use Rattle.i2c_spec.specs.TreeFacts.{IsTree}
-use Rattle.i2c_spec.specs.Tree.{Hop, hops, root_of}
-use Rattle.bus_spec.specs.Walk.{Job, Call, Select, SwitchOff, Off, Act, Take, Free, Send, Shift, Settle, Passed, Sent, Lined, WalkTree, Ends, Then, Note, is_line, job_outcome, verdict_of, decides}
-use Rattle.bus_spec.specs.Slots.{Slots}
+use Rattle.i2c_spec.specs.Tree.{hops}
+use Rattle.bus_spec.specs.Walk.{is_line, job_outcome, verdict_of, decides}
 use Rattle.bus_spec.specs.Grammar as grammar
-use Rattle.bus_spec.specs.Grammar.{full, walk_by, seen, is_over, first_act, rest_of}
+use Rattle.bus_spec.specs.Grammar.{full}
 use Rattle.bus_laws.specs.Calls.{CallsOf, FirstCalls}
-use Rattle.bus_laws.specs.Jobs.{EachJob, IsJobOf}
-use Rattle.bus_laws.specs.Runs.{IsCall}
-use Rattle.bus_laws.specs.Settles.{NoSettle, GoesOn, FollowsSend, Settles}
+use Rattle.bus_laws.specs.Jobs.{EachJob}
+use Rattle.bus_laws.specs.Settles.{GoesOn, FollowsSend}
 use Rattle.bus_laws.specs.Settles as one
 use Rattle.i2c_base.specs.declared.errno.Errno.TheVariants as errno
 use Rattle.bus_laws.proofs.walk.SettleLaw.{walk-settles, walk-starts}
@@ -26,11 +21,9 @@ use Rattle.bus_laws.proofs.walk.Calls.{walk-calls}
 use Rattle.bus_laws.proofs.walk.First.{walk-first, first_seen}
 use Rattle.bus_laws.proofs.past.Asked.{settles_seen}
 use Rattle.bus_laws.proofs.walk.Jobs.{walk-stays}
-use Rattle.bus_laws.proofs.past.StandsEntries.{first_is}
-use Rattle.bus_laws.proofs.walk.Next.{jobs-next, job-shifted, calls-next, call-sent, settles-taken, settles-freed, settles-sent, first-taken, first-freed, first-selected, first-switched-off, first-sent}
-use Rattle.bus_laws.proofs.walk.Next.{settles-settled, quiet-next, what_follows, call-goes-on, seen-first}
-use Rattle.i2c_spec.proofs.MessageLemmas.{length-messages}
-use Rattle.core_laws.specs.Seats.{Counts, IsLeft, IsDecided}
+use Rattle.bus_laws.proofs.walk.Next.{jobs-next, calls-next, call-sent, settles-taken, settles-freed, first-taken, first-freed}
+use Rattle.bus_laws.proofs.walk.Next.{first-selected, first-switched-off, first-sent, settles-settled, what_follows}
+use Rattle.core_laws.specs.Seats.{Counts}
 
 -- a step that no look stands before
 seen_act : (v : Slots) (w : WalkTree) (act : Act) → first_act w ≡ Some act → first_act (seen v w) ≡ Some act

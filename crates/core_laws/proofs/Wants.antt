@@ -1,40 +1,19 @@
 -- What a step that comes next wants of the lock words and the ports, from what is kept, and which message it is. No
 -- induction.
-use Rattle.std.proofs.Common.{◌≡◌, ℕ, suc, ◌+◌, ◌<◌, false, List, Some, sym, subst, inl, refl, arith, length}
-use Rattle.std.specs.Prelude.{slice_get}
-use Rattle.i2c_base.specs.declared.ids.LockId.{LockId}
+use Rattle.core_laws.proofs.Cited.{◌≡◌, ℕ, suc, ◌+◌, ◌<◌, false, List, Some, sym, subst, inl, refl, arith, length, slice_get, LockId}
+use Rattle.core_laws.proofs.Cited.{BoardView, buses, root_of, rank, block_limit, MessageView, messages_of, bytes_most, NextMsg, IsMessageOf}
+use Rattle.core_laws.proofs.Cited.{message_for, ends_with, slots_of, Take, Free, Send, Shift, Settle, Job, Call, job_bus, is_last, seen}
+use Rattle.core_laws.proofs.Cited.{first_note, IsJobOf, job-shifted, IsLeft, IsLockOf, SendsIn, InLocks, IsCall, LocksView, holder_in}
+use Rattle.core_laws.proofs.Cited.{rank_in, Place, numbers_of, has_reply, SeatKept, CoreKept, Run, Whole, trees_of, seen_of, RootPort}
+use Rattle.core_laws.proofs.Cited.{next_of, TableKept, total, message_most, Idle}
 use Rattle.i2c_base.specs.declared.ids.LockId.TheVariants as lock
-use Rattle.i2c_base.specs.Board.{BoardView}
-use Rattle.i2c_spec.specs.Tree.{buses, root_of}
-use Rattle.bus_spec.specs.Readings.{rank}
-use Rattle.i2c_spec.specs.Flat.{block_limit}
-use Rattle.i2c_spec.specs.Messages.{MessageView, messages_of}
-use Rattle.i2c_spec.specs.Messages.{bytes_most}
-use Rattle.mux_plan.specs.declared.task.NextMsg.{NextMsg}
-use Rattle.core_laws.specs.Sends.{IsMessageOf}
-use Rattle.bus_message.specs.Sends.{message_for}
-use Rattle.mux_plan.specs.Plans.{ends_with}
 use Rattle.core_laws.proofs.MessageTold.{message-moves, last-is}
-use Rattle.bus_spec.specs.Walk.{Take, Free, Send, Shift, Settle, Job, Call, job_bus, is_last}
-use Rattle.bus_spec.specs.Grammar.{seen, first_note}
-use Rattle.bus_laws.specs.Jobs.{IsJobOf}
-use Rattle.bus_laws.proofs.walk.Next.{job-sent, job-shifted}
-use Rattle.mux_plan.specs.Plans.{slots_of}
-use Rattle.core_laws.specs.Seats.{IsLeft}
-use Rattle.bus_laws.specs.Holds.{IsLockOf, SendsIn}
-use Rattle.bus_laws.specs.Runs.{InLocks, IsCall}
-use Rattle.seg_locks.specs.Locks.{LocksView, IsLockIn, IsBelowHeld, holder_in, rank_in}
-use Rattle.core_laws.specs.Core.{Place, numbers_of, has_reply, SeatKept, CoreKept, Run, Whole, trees_of}
-use Rattle.core_laws.specs.Spots.{seen_of}
-use Rattle.bus_message.specs.Ports.{RootPort}
-use Rattle.core_laws.specs.Steps.{next_of}
-use Rattle.core_laws.specs.Table.{TableKept}
+use Rattle.bus_laws.proofs.walk.Next.{job-sent}
+use Rattle.seg_locks.specs.Locks.{IsLockIn, IsBelowHeld}
 use Rattle.core_laws.proofs.Core.{locks-here, number-here, owes-here, seat-here, stands-here, tree-here, holds-at, left-on}
 use Rattle.core_laws.proofs.Holding.{holds-freed, holds-sent, holds-shifted, holds-taken}
 use Rattle.core_laws.proofs.WalkSteps.{call-is}
 use Rattle.core_laws.proofs.Table.{below-all, lock-there}
-use Rattle.core_laws.specs.Owed.{total, message_most}
-use Rattle.i2c_base.specs.declared.port.Phase.TheVariants.{Idle}
 use Rattle.core_laws.proofs.Ports.{line-idle}
 
 -- a lock of the board has its word
@@ -94,7 +73,7 @@ module _ (run : Run) (whole : Whole) (core : CoreKept run whole)
       (numbers_of whole.places) whole.held whole.locks core.table core.distinct (holds-at run whole core)
       place p.tree (tree-here run whole core place p here) job first old rooted (core.sockets_kept at old port)
 
-  -- A MESSAGE OR A LINE STEP THAT COMES NEXT has the locks held that it needs, and is done after the transfer's root
+  -- A MESSAGE OR A LINE STEP THAT COMES NEXT has the locks held that it needs, and is done behind the transfer's root
   pub send-wants : (job : Job) (more : ℕ) → next_of whole.locks p.tree ≡ Some (Send job more)
       → SendsIn run.board job (first_note (seen (slots_of (seen_of whole.locks)) p.tree)).marks own.0
   send-wants job more first = (holds-sent run.board (seen_of whole.locks) core.table.home own.0 p.tree seat.holds job more first).0

@@ -6,3 +6,5 @@ pub mod device
 pub mod walk
 -- What the entries of a past tell together.
 pub mod past
+-- What the proofs of this crate cite from elsewhere.
+mod Cited

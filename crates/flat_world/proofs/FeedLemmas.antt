@@ -1,21 +1,19 @@
 -- Targets that are given their events one by one, where a single pass gives each of them its own. The inductions go
 -- over the targets.
-use Rattle.std.proofs.Common.{◌≡◌, ◌≢◌, ℕ, zero, suc, ◌+◌, ◌<◌, ◌≤◌, Bool, true, false, cond, not, ◌||◌, List, [], ◌∷◌, ◌++◌, length, take, get_or, set, slice_get, eqb, Option, Some, None, refl, sym, ap, ◌∙◌, inl, inr, arith, add-zero, zero-add}
+use Rattle.flat_world.proofs.Cited.{◌≡◌, ℕ, zero, suc, ◌+◌, ◌<◌, ◌≤◌, Bool, true, false, cond, not, ◌||◌, List, [], ◌∷◌, ◌++◌, length, take}
+use Rattle.flat_world.proofs.Cited.{get_or, eqb, Option, Some, None, refl, sym, ap, ◌∙◌, inl, inr, arith, eqb_tells, feed, TargetState}
+use Rattle.flat_world.proofs.Cited.{state_table, FlatListener, is_member, flat_start, to_current, answer_of, feed-same, to_others}
+use Rattle.flat_world.proofs.Cited.{answer_in, is_it}
+use Rattle.std.proofs.Common.{◌≢◌, set, slice_get, add-zero, zero-add}
 use Rattle.std.specs.Option.{option_map_or, option_eq}
 use Rattle.std.proofs.lemmas.Bool.{ne_eqb}
-use Rattle.std.proofs.lemmas.Bool.Decides.{eqb_tells}
 use Rattle.std.proofs.lemmas.List.{take_more}
 use Rattle.i2c_base.specs.declared.event.Event.{Event}
 use Rattle.i2c_base.specs.declared.event.Event.TheVariants as event
 use Rattle.i2c_base.specs.declared.event.Answer.TheVariants as answer
 use Rattle.i2c_base.specs.Table.{Table}
-use Rattle.i2c_spec.specs.World.{feed, given}
-use Rattle.i2c_spec.specs.Targets.{TargetState, state_table}
-use Rattle.i2c_spec.specs.Flat.{FlatListener, is_member, flat_start, to_current, answer_of}
-use Rattle.i2c_spec.proofs.FeedLemmas.{feed-same}
-use Rattle.flat_world.specs.Devices.{to_others, answer_in}
+use Rattle.i2c_spec.specs.World.{given}
 use Rattle.flat_world.proofs.NamedLemmas.{is_member-push}
-use Rattle.i2c_spec.specs.Conversation.{is_it}
 
 -- devices that are read, told of an event and kept
 pub states_told : (f : ℕ → Option Event) (old read told new : List TargetState) → read ≡ old → told ≡ feed state_table f 0 read → new ≡ told

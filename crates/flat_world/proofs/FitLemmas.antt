@@ -1,17 +1,13 @@
 -- How many bytes a message reads: within its size. The induction goes over the bytes that are left to read.
-use Rattle.std.proofs.Common.{◌≡◌, ℕ, zero, suc, ◌+◌, ◌-◌, ◌≤◌, Bool, true, false, cond, eqb, nat_lt, ◌||◌, List, [], ◌∷◌, ◌++◌, length, Option, refl, ap, arith, length-append}
-use Rattle.std.proofs.lemmas.Bool.Decides.{nat_tests}
-use Rattle.i2c_base.specs.declared.transfer.Msg.{Msg}
-use Rattle.i2c_base.specs.declared.event.Answer.{Answer}
+use Rattle.flat_world.proofs.Cited.{◌≡◌, ℕ, zero, suc, ◌+◌, ◌-◌, ◌≤◌, Bool, true, false, cond, eqb, nat_lt, ◌||◌, List, [], ◌∷◌, ◌++◌}
+use Rattle.flat_world.proofs.Cited.{length, Option, refl, ap, arith, length-append, nat_tests, Msg, Answer, PortCall, End, IsMessage}
+use Rattle.flat_world.proofs.Cited.{size_of, MessageView, message_with, all_with, all_of, Listener, Said, TalkTold, AllTold, is_it, silence}
+use Rattle.flat_world.proofs.Cited.{say, told, with_byte, talk, with_read}
 use Rattle.i2c_base.specs.declared.event.Answer.TheVariants as answer
-use Rattle.i2c_base.specs.declared.port.PortCall.{PortCall}
 use Rattle.i2c_base.specs.declared.port.PortCall.TheVariants as call
-use Rattle.i2c_base.specs.declared.entry.End.{End}
 use Rattle.i2c_base.specs.declared.entry.End.TheVariants as end
-use Rattle.i2c_base.specs.Transfer.{IsMessage, is_read, is_counted, size_of, COUNTED_SIZE}
-use Rattle.i2c_spec.specs.Messages.{MessageView, message_with}
-use Rattle.flat_world.specs.Sending.{all_with, all_of}
-use Rattle.i2c_spec.specs.Conversation.{Listener, Said, TalkTold, AllTold, is_it, silence, say, told, with_byte, call_then, ended, gets, gets_counted, by_answer, data_of, talk, with_read}
+use Rattle.i2c_base.specs.Transfer.{is_read, is_counted, COUNTED_SIZE}
+use Rattle.i2c_spec.specs.Conversation.{call_then, ended, gets, gets_counted, by_answer, data_of}
 
 module _ {W : Type 0} (l : Listener W) (cut : Option ℕ) where
   -- a call has no bytes of its own

@@ -1,18 +1,13 @@
 -- A transfer as a whole is one of the flat world.
-use Rattle.std.proofs.Common.{◌≡◌, ℕ, Bool, List, [], Option, Some, None, sym, ap, ◌∙◌}
-use Rattle.i2c_base.specs.declared.entry.End.{End}
+use Rattle.flat_world.proofs.Cited.{◌≡◌, ℕ, Bool, List, [], Option, Some, None, sym, ap, ◌∙◌, End, BoardView, talk_all, FlatListener}
+use Rattle.flat_world.proofs.Cited.{barred, block_limit, idle, granted_on, cut_in, TargetState, once_listener, all_with}
 use Rattle.i2c_base.specs.declared.errno.Errno.{Errno}
 use Rattle.i2c_base.specs.declared.reply.Reply.{Reply}
 use Rattle.i2c_base.specs.declared.reply.Reply.TheVariants as reply
 use Rattle.i2c_base.specs.declared.reply.Cut.{Cut}
-use Rattle.i2c_base.specs.Board.{BoardView}
 use Rattle.i2c_base.specs.Transfer.{TransferView}
-use Rattle.i2c_spec.specs.Conversation.{talk_all}
-use Rattle.i2c_spec.specs.Flat.{FlatListener, FlatTold, flat, flat_by, flat_told, barred, block_limit, idle, granted_on, cut_in, errno_of, or_done}
+use Rattle.i2c_spec.specs.Flat.{FlatTold, flat, flat_by, flat_told, errno_of, or_done}
 use Rattle.i2c_spec.specs.Messages.{messages_of}
-use Rattle.i2c_spec.specs.Targets.{TargetState}
-use Rattle.flat_world.specs.Devices.{once_listener}
-use Rattle.flat_world.specs.Sending.{all_with}
 use Rattle.flat_world.specs.Worlds.{SiteView}
 use Rattle.flat_world.proofs.SendingLemmas.{talk_all-once}
 

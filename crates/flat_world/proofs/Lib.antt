@@ -4,3 +4,4 @@ pub mod FlatLemmas
 pub mod NamedLemmas
 pub mod SendingLemmas
 pub mod TransferLemmas
+mod Cited

@@ -1,26 +1,21 @@
 -- A message as it is sent is the message as it is talked, over a listener that another one shows by h. The inductions
 -- go over the bytes of a write, over the bytes that are left to read, and over the messages of a transfer.
-use Rattle.std.proofs.Common.{◌≡◌, ℕ, zero, suc, ◌+◌, ◌-◌, ◌<◌, Bool, true, false, cond, ◌||◌, nat_lt, List, [], ◌∷◌, ◌++◌, length, drop, append-nil, append_assoc, Option, Some, None, eqb, refl, sym, ap, ◌∙◌, arith}
-use Rattle.std.proofs.lemmas.List.{at_drop_more}
-use Rattle.i2c_base.specs.declared.event.Answer.{Answer}
+use Rattle.flat_world.proofs.Cited.{◌≡◌, ℕ, zero, suc, ◌+◌, ◌-◌, ◌<◌, Bool, true, false, cond, ◌||◌, nat_lt, List, [], ◌∷◌, ◌++◌, length}
+use Rattle.flat_world.proofs.Cited.{drop, Option, Some, None, eqb, refl, sym, ap, ◌∙◌, arith, at_drop_more, Answer, PortCall, End}
+use Rattle.flat_world.proofs.Cited.{MessageView, TargetState, state_table, feed, has_heard, Listener, Said, TalkTold, AllTold, silence, say}
+use Rattle.flat_world.proofs.Cited.{with_byte, told, is_empty, is_good, with_read, talk_all, is_it, FlatListener, flat_start, to_named}
+use Rattle.flat_world.proofs.Cited.{answer_of, feed-same, once, once_listener, behind_start, puts, gets, all_of}
+use Rattle.std.proofs.Common.{append-nil, append_assoc}
 use Rattle.i2c_base.specs.declared.event.Answer.TheVariants as answer
 use Rattle.i2c_base.specs.declared.event.Event.TheVariants as event
-use Rattle.i2c_base.specs.declared.port.PortCall.{PortCall}
 use Rattle.i2c_base.specs.declared.port.PortCall.TheVariants as call
-use Rattle.i2c_base.specs.declared.entry.End.{End}
 use Rattle.i2c_base.specs.declared.entry.End.TheVariants as end
-use Rattle.i2c_spec.specs.Messages.{MessageView}
-use Rattle.i2c_spec.specs.Targets.{TargetState, state_table}
-use Rattle.i2c_spec.specs.World.{feed, has_heard}
-use Rattle.i2c_spec.specs.Conversation.{Listener, Said, TalkTold, AllTold, silence, say, with_byte, told, is_empty, is_good, with_read, talk_all}
 use Rattle.i2c_spec.specs.Conversation as spec
-use Rattle.i2c_spec.specs.Flat.{FlatListener, flat_start, to_named, flat_listener, acknowledged, answer_of, put_named}
-use Rattle.i2c_spec.proofs.FeedLemmas.{feed-same}
-use Rattle.flat_world.specs.Devices.{add_once, once, once_each, started, once_listener, behind_start}
-use Rattle.flat_world.specs.Sending.{Ended, with_got, failed, ended, puts, gets, gets_one_more, gets_by_count, gets_counted, moved, by_answer, sent, all_of}
+use Rattle.i2c_spec.specs.Flat.{flat_listener, acknowledged, put_named}
+use Rattle.flat_world.specs.Devices.{add_once, once_each, started}
+use Rattle.flat_world.specs.Sending.{Ended, with_got, failed, ended, gets_one_more, gets_by_count, gets_counted, moved, by_answer, sent}
 use Rattle.flat_world.proofs.NamedLemmas.{is_member-once}
 use Rattle.i2c_spec.proofs.MessageLemmas.{IsLater}
-use Rattle.i2c_spec.specs.Conversation.{is_it}
 
 module _ {W V : Type 0} (l : Listener W) (k : Listener V) (h : W → V) (cut : Option ℕ)
     (after : (w : W) (c : PortCall) → IsLater c → k.after (h w) c ≡ h (l.after w c))

@@ -1,15 +1,10 @@
 -- One message more of a transfer: message i stands before those that are left.
-use Rattle.std.proofs.Common.{◌≡◌, ℕ, ◌+◌, ◌<◌, ◌≤◌, Bool, true, false, cond, eqb, List, [], ◌∷◌, length, take, drop, get_or, Option, refl, sym, ap, ◌∙◌, arith, length-drop}
+use Rattle.flat_world.proofs.Cited.{◌≡◌, ℕ, ◌+◌, ◌<◌, ◌≤◌, Bool, true, false, cond, eqb, List, [], ◌∷◌, length, take, drop, get_or, Option}
+use Rattle.flat_world.proofs.Cited.{refl, sym, ap, ◌∙◌, arith, at_drop_more, nat_tests, Msg, End, written_of, MessageView, message_with}
+use Rattle.flat_world.proofs.Cited.{messages_from, Listener, AllTold, talk, talk_all, is_empty, is_good, all_with, all_of}
+use Rattle.std.proofs.Common.{length-drop}
 use Rattle.std.specs.List.{sum_by}
 use Rattle.std.proofs.lemmas.List.Sums.{sum_by-cons}
-use Rattle.std.proofs.lemmas.List.{at_drop_more}
-use Rattle.std.proofs.lemmas.Bool.Decides.{nat_tests}
-use Rattle.i2c_base.specs.declared.transfer.Msg.{Msg}
-use Rattle.i2c_base.specs.declared.entry.End.{End}
-use Rattle.i2c_base.specs.Transfer.{written_of}
-use Rattle.i2c_spec.specs.Messages.{MessageView, message_with, messages_from}
-use Rattle.i2c_spec.specs.Conversation.{Listener, AllTold, talk, talk_all, is_empty, is_good}
-use Rattle.flat_world.specs.Sending.{all_with, all_of}
 
 -- a message is the last one where none follows
 is_empty_messages : (ms : List Msg) (out : List ℕ) → is_empty (messages_from ms out) ≡ is_empty ms

@@ -1,6 +1,7 @@
 -- A step of one of a group's callers, after a past of others as in the group's own journal. No induction but over the looks
 -- in front of a walk.
-use Rattle.std.proofs.Common.{◌≡◌, ◌==◌, ◌<◌, ℕ, Bool, true, false, cond, List, [], ◌∷◌, ◌++◌, Option, Some, None, refl, sym, ◌∙◌, ap, subst, inl, inr}
+use Rattle.std.proofs.Common.{◌≡◌, ◌==◌, ◌<◌, ℕ, Bool, true, false, cond, List, [], ◌∷◌, ◌++◌, Option, Some, None, refl, sym, ◌∙◌, ap}
+use Rattle.std.proofs.Common.{subst, inl, inr}
 use Rattle.i2c_base.specs.declared.ids.LockId.{LockId}
 use Rattle.i2c_base.specs.declared.entry.End.{End}
 use Rattle.i2c_base.specs.declared.entry.Entry.{Entry}
@@ -15,11 +16,13 @@ use Rattle.i2c_spec.specs.World.{World}
 use Rattle.i2c_spec.specs.Conversation.{TalkTold, talk, world_listener}
 use Rattle.i2c_spec.specs.Flat.{block_limit}
 use Rattle.i2c_spec.specs.History.{Asks, changed_at}
-use Rattle.bus_spec.specs.Walk.{Job, Act, Take, Free, Send, Shift, Settle, ActOutcome, Passed, Sent, Lined, Note, ask_bus, WalkTree, Ends, Look, Then, job_bus, message_of, is_last}
+use Rattle.bus_spec.specs.Walk.{Job, Act, Take, Free, Send, Shift, Settle, ActOutcome, Passed, Sent, Lined, Note, ask_bus, WalkTree, Ends}
+use Rattle.bus_spec.specs.Walk.{Look, Then, job_bus, message_of, is_last}
 use Rattle.bus_spec.specs.Slots.{Slots, answer_to}
 use Rattle.bus_spec.specs.Grammar.{seen, is_over, first_act, first_note, rest_of}
 use Rattle.bus_spec.specs.Readings.{MessageEntry, caller_of, cut_told, is_lock}
-use Rattle.bus_spec.specs.Past.{Now, begun, current, is_due, step, moved, taken, freed, without, settled_by, with_due, sent_by, lined_by, talk_of, cut_of, got_after, inside_after, line_call}
+use Rattle.bus_spec.specs.Past.{Now, begun, current, is_due, step, moved, taken, freed, without, settled_by, with_due, sent_by, lined_by}
+use Rattle.bus_spec.specs.Past.{talk_of, cut_of, got_after, inside_after, line_call}
 use Rattle.bus_spec.specs.Stepwise.{May, IsBelow, reply_by}
 use Rattle.bus_spec.specs.Tells.{TellsMessage, HearsIn}
 use Rattle.i2c_spec.specs.World.{after}
@@ -104,7 +107,8 @@ module _ (b : BoardView) (roots who : ℕ → Bool) where
             worlds = λ r g. changed-alike n.worlds m.worlds at (after (n.worlds at) (line_call job failed))
                 (after (m.worlds at) (line_call job failed)) r (al.worlds r g)
                 (ap (λ (w : World). after w (line_call job failed)) (al.worlds at there));
-            calls = λ r g. changed-alike n.calls m.calls at (line_call job failed ∷ n.calls at) (line_call job failed ∷ m.calls at) r (al.calls r g)
+            calls = λ r g. changed-alike n.calls m.calls at (line_call job failed ∷ n.calls at) (line_call job failed ∷ m.calls at) r
+                (al.calls r g)
                 (ap (λ (xs : List PortCall). line_call job failed ∷ xs) (al.calls at there));
             inside = al.inside;
           }
@@ -191,12 +195,14 @@ module _ (b : BoardView) (roots who : ℕ → Bool) where
           inside = l.inside;
         }
 
-  module _ (all own : Asks) (n m : Now) (al : IsAlike b roots who n m) (same : (c : ℕ) (rs : List Reply) → who c ≡ true → all c rs ≡ own c rs) where
+  module _ (all own : Asks) (n m : Now) (al : IsAlike b roots who n m) (same : (c : ℕ) (rs : List Reply) → who c ≡ true
+      → all c rs ≡ own c rs) where
     -- what one of its callers does next
     ahead-alike : (c : ℕ) → who c ≡ true → ahead b all n c ≡ ahead b own m c
     ahead-alike c k =
         ap (λ (w : WalkTree). cond (is_over w) (begun b (all c (n.settled c))) w) (al.walk c k)
-        ∙ ap (λ (o : Option TransferView). cond (is_over (m.walk c)) (begun b o) (m.walk c)) (ap (all c) (al.settled c k) ∙ same c (m.settled c) k)
+        ∙ ap (λ (o : Option TransferView). cond (is_over (m.walk c)) (begun b o) (m.walk c))
+        (ap (all c) (al.settled c k) ∙ same c (m.settled c) k)
 
     pub current-alike : (c : ℕ) → who c ≡ true → StaysIn b roots (ahead b own m c) → current b all n c ≡ current b own m c
     current-alike c k on = ap (seen n.slot) (ahead-alike c k) ∙ seen-alike n.slot m.slot al.slot (ahead b own m c) on
@@ -230,7 +236,8 @@ module _ (b : BoardView) (roots who : ℕ → Bool) where
           → IsAlike b roots who (lined_by b n (first_act (current b all n c)) (first_note (current b all n c)) failed)
           (lined_by b m act note failed)
       line-alike failed =
-          subst (λ (w : WalkTree). IsAlike b roots who (lined_by b n (first_act w) (first_note w) failed) (lined_by b m act note failed)) (sym cur)
+          subst (λ (w : WalkTree). IsAlike b roots who (lined_by b n (first_act w) (first_note w) failed) (lined_by b m act note failed))
+          (sym cur)
           (lined-alike n m al c k act note failed acts)
 
     -- A STEP of one of its callers
@@ -241,9 +248,11 @@ module _ (b : BoardView) (roots who : ℕ → Bool) where
     step-alike (entry.Free c l) k on =
         moved-alike all own n m al c (cur c k on) (freed n c l) (freed m c l) (entry.Free c l) Passed (freed-alike n m al c k l)
     step-alike (entry.Settle c r at) k on =
-        moved-alike all own n m al c (cur c k on) (settled_by n c r) (settled_by m c r) (entry.Settle c r at) Passed (settled-alike n m al c k r)
+        moved-alike all own n m al c (cur c k on) (settled_by n c r) (settled_by m c r) (entry.Settle c r at) Passed
+        (settled-alike n m al c k r)
     step-alike (entry.Line c mux level failed) k on =
-        due-alike _ _ c (moved-alike all own n m al c (cur c k on) _ _ (entry.Line c mux level failed) (Lined failed) (line-alike c k on failed))
+        due-alike _ _ c (moved-alike all own n m al c (cur c k on) _ _ (entry.Line c mux level failed) (Lined failed)
+        (line-alike c k on failed))
     step-alike (entry.Message c bus why part parts addr reading bytes heard e) k on =
         due-alike _ _ c (moved-alike all own n m al c (cur c k on) _ _ (entry.Message c bus why part parts addr reading bytes heard e)
         (Sent e bytes) (message-alike c k on reading bytes e))
@@ -272,7 +281,8 @@ module _ (b : BoardView) (roots who : ℕ → Bool) where
           in_direction = t.in_direction;
           bytes_told = t.bytes_told ∙ ap (λ (y : TalkTold World). y.bytes) (sym (talk-alike n m al job left x.end there));
           end_told = t.end_told ∙ ap (λ (y : TalkTold World). y.end) (sym (talk-alike n m al job left x.end there));
-          heard_told = subst (λ (w : World). HearsIn w x.addr x.reading x.heard x.end) (sym (al.worlds (root_of b (job_bus job)) there)) t.heard_told;
+          heard_told = subst (λ (w : World). HearsIn w x.addr x.reading x.heard x.end) (sym
+              (al.worlds (root_of b (job_bus job)) there)) t.heard_told;
         }
 
     -- it may come there too
@@ -298,8 +308,17 @@ module _ (b : BoardView) (roots who : ℕ → Bool) where
     may-alike callers due (entry.Line c mux level failed) k on may =
         let told = may.2 in (may.0, due ∙ may.1, (told.0, first c k on ∙ told.1, told.2))
     may-alike callers due (entry.Message c bus why part parts addr reading bytes heard e) k on may =
-        let told = may.2 in
-        (may.0, due ∙ may.1, (told.0, told.1, first c k on ∙ told.2, tells-alike told.0 told.1 _ (acts c k on (Send told.0 told.1) told.2).0 told.3))
+        let told = may.2 in (
+          may.0,
+          due ∙ may.1,
+          (
+            told.0,
+            told.1,
+            first c k on ∙ told.2,
+            tells-alike told.0 told.1 _
+                (acts c k on (Send told.0 told.1) told.2).0 told.3,
+          ),
+        )
 
   -- THE WALKS of a group's own journal stay on its roots
   changed-by : (P : WalkTree → Type 0) (f : ℕ → WalkTree) (c : ℕ) (x : WalkTree) (d : ℕ) → P x → P (f d) → P (changed_at f c x d)

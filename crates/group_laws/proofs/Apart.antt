@@ -1,5 +1,6 @@
 -- A step of one of a group's callers leaves all that stands apart from the group. No induction but over marks.
-use Rattle.std.proofs.Common.{◌≡◌, ℕ, zero, suc, Bool, true, false, cond, List, [], ◌∷◌, Option, Some, None, refl, sym, ◌∙◌, ap, subst, ◌⊎◌, inl, inr}
+use Rattle.std.proofs.Common.{◌≡◌, ℕ, zero, suc, Bool, true, false, cond, List, [], ◌∷◌, Option, Some, None, refl, sym, ◌∙◌, ap, subst, ◌⊎◌}
+use Rattle.std.proofs.Common.{inl, inr}
 use Rattle.i2c_base.specs.declared.ids.LockId.{LockId}
 use Rattle.i2c_base.specs.declared.entry.End.{End}
 use Rattle.i2c_base.specs.declared.entry.End.TheVariants as end
@@ -8,7 +9,8 @@ use Rattle.i2c_base.specs.declared.entry.Entry.TheVariants as entry
 use Rattle.i2c_base.specs.Board.{BoardView}
 use Rattle.i2c_spec.specs.Tree.{Hop, root_of}
 use Rattle.i2c_spec.specs.History.{Asks}
-use Rattle.bus_spec.specs.Walk.{Mark, Job, Call, Select, SwitchOff, off_bus, off_mux, Act, Take, Free, Send, Shift, Settle, ActOutcome, Passed, Sent, Lined, Note, job_bus}
+use Rattle.bus_spec.specs.Walk.{Mark, Job, Call, Select, SwitchOff, off_bus, off_mux, Act, Take, Free, Send, Shift, Settle, ActOutcome}
+use Rattle.bus_spec.specs.Walk.{Passed, Sent, Lined, Note, job_bus}
 use Rattle.bus_spec.specs.Slots.{Slots, MuxSlot, Clean, turned, set_marks, polled_slot, select_told, after_select, after_off, after_job}
 use Rattle.bus_spec.specs.Grammar.{first_act, first_note}
 use Rattle.bus_spec.specs.Readings.{caller_of, is_lock}
@@ -50,7 +52,8 @@ module _ (b : BoardView) (roots others : ℕ → Bool) (apart : AreApart roots o
     marks_off v = set_marks-other marks v p (unmarked marks on)
 
     -- after a step of a select
-    select_off : (h : Hop) (left : ℕ) (out : ActOutcome) (v : Slots) → roots (root_of b h.on) ≡ true → after_select h left marks out v p ≡ v p
+    select_off : (h : Hop) (left : ℕ) (out : ActOutcome) (v : Slots) → roots (root_of b h.on) ≡ true
+        → after_select h left marks out v p ≡ v p
     select_off h left (Sent end.Ok bytes) v at = told_off h left bytes v at
     select_off h left (Sent end.Nack bytes) v at = turned_off h.on h.mux Clean None v at
     select_off h left (Sent end.Slow bytes) v at = turned_off h.on h.mux Clean None v at
@@ -74,7 +77,8 @@ module _ (b : BoardView) (roots others : ℕ → Bool) (apart : AreApart roots o
     shut_off mux_on mux Passed v at = refl
 
     -- after a step of any job there
-    job_off : (job : Job) (left : ℕ) (out : ActOutcome) (v : Slots) → roots (root_of b (job_bus job)) ≡ true → after_job job left marks out v p ≡ v p
+    job_off : (job : Job) (left : ℕ) (out : ActOutcome) (v : Slots) → roots (root_of b (job_bus job)) ≡ true
+        → after_job job left marks out v p ≡ v p
     job_off (Call bus ms) left out v at = refl
     job_off (Select h) left out v at = select_off h left out v at
     job_off (SwitchOff off) left out v at = shut_off (off_bus off) (off_mux off) out v at
@@ -137,13 +141,15 @@ module _ (b : BoardView) (roots who others whose : ℕ → Bool) (apart : AreApa
       → cond (is_lock l k) who_has old ≡ old
   other_lock l k who_has old mine theirs =
       elim (lock_tells l k) [
-        | inl same ↦ absurd (other-number roots others apart (root_of_lock b l) (root_of_lock b k) mine theirs (ap (root_of_lock b) (sym same.1)))
+        | inl same ↦ absurd (other-number roots others apart (root_of_lock b l) (root_of_lock b k) mine theirs
+            (ap (root_of_lock b) (sym same.1)))
         | inr not ↦ ap (λ (t : Bool). cond t who_has old) not.0
       ]
 
   -- A STEP of one of the group's callers, which acts on the group's roots
   pub step-stays : (all : Asks) (n : Now) (e : Entry) → who (caller_of e) ≡ true
-      → ((act : Act) → first_act (current b all n (caller_of e)) ≡ Some act → ActIn b roots act (first_note (current b all n (caller_of e))).marks)
+      → ((act : Act) → first_act (current b all n (caller_of e)) ≡ Some act → ActIn b roots act
+      (first_note (current b all n (caller_of e))).marks)
       → ((l : LockId) (c : ℕ) → (e ≡ entry.Take c l) ⊎ (e ≡ entry.Free c l) → roots (root_of_lock b l) ≡ true)
       → Stay n (step b all n e)
   step-stays all n (entry.Take c l) own on lock al =

@@ -7,7 +7,8 @@ use Rattle.i2c_spec.specs.TreeFacts.{IsTree}
 use Rattle.i2c_spec.specs.History.{Asks}
 use Rattle.bus_spec.specs.Past.{Now, now, opening}
 use Rattle.bus_spec.specs.Stepwise.{IsStepwise}
-use Rattle.group_laws.specs.Groups.{IsAlike, AreApart, GoesOn, Part, joined, IsApartFrom, ArePartsApart, AreParts, AreAlikeIn, AreOwn, AreJoined}
+use Rattle.group_laws.specs.Groups.{IsAlike, AreApart, GoesOn, Part, joined, IsApartFrom, ArePartsApart, AreParts, AreAlikeIn, AreOwn}
+use Rattle.group_laws.specs.Groups.{AreJoined}
 use Rattle.group_laws.proofs.Goes.{each-own, goes-on}
 
 -- having nothing in common goes both ways
@@ -31,7 +32,8 @@ module _ (b : BoardView) (tree : IsTree b) (callers : ℕ) (all : Asks) where
     stepwise : IsStepwise b callers all past
     rests : (now b all past).due ≡ None
     alike : AreAlikeIn b (now b all past) ps
-    kept : (p : Part) (x : Now) → IsApartFrom p ps → IsAlike b p.roots p.who (now b all before) x → IsAlike b p.roots p.who (now b all past) x
+    kept : (p : Part) (x : Now) → IsApartFrom p ps → IsAlike b p.roots p.who (now b all before) x
+        → IsAlike b p.roots p.who (now b all past) x
 
   -- the others stay fresh behind the journal of one
   fresh-behind : (p : Part) (before mine : List Entry) → GoesOn b callers all p.own p.roots p.who before mine → (ps : List Part)
@@ -49,7 +51,8 @@ module _ (b : BoardView) (tree : IsTree b) (callers : ℕ) (all : Asks) where
       let goes : GoesOn b callers all p.own p.roots p.who before mine =
       goes-on b tree callers all p.own p.roots p.who parts.0.group before steps due fresh.0 mine parts.0.stepwise in
       let rest : Join ps (mine ++ before) =
-      join ps (mine ++ before) parts.1 apart.1 (fresh-behind p before mine goes ps apart.0 fresh.1) goes.stepwise (goes.due ∙ parts.0.rests) in
+      join ps (mine ++ before) parts.1 apart.1 (fresh-behind p before mine goes ps apart.0 fresh.1) goes.stepwise
+      (goes.due ∙ parts.0.rests) in
       record {
         past = rest.past;
         past_is = rest.past_is ∙ sym (ap (λ (xs : List Entry). xs ++ before) (reverse-append p.journal (joined ps))
@@ -82,7 +85,10 @@ module _ (b : BoardView) (tree : IsTree b) (callers : ℕ) (all : Asks) where
 
   all-own : (ps : List Part) → AreParts b callers all ps → AreOwn ps
   all-own [] parts = tt
-  all-own (p ∷ ps) parts = (each-own b tree callers all p.own p.roots p.who parts.0.group (reverse p.journal) parts.0.stepwise, all-own ps parts.1)
+  all-own (p ∷ ps) parts = (
+    each-own b tree callers all p.own p.roots p.who parts.0.group (reverse p.journal) parts.0.stepwise,
+    all-own ps parts.1,
+  )
 
   -- ONE AFTER THE OTHER they are one journal
   pub are-joined : (ps : List Part) → AreParts b callers all ps → ArePartsApart ps → AreJoined b callers all ps

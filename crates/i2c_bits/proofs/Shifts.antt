@@ -1,5 +1,6 @@
 -- One bit on the lines, and the bits of a byte that are left.
-use Rattle.std.proofs.Common.{◌≡◌, ℕ, zero, suc, ◌+◌, ◌-◌, ◌*◌, ◌/◌, ◌^◌, ◌<◌, ◌≤◌, Bool, true, false, cond, ◌∷◌, refl, ap, sym, ◌∙◌, arith, sub-one}
+use Rattle.std.proofs.Common.{◌≡◌, ℕ, zero, suc, ◌+◌, ◌-◌, ◌*◌, ◌/◌, ◌^◌, ◌<◌, ◌≤◌, Bool, true, false, cond, ◌∷◌, refl, ap, sym, ◌∙◌, arith}
+use Rattle.std.proofs.Common.{sub-one}
 use Rattle.std.specs.Prelude.{◌==◌, not, bit_and}
 use Rattle.std.proofs.lemmas.Nat.Bits.{shr_and_one}
 use Rattle.std.proofs.Math.Nat.{pow-suc}
@@ -23,7 +24,8 @@ module _ (t : Table NodeState) (v : ℕ) (k k1 k2 : Rooted) (high : Bool) (w w1 
   pub bit_up : (level : Bool) → came_up (shifted v level) w2 ≡ await t v LOOKS (pulled t (mask_at k1) w1 false (not high))
       → w3 ≡ pulled t (mask_at k2) w2 true (not high) → came_up (shifted v level) w3 ≡ bit_step t (mask_at k) v high w
   bit_up level b c =
-      ap (came_up (shifted v level)) (c ∙ ap (λ m. pulled t (mask_at m) w2 true (not high)) (e2 ∙ e)) ∙ stepped (came_up (shifted v level) w2) b
+      ap (came_up (shifted v level)) (c ∙ ap (λ m. pulled t (mask_at m) w2 true (not high)) (e2 ∙ e))
+      ∙ stepped (came_up (shifted v level) w2) b
 
   pub bit_low : gave_up w2 ≡ await t v LOOKS (pulled t (mask_at k1) w1 false (not high)) → w3 ≡ pulled t (mask_at k2) w2 false false
       → gave_up w3 ≡ bit_step t (mask_at k) v high w
@@ -47,7 +49,8 @@ module _ (t : Table NodeState) (k k1 : Rooted) (v n left : ℕ) (w : Bus NodeSta
   unfolding bit_steps
   steps_eq got e =
       ap (λ c. then_bits c (bit_steps t (mask_at k) c.read (bits (left - 1) n) c.bus))
-      (e ∙ (ap (λ m. bit_step t (mask_at m) v (tested n (left - 1)) w) same ∙ ap (λ h. bit_step t (mask_at k) v h w) (bit_test n (left - 1))))
+      (e ∙ (ap (λ m. bit_step t (mask_at m) v (tested n (left - 1)) w) same ∙ ap (λ h. bit_step t (mask_at k) v h w)
+      (bit_test n (left - 1))))
       ∙ ap (λ hs. bit_steps t (mask_at k) v hs w) (sym (bits_pop left n some))
 
   pub steps_pop : (level : Bool) (new : Bus NodeState) → came_up (shifted v level) new ≡ bit_step t (mask_at k1) v (tested n (left - 1)) w

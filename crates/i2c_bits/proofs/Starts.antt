@@ -1,5 +1,6 @@
 -- A start with its address byte, and what it comes to on told lines.
-use Rattle.std.proofs.Common.{◌≡◌, ℕ, ◌+◌, ◌<◌, ◌/◌, Bool, true, false, cond, List, [], ◌∷◌, map, refl, ap, sym, ◌∙◌, arith, subst, inl, inr}
+use Rattle.std.proofs.Common.{◌≡◌, ℕ, ◌+◌, ◌<◌, ◌/◌, Bool, true, false, cond, List, [], ◌∷◌, map, refl, ap, sym, ◌∙◌, arith, subst, inl}
+use Rattle.std.proofs.Common.{inr}
 use Rattle.std.specs.Prelude.{not, ◌&&◌, ◌||◌, Result, Ok, Err}
 use Rattle.std.specs.List.{AllByRecursion}
 use Rattle.i2c_base.specs.Board.{BoardView}
@@ -61,7 +62,8 @@ called_within m law k w w1 stands (Err e) is =
     let p : false ≡ true = sym is ∙ ap (λ (p : Bool × Bus NodeState). p.0)
     (ap (repeated_start node_table (mask_at k)) stands.lines ∙ law (mask_at k) w.sda (both (chips_on w) (devices_on w)) w.counts) in cc
 
-pub called_again : RepeatedStartCallsAll node_table (In false 8 0) → RepeatedStartCallsAll node_table Out → (k : Rooted) (w w1 : Bus NodeState)
+pub called_again : RepeatedStartCallsAll node_table (In false 8 0) → RepeatedStartCallsAll node_table Out
+    → (k : Rooted) (w w1 : Bus NodeState)
     → MayBegin true k w → (r : Result (Unit {0}) SclTimeout) → CameStart r w1 (repeated_start the_table (mask_at k) w)
     → CalledTold true r w w1
 called_again written out k w w1 (inl stands) r is = called_within (In false 8 0) written k w w1 stands r is
@@ -79,7 +81,8 @@ pub answered : (t : Table NodeState) (k k1 : Rooted) (w w1 w2 : Bus NodeState) (
 answered t k k1 w w1 w2 byte n level is same e f g =
     ap (λ b. came_up (shifted 0 (not (not b))) w2) (sym e) ∙ sent_up t k k1 w w1 w2 same byte n level f g
 
-pub cut_address : (t : Table NodeState) (k : Rooted) (w w1 : Bus NodeState) (byte : ℕ) → gave_up w1 ≡ bit_steps t (mask_at k) 0 (bits 8 byte) w
+pub cut_address : (t : Table NodeState) (k : Rooted) (w w1 : Bus NodeState) (byte : ℕ) → gave_up w1 ≡ bit_steps t (mask_at k) 0
+    (bits 8 byte) w
     → (bit_steps t (mask_at k) 0 (bits 8 byte) w).up ≡ false
 cut_address t k w w1 byte e = sym (ap (λ (c : Came NodeState). c.up) e)
 
@@ -87,7 +90,8 @@ pub on_board : (r : Result Answer SclTimeout) (w w1 : Bus NodeState) (byte : ℕ
     → CameAnswer r w1 (bit_steps the_table (mask_at k1) 0 (bits 8 byte) w) (sent_byte the_table (mask_at k1) byte w)
     → CameAnswer r w1 (bit_steps the_table (mask_at k) 0 (bits 8 byte) w) (sent_byte the_table (mask_at k) byte w)
 on_board r w w1 byte k k1 same is =
-    subst (λ (m : Rooted). CameAnswer r w1 (bit_steps the_table (mask_at m) 0 (bits 8 byte) w) (sent_byte the_table (mask_at m) byte w)) same is
+    subst (λ (m : Rooted). CameAnswer r w1 (bit_steps the_table (mask_at m) 0 (bits 8 byte) w)
+    (sent_byte the_table (mask_at m) byte w)) same is
 
 -- ---- the sites where a start was too slow
 late_site : {X : Type 0} (t : Table X) (byte : ℕ) (s : Site X) (joined named : Bool)
@@ -182,7 +186,8 @@ nine_more false c = refl
 nine_more true c = ap (λ n. record { edges = n; flips = c.flips + 1 }) (omega arith)
 
 -- ---- what a start is
-module _ (parts : (cs : List (Site ChipView)) (ds : List (Site TargetState)) → PartsOfBoth cs ds) (keeps : KeepsBytes state_table HoldsBytes)
+module _ (parts : (cs : List (Site ChipView)) (ds : List (Site TargetState)) → PartsOfBoth cs ds)
+    (keeps : KeepsBytes state_table HoldsBytes)
     (in_time : StartOnWires) (slow : SlowOnWires)
     (sites : (b : BoardView) (r : ℕ) (busy : Bool) (byte : ℕ) (cs : List (Site ChipView)) (ds : List (Site TargetState))
     → byte / 2 < NO_ADDRESS → AreSites b r cs ds → StartOnSites b r busy byte cs ds)
@@ -284,7 +289,8 @@ module _ (parts : (cs : List (Site ChipView)) (ds : List (Site TargetState)) →
         counts = tt;
       }
 
-  pub start_told : (r : Result Answer SclTimeout) → CameAnswer r w2 (bit_steps the_table (mask_at k) 0 (bits 8 byte) w1) sent → StartTold k busy r byte w w2
+  pub start_told : (r : Result Answer SclTimeout) → CameAnswer r w2 (bit_steps the_table (mask_at k) 0 (bits 8 byte) w1) sent
+      → StartTold k busy r byte w w2
   start_told (Ok Ack) is = acked (is_slow given) refl is
   start_told (Ok Nack) is = refused (is_slow given) refl is
   start_told (Ok Slow) is = held_long (is_slow given) refl is

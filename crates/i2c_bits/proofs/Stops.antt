@@ -1,5 +1,6 @@
 -- A stop, and the line of a mux, and what they come to on told lines.
-use Rattle.std.proofs.Common.{◌≡◌, ℕ, zero, suc, ◌+◌, ◌<◌, ◌/◌, Bool, true, false, cond, List, [], ◌∷◌, map, refl, ap, sym, ◌∙◌, arith, subst, inl, inr}
+use Rattle.std.proofs.Common.{◌≡◌, ℕ, zero, suc, ◌+◌, ◌<◌, ◌/◌, Bool, true, false, cond, List, [], ◌∷◌, map, refl, ap, sym, ◌∙◌, arith}
+use Rattle.std.proofs.Common.{subst, inl, inr}
 use Rattle.std.specs.Prelude.{◌&&◌, Result, Ok, Err}
 use Rattle.std.specs.List.{AllByRecursion}
 use Rattle.i2c_base.specs.Board.{BoardView}
@@ -16,7 +17,8 @@ use Rattle.wire_spec.specs.Roots.{some_one, at, hearing, stop_site}
 use Rattle.wire_spec.specs.Bus.{Counts, Bus, Came, Mask, one_edge, one_flip, came_up, gave_up, await, pulled, rejoin_from, rejoined, bus_of}
 use Rattle.wire_spec.specs.Started.{started, stays}
 use Rattle.wire_spec.specs.Calls.{STOP_LOOKS, free, joined_from, rejoin, stopped, stop_pulls, slow_stop}
-use Rattle.wire_spec.specs.Sites.{NodeState, Chip, Device, node_table, site_with, both, world_by, mask_of, AreSites, NO_ADDRESS, chips_anew, devices_anew}
+use Rattle.wire_spec.specs.Sites.{NodeState, Chip, Device, node_table, site_with, both, world_by, mask_of, AreSites, NO_ADDRESS, chips_anew}
+use Rattle.wire_spec.specs.Sites.{devices_anew}
 use Rattle.wire_spec.specs.WorldLaws.{PartsOfBoth, StartOnSites, StopOnSites, LineOnSites, stopped_chips, stopped_devices, levelled}
 use Rattle.wire_spec.specs.CallLaws.{StopOnWires, StopAfterSlowOnWires}
 use Rattle.wire_spec.proofs.SiteLemmas.{rejoin_both}
@@ -28,7 +30,8 @@ use Rattle.i2c_bits.proofs.Told.{On, on_lines, world_on, told_on, all_kept, kept
 use Rattle.i2c_bits.proofs.Starts.{on_late, started_bytes}
 
 -- ---- pulls and looks
-module _ (t : Table NodeState) (k k1 : Rooted) (w w1 w2 : Bus NodeState) (same : k1 ≡ k) (f : w2 ≡ pulled t (mask_at k1) w1 false false) where
+module _ (t : Table NodeState) (k k1 : Rooted) (w w1 w2 : Bus NodeState) (same : k1 ≡ k) (f : w2 ≡ pulled t
+    (mask_at k1) w1 false false) where
   closes : (c : Came NodeState) → c ≡ await t 0 STOP_LOOKS (pulled t (mask_at k) w false true) → c.bus ≡ w1
       → ◌≡◌ {A = Bool × Bus NodeState} (c.up, w2) (slow_stop t (mask_at k) w)
   closes c e is =
@@ -68,7 +71,8 @@ free_on k w c cs ds on is told nobody = record {
 }
 
 -- ---- what a stop is
-module _ (parts : (cs : List (Site ChipView)) (ds : List (Site TargetState)) → PartsOfBoth cs ds) (keeps : KeepsBytes state_table HoldsBytes)
+module _ (parts : (cs : List (Site ChipView)) (ds : List (Site TargetState)) → PartsOfBoth cs ds)
+    (keeps : KeepsBytes state_table HoldsBytes)
     (sites : (b : BoardView) (r : ℕ) (busy : Bool) (cs : List (Site ChipView)) (ds : List (Site TargetState))
     → AreSites b r cs ds → StopOnSites b r busy cs ds) (k : Rooted) (w w1 : Bus NodeState) where
   frees : (late : Bool) (cs : List (Site ChipView)) (ds : List (Site TargetState)) (c : Counts) → On w cs ds → AreTold k cs ds
@@ -93,7 +97,8 @@ module _ (parts : (cs : List (Site ChipView)) (ds : List (Site TargetState)) →
         counts = subst (StopCounts late w.counts) (sym (ap (λ x. x.counts) is)) counts;
       }
 
-  within_told : (m : Mode) → StopOnWires m → StandsIn k m w → (r : Result (Unit {0}) SclTimeout) → came_stop r w1 ≡ stop_pulls the_table (mask_at k) w
+  within_told : (m : Mode) → StopOnWires m → StandsIn k m w → (r : Result (Unit {0}) SclTimeout)
+      → came_stop r w1 ≡ stop_pulls the_table (mask_at k) w
       → StopTold k false r w w1
   unfolding the_table mask_at
   within_told m wires stands (Ok u) is =
@@ -115,9 +120,12 @@ module _ (parts : (cs : List (Site ChipView)) (ds : List (Site TargetState)) →
       → slow_stop the_table (mask_at k) w
       ≡ (
         true,
-        free (both (stopped_chips k.board k.root (map (started chip_table late.byte) late.chips) (map (started state_table late.byte) late.devices))
-            (stopped_devices k.board k.root (map (started chip_table late.byte) late.chips) (map (started state_table late.byte) late.devices)))
-            (one_flip (cond (some_one (stays node_table late.byte LOOKS) (both late.chips late.devices)) (one_edge w.counts) (one_flip w.counts))),
+        free (both (stopped_chips k.board k.root (map (started chip_table late.byte) late.chips)
+            (map (started state_table late.byte) late.devices))
+            (stopped_devices k.board k.root (map (started chip_table late.byte) late.chips)
+            (map (started state_table late.byte) late.devices)))
+            (one_flip (cond (some_one (stays node_table late.byte LOOKS) (both late.chips late.devices)) (one_edge w.counts)
+            (one_flip w.counts))),
       )
   unfolding the_table mask_at
   slow_is wires late =
@@ -161,7 +169,8 @@ pub rejoin_out : (f : ℕ → Bool) (n : ℕ) (ss : List (Site NodeState))
     → rejoin_from f n (map (at Out) ss) ≡ map (at Out) (joined_from f n ss)
 rejoin_out f n [] = refl
 rejoin_out f n (s ∷ ss) =
-    ap (λ (m : Mode). record { site = record s { joined = f n; heard = false }; mode = m; hold = 0 } ∷ rejoin_from f (n + 1) (map (at Out) ss))
+    ap (λ (m : Mode). record { site = record s { joined = f n; heard = false }; mode = m; hold = 0 } ∷ rejoin_from f (n + 1)
+    (map (at Out) ss))
     (out_either (hearing s) (f n && false))
     ∙ ap (λ bs. at Out (record s { joined = f n; heard = false }) ∷ bs) (rejoin_out f (n + 1) ss)
 
@@ -196,7 +205,8 @@ module _ (parts : (cs : List (Site ChipView)) (ds : List (Site TargetState)) →
       let site : LineOnSites k.board k.root m level (chips_on w) (devices_on w) =
       sites k.board k.root m level (chips_on w) (devices_on w) is_free.told.sites is_free.nobody in
       let on : On w1 chips devices = on_lines parts w1 chips devices Out (ap (λ x. x.targets) lined_free) in
-      let world : world_at k false w1 ≡ after (world_at k false w) (call.Line m level) = world_on k false w1 chips devices on ∙ site.world in
+      let world : world_at k false w1 ≡ after (world_at k false w) (call.Line m level) = world_on k false w1 chips devices on
+      ∙ site.world in
       record {
         free = free_on k w1 w.counts chips devices on lined_free
             (record { sites = site.kept; bytes = all_joined _ 0 (devices_on w) is_free.told.bytes })

@@ -95,7 +95,8 @@ told_on k w cs ds on told =
     subst (λ (xs : List (Site ChipView)). AreTold k xs (devices_on w)) (sym on.chips)
     (subst (λ (ys : List (Site TargetState)). AreTold k cs ys) (sym on.devices) told)
 
-pub stands_on : (k : Rooted) (m : Mode) (w : Bus NodeState) (low : Bool) (c : Counts) (cs : List (Site ChipView)) (ds : List (Site TargetState))
+pub stands_on : (k : Rooted) (m : Mode) (w : Bus NodeState) (low : Bool) (c : Counts) (cs : List (Site ChipView))
+    (ds : List (Site TargetState))
     → On w cs ds → w ≡ within m low (both cs ds) c → AreTold k cs ds → StandsIn k m w
 stands_on k m w low c cs ds on is told = record {
   lines =
@@ -126,7 +127,8 @@ shifted_same false false h = refl
 shifted_same true false h = absurd (omega arith)
 shifted_same false true h = absurd (omega arith)
 
-module _ (parts : (cs : List (Site ChipView)) (ds : List (Site TargetState)) → PartsOfBoth cs ds) (keeps : KeepsBytes state_table HoldsBytes)
+module _ (parts : (cs : List (Site ChipView)) (ds : List (Site TargetState)) → PartsOfBoth cs ds)
+    (keeps : KeepsBytes state_table HoldsBytes)
     (k : Rooted) (w w1 : Bus NodeState) where
   -- the sites after a put, and after a get
   abbrev chips_put : ℕ → List (Site ChipView)
@@ -151,14 +153,16 @@ module _ (parts : (cs : List (Site ChipView)) (ds : List (Site TargetState)) →
       ∙ wires k.board k.root byte lt true w.sda (chips_on w) (devices_on w) w.counts)
 
   pub put_told : PutOnWires
-      → ((b : BoardView) (r : ℕ) (busy : Bool) (byte : ℕ) (cs : List (Site ChipView)) (ds : List (Site TargetState)) → PutOnSites b r busy byte cs ds)
+      → ((b : BoardView) (r : ℕ) (busy : Bool) (byte : ℕ) (cs : List (Site ChipView)) (ds : List (Site TargetState))
+      → PutOnSites b r busy byte cs ds)
       → (byte : ℕ) → byte < 256 → StandsIn k (In false 8 0) w → (r : Result Bool SclTimeout)
       → came_acked r w1 ≡ sent_byte the_table (mask_at k) byte w → PutTold k r byte w w1
   put_told wires sites byte lt stands (Err e) is =
       let p : false ≡ true = ap (λ c. c.up) (put_comes wires byte lt stands (gave_up w1) is) in cc
   put_told wires sites byte lt stands (Ok acked) is =
       let comes = put_comes wires byte lt stands (came_up (shifted 0 (not acked)) w1) is in
-      let site : PutOnSites k.board k.root true byte (chips_on w) (devices_on w) = sites k.board k.root true byte (chips_on w) (devices_on w) in
+      let site : PutOnSites k.board k.root true byte (chips_on w) (devices_on w) = sites k.board k.root true byte (chips_on w)
+      (devices_on w) in
       let on : On w1 (chips_put byte) (devices_put byte) =
       on_lines parts w1 (chips_put byte) (devices_put byte) (In false 8 0) (ap (λ c. c.bus.targets) comes) in
       record {
@@ -184,14 +188,16 @@ module _ (parts : (cs : List (Site ChipView)) (ds : List (Site TargetState)) →
       ∙ wires k.board k.root true ack w.sda (chips_on w) (devices_on w) w.counts
 
   pub get_told : GetOnWires
-      → ((b : BoardView) (r : ℕ) (busy ack : Bool) (cs : List (Site ChipView)) (ds : List (Site TargetState)) → GetOnSites b r busy ack cs ds)
+      → ((b : BoardView) (r : ℕ) (busy ack : Bool) (cs : List (Site ChipView)) (ds : List (Site TargetState))
+      → GetOnSites b r busy ack cs ds)
       → (ack : Bool) → StandsIn k (Give 8) w → (r : Result ℕ SclTimeout)
       → CameRead r w1 (read_byte the_table (mask_at k) ack w) → GetTold k r ack w w1
   get_told wires sites ack stands (Err e) is =
       let p : false ≡ true = sym is.0 ∙ ap (λ c. c.up) (get_comes wires ack stands) in cc
   get_told wires sites ack stands (Ok byte) is =
       let comes = is ∙ get_comes wires ack stands in
-      let site : GetOnSites k.board k.root true ack (chips_on w) (devices_on w) = sites k.board k.root true ack (chips_on w) (devices_on w) in
+      let site : GetOnSites k.board k.root true ack (chips_on w) (devices_on w) = sites k.board k.root true ack (chips_on w)
+      (devices_on w) in
       let m : Mode = cond ack (Give 8) Out in
       let on : On w1 (chips_got ack) (devices_got ack) =
       on_lines parts w1 (chips_got ack) (devices_got ack) m (ap (λ c. c.bus.targets) comes) in

@@ -1,13 +1,12 @@
 -- The short ways of the searches in a grant: where nothing is aside of a bus, and where one search does for two places. The
 -- inductions go over hops, over muxes, and over the items of a search.
-use Rattle.std.proofs.Common.{◌≡◌, ℕ, nat_le, Bool, true, false, not, cond, eqb, ◌&&◌, ◌||◌, List, [], ◌∷◌, length, reverse, refl, sym, ap, ◌∙◌}
-use Rattle.std.specs.List.{list_any}
+use Rattle.i2c_board.proofs.Cited.{◌≡◌, ℕ, nat_le, Bool, true, false, not, cond, ◌&&◌, ◌||◌, List, [], ◌∷◌, length, reverse, refl, sym, ap}
+use Rattle.i2c_board.proofs.Cited.{◌∙◌, list_any, MuxSpec, BoardView, Hop, hops, hops_of, hop_at, buses_of, put_if, root_of, is_staying}
+use Rattle.i2c_board.proofs.Cited.{stays_in, crosses_mux, is_kept_hop, is_aside}
+use Rattle.std.proofs.Common.{eqb}
 use Rattle.std.proofs.Math.Bool.{and-false}
 use Rattle.std.proofs.lemmas.Bool.{or_parts}
 use Rattle.std.proofs.lemmas.List.Sorted.{list_any-IsPermutation, IsPermutation-reverse}
-use Rattle.i2c_base.specs.declared.board.MuxSpec.{MuxSpec}
-use Rattle.i2c_base.specs.Board.{BoardView}
-use Rattle.i2c_spec.specs.Tree.{Hop, hops, hops_of, hop_at, buses_of, put_if, root_of, is_staying, stays_in, crosses_mux, is_kept_hop, is_aside}
 
 pub unkept_aside : (b : BoardView) (s u : ℕ) → list_any (is_kept_hop b s) (hops b u) ≡ false → is_aside b s u ≡ false
 unkept_aside b s u none = ap (λ (t : Bool). eqb (root_of b u) (root_of b s) && t) none ∙ and-false (eqb (root_of b u) (root_of b s))

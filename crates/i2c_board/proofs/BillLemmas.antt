@@ -1,10 +1,8 @@
 -- What a transfer costs by the bill of its bus: by cases, whether the board has the bus.
-use Rattle.std.proofs.Common.{◌≡◌, ℕ, ◌+◌, true, false, cond, Some, None, ap, sym, ◌∙◌, arith}
-use Rattle.std.specs.Prelude.{nat_lt}
-use Rattle.i2c_base.specs.Board.{BoardView}
+use Rattle.i2c_board.proofs.Cited.{◌≡◌, ℕ, ◌+◌, true, false, cond, Some, None, ap, sym, ◌∙◌, arith, nat_lt, BoardView, full_cost, buses}
+use Rattle.i2c_board.proofs.Cited.{hops, root_of}
 use Rattle.i2c_base.specs.Transfer.{TransferView}
-use Rattle.i2c_spec.specs.Cost.{full_cost, steps_of, cost_of}
-use Rattle.i2c_spec.specs.Tree.{buses, hops, root_of}
+use Rattle.i2c_spec.specs.Cost.{steps_of, cost_of}
 use Rattle.i2c_spec.proofs.CostLemmas.{full_more}
 use Rattle.i2c_board.specs.Bills.{IsBill}
 use Rattle.i2c_board.specs.declared.cost.BusBill.{BusBill}

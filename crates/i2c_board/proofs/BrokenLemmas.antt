@@ -1,12 +1,13 @@
 -- A board breaks one rule first: two refusals that tell of it are the same, and it doesn't meet the rules. One case for
 -- each rule. No induction.
-use Rattle.std.proofs.Common.{◌≡◌, ℕ, zero, suc, ◌<◌, Bool, true, false, refl, sym, ap, subst, ◌∙◌, arith}
+use Rattle.i2c_board.proofs.Cited.{◌≡◌, ℕ, zero, suc, ◌<◌, Bool, true, false, refl, sym, ap, subst, ◌∙◌, arith, BoardView, TellsBroken}
+use Rattle.i2c_board.proofs.Cited.{IsFirstOne, NoPair, NoneOf, clashes, items, item_at, is_too_deep, is_locked_under, may_stay}
+use Rattle.i2c_board.proofs.Cited.{stands_outside, breaks_idle, last_mux, locked_over}
 use Rattle.std.specs.Prelude.{length, Some, unwrap_or}
 use Rattle.std.proofs.lemmas.Bool.{false≢true}
-use Rattle.i2c_base.specs.Board.{BoardView}
 use Rattle.i2c_base.specs.declared.rules.Item.{Item}
 use Rattle.i2c_base.specs.declared.rules.RuleBroken.{RuleBroken}
-use Rattle.i2c_spec.specs.Rules.{MeetsRules, TellsBroken, IsFirstBroken, IsFirstPair, IsFirstOne, SecondOf, NoPair, NoneOf, clashes, items, item_at, is_too_deep, is_locked_under, is_wrongly_locked, may_stay, stands_outside, breaks_idle, last_mux, locked_over}
+use Rattle.i2c_spec.specs.Rules.{MeetsRules, IsFirstBroken, IsFirstPair, SecondOf, is_wrongly_locked}
 
 -- a rule by its number holds
 record Holds (b : BoardView) (rule : ℕ) : Type 0 where

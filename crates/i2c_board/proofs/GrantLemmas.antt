@@ -1,16 +1,15 @@
 -- A grant from two searches: one over the muxes, and one over the devices, to which each device adds what it says alone. The
 -- inductions go over the devices.
-use Rattle.std.proofs.Common.{◌≡◌, ℕ, ◌+◌, ◌<◌, ◌≤◌, ◌==◌, Bool, true, false, not, cond, ◌&&◌, ◌||◌, List, [], ◌∷◌, ◌++◌, length, take, get_or, Option, Some, None, refl, sym, ap, ◌∙◌, arith}
-use Rattle.std.specs.List.{list_any, position_from}
+use Rattle.i2c_board.proofs.Cited.{◌≡◌, ℕ, ◌+◌, ◌<◌, ◌≤◌, ◌==◌, Bool, true, false, not, cond, ◌&&◌, ◌||◌, List, [], ◌∷◌, ◌++◌, length, take}
+use Rattle.i2c_board.proofs.Cited.{get_or, Option, Some, None, refl, sym, ap, ◌∙◌, arith, list_any, take_more, length-take-le, Busy}
+use Rattle.i2c_board.proofs.Cited.{MuxSpec, BoardView, DeviceView, is_below, is_aside, grant_of, device_grant, grant_by, joined}
+use Rattle.std.specs.List.{position_from}
 use Rattle.std.proofs.lemmas.Bool.{eqb-true}
-use Rattle.std.proofs.lemmas.List.{take_more, length-take-le}
 use Rattle.i2c_base.specs.declared.tree.Grant.{Grant}
-use Rattle.i2c_base.specs.declared.tree.Grant.TheVariants.{Busy, Named, Nobody}
-use Rattle.i2c_base.specs.declared.board.MuxSpec.{MuxSpec}
-use Rattle.i2c_base.specs.Board.{BoardView, DeviceView}
-use Rattle.i2c_spec.specs.Tree.{is_below, is_aside, is_on_path}
-use Rattle.i2c_spec.specs.Grant.{has_address, some_chip, some_device, grant_of, named_by}
-use Rattle.i2c_board.specs.Passes.{is_beside, device_grant, grant_by, joined}
+use Rattle.i2c_base.specs.declared.tree.Grant.TheVariants.{Named, Nobody}
+use Rattle.i2c_spec.specs.Tree.{is_on_path}
+use Rattle.i2c_spec.specs.Grant.{has_address, some_chip, some_device, named_by}
+use Rattle.i2c_board.specs.Passes.{is_beside}
 use Rattle.i2c_board.proofs.AsideLemmas.{any_either}
 
 any_push : {X : Type 0} (test : X → Bool) (xs : List X) (x : X) → list_any test (xs ++ x ∷ []) ≡ (list_any test xs || test x)

@@ -1,5 +1,6 @@
 -- What holds of each item holds of each where one more of its kind is put at a place.
-use Rattle.std.proofs.Common.{ℕ, List, set}
+use Rattle.i2c_board.proofs.Cited.{ℕ, List}
+use Rattle.std.proofs.Common.{set}
 use Rattle.std.specs.Prelude.{All}
 use Rattle.std.proofs.lemmas.List.Elements.{All-set}
 

@@ -7,3 +7,4 @@ pub mod OverLemmas
 pub mod RuleLemmas
 pub mod SendLemmas
 pub mod WayLemmas
+mod Cited

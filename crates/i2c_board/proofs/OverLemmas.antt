@@ -1,11 +1,9 @@
 -- The mux over a bus: none for a root, and else by one of the 8 channels that a mux may have. No induction.
-use Rattle.std.proofs.Common.{◌≡◌, ℕ, ◌<◌, List, [], ◌∷◌, length, Some, None, slice_get, inl, refl, sym, ap, subst, arith}
-use Rattle.std.proofs.lemmas.Option.{none-some}
-use Rattle.i2c_base.specs.Board.{BoardView}
-use Rattle.i2c_spec.specs.Tree.{Hop, hops, end_of, over, buses, IsAmongHops}
-use Rattle.i2c_spec.specs.Plain.{IsPlainBoard}
+use Rattle.i2c_board.proofs.Cited.{◌≡◌, ℕ, ◌<◌, List, [], ◌∷◌, length, Some, None, slice_get, inl, refl, sym, ap, subst, arith, none-some}
+use Rattle.i2c_board.proofs.Cited.{BoardView, Hop, hops, over, buses, IsPlainBoard, tree_root_hops}
+use Rattle.i2c_spec.specs.Tree.{end_of, IsAmongHops}
 use Rattle.i2c_spec.proofs.PlainLemmas.{channels_of_mux_le}
-use Rattle.i2c_spec.proofs.TreeLemmas.{tree_within, tree_root_is, tree_root_hops}
+use Rattle.i2c_spec.proofs.TreeLemmas.{tree_within, tree_root_is}
 
 none_from_over : (hs : List Hop) → slice_get hs 0 ≡ None → hs ≡ []
 none_from_over [] e = refl

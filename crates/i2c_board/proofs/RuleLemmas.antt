@@ -1,17 +1,16 @@
 -- The refusal of a board from what a search found, a lemma for each rule; and the last mux of a list that is
 -- filtered from its front. No induction of its own.
-use Rattle.std.proofs.Common.{◌≡◌, ℕ, ◌+◌, ◌-◌, ◌<◌, nat_lt, Bool, true, false, cond, not, List, [], ◌∷◌, ◌++◌, length, reverse, take, get_or, Some, is_some, option_map, slice_get, refl, sym, ap, ◌∙◌, arith, rules}
-use Rattle.std.specs.List.{All, filter}
-use borrow.Author.Count.{below_more}
-use Rattle.std.proofs.lemmas.List.{reverse-append, length-reverse, append-nil, get_or-reverse}
+use Rattle.i2c_board.proofs.Cited.{◌≡◌, ℕ, ◌+◌, ◌-◌, ◌<◌, Bool, true, false, cond, not, List, [], ◌∷◌, ◌++◌, length, reverse, take, get_or}
+use Rattle.i2c_board.proofs.Cited.{Some, is_some, slice_get, refl, sym, ap, ◌∙◌, arith, rules, filter, below_more, reverse-append}
+use Rattle.i2c_board.proofs.Cited.{length-reverse, slice_get-get_or, same_Some, none-some, nat_tests, BoardView, DeviceView, Hop, hops}
+use Rattle.i2c_board.proofs.Cited.{is_parent, last_mux, locked_over, item_at, home_at, addr_at, items, clashes, NoPair, NoneOf, IsFirstOne}
+use Rattle.i2c_board.proofs.Cited.{is_too_deep, is_locked_under, TellsBroken, NoneAfter}
+use Rattle.std.proofs.Common.{nat_lt, option_map}
+use Rattle.std.specs.List.{All}
+use Rattle.std.proofs.lemmas.List.{append-nil, get_or-reverse}
 use Rattle.std.proofs.lemmas.List.Elements.{filter_more, All-nil, All-filter, All-get_or}
-use Rattle.std.proofs.lemmas.Option.{slice_get-get_or, same_Some, none-some}
-use Rattle.std.proofs.lemmas.Bool.Decides.{nat_tests}
 use Rattle.i2c_base.specs.declared.rules.Item.TheVariants as item
-use Rattle.i2c_base.specs.Board.{BoardView, DeviceView}
-use Rattle.i2c_spec.specs.Tree.{Hop, hops, is_parent, of_mux}
-use Rattle.i2c_spec.specs.Rules.{last_mux, locked_over, item_at, home_at, addr_at, items, clashes, NoPair, NoneOf, IsFirstOne, is_too_deep, is_locked_under, TellsBroken}
-use Rattle.i2c_board.specs.Searches.{NoneAfter}
+use Rattle.i2c_spec.specs.Tree.{of_mux}
 use Rattle.i2c_spec.proofs.HopLemmas.{hops_within}
 
 last_mux_push : (hs : List Hop) (h : Hop) → last_mux (hs ++ h ∷ []) ≡ Some h.mux

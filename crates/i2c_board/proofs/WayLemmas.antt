@@ -1,16 +1,17 @@
 -- The tree as a board keeps it: the hop over each bus, and the way up from bus to bus. The inductions go over the muxes
 -- from the last one of the board back, and over the channels of a mux.
-use Rattle.std.proofs.Common.{◌≡◌, ℕ, zero, suc, ◌+◌, ◌-◌, ◌<◌, ◌≤◌, nat_le, true, false, cond, List, [], ◌∷◌, ◌++◌, length, reverse, take, get_or, Option, Some, None, IfSome, slice_get, inl, inr, refl, sym, ap, ◌∙◌, arith}
+use Rattle.i2c_board.proofs.Cited.{◌≡◌, ℕ, zero, suc, ◌+◌, ◌-◌, ◌<◌, ◌≤◌, nat_le, true, false, cond, List, [], ◌∷◌, ◌++◌, length, reverse}
+use Rattle.i2c_board.proofs.Cited.{take, get_or, Option, Some, None, slice_get, inl, refl, sym, ap, ◌∙◌, arith, take_more, reverse-append}
+use Rattle.i2c_board.proofs.Cited.{length-reverse, length-append, length-take-le, same_Some, none-some, slice_get-get_or, MuxSpec}
+use Rattle.i2c_board.proofs.Cited.{BoardView, channel_hops, hops_by_bus, Hop, hops, over, buses, buses_of, hop_at, hops_of, put_if}
+use Rattle.i2c_board.proofs.Cited.{is_below, is_parent, is_staying, IsPlainBoard, tree_root_hops}
+use Rattle.std.proofs.Common.{IfSome, inr}
 use Rattle.std.proofs.lemmas.Bool.{cases_lt}
-use Rattle.std.proofs.lemmas.List.{take_more, reverse-append, length-reverse, length-append, length-take, length-take-le, take_all}
-use Rattle.std.proofs.lemmas.Option.{same_Some, none-some, slice_get_within, slice_get-get_or}
-use Rattle.i2c_base.specs.declared.board.MuxSpec.{MuxSpec}
-use Rattle.i2c_base.specs.Board.{BoardView}
-use Rattle.i2c_board.specs.Passes.{channel_hop, channel_hops, hops_by_bus}
-use Rattle.i2c_spec.specs.Tree.{Hop, hops, over, buses, buses_of, hop_at, hops_of, put_if, is_below, is_parent, is_staying}
-use Rattle.i2c_spec.specs.Plain.{IsPlainBoard}
+use Rattle.std.proofs.lemmas.List.{length-take, take_all}
+use Rattle.std.proofs.lemmas.Option.{slice_get_within}
+use Rattle.i2c_board.specs.Passes.{channel_hop}
 use Rattle.i2c_spec.proofs.HopLemmas.{reverse_back, buses_of-cons, buses_of-reverse, hops_of-cross, hops_of-pass}
-use Rattle.i2c_spec.proofs.TreeLemmas.{tree_leads, tree_tail, tree_above, tree_root_hops}
+use Rattle.i2c_spec.proofs.TreeLemmas.{tree_leads, tree_tail, tree_above}
 use Rattle.i2c_base.proofs.ListLemmas.{get_front, get_back}
 
 length-channel_hops : (first k : ℕ) (m : MuxSpec) (n : ℕ) → length (channel_hops first k m n) ≡ n

@@ -1,13 +1,9 @@
 -- The values of a document beside the lists that the definitions speak of.
-use Rattle.std.proofs.Common.{◌≡◌, Bool, false, List, [], ◌∷◌, map, Some, option_map, refl, ap, ◌∙◌, sym}
-use Rattle.std.proofs.lemmas.List.Folds.{list_all-map}
-use Rattle.std.specs.List.{list_all}
-use Rattle.std.specs.Option.{unwrap_or}
-use Rattle.toml.specs.Data.{Data, as_array}
-use Rattle.toml.specs.View.{view, items_of, items_view}
-use Rattle.toml.specs.declared.value.Value.{Value}
-use Rattle.i2c_boardtext.specs.Items.{list_of, items_in}
-use Rattle.i2c_boardtext.specs.Rules.{is_array_of}
+use Rattle.i2c_boardtext.proofs.Cited.{◌≡◌, Bool, false, List, [], ◌∷◌, map, Some, option_map, refl, ap, ◌∙◌, sym, list_all-map, list_all}
+use Rattle.i2c_boardtext.proofs.Cited.{unwrap_or, Data, view, Value, items_in, is_array_of}
+use Rattle.toml.specs.Data.{as_array}
+use Rattle.toml.specs.View.{items_of, items_view}
+use Rattle.i2c_boardtext.specs.Items.{list_of}
 
 -- the items of a list are the list
 pub list_of-items_of : (ds : List Data) → list_of (items_of ds) ≡ ds

@@ -1,13 +1,13 @@
 -- Where nothing is wrong with a table, the value at each key of its rules is as listed, or missing.
-use Rattle.std.proofs.Common.{◌≡◌, ℕ, zero, suc, Bool, true, false, not, ◌&&◌, List, [], ◌∷◌, ◌++◌, Option, Some, None, if◌then◌else◌, refl, ap, subst}
-use Rattle.std.proofs.lemmas.Bool.{and_parts}
-use Rattle.std.specs.List.{list_all}
-use Rattle.std.specs.Option.{unwrap_or}
-use Rattle.std.specs.Prelude.{codes, slice_get}
-use Rattle.toml.specs.Data.{Members, get_member}
+use Rattle.i2c_boardtext.proofs.Cited.{◌≡◌, ℕ, Bool, true, false, ◌&&◌, List, [], ◌∷◌, ◌++◌, Option, Some, None, refl, ap, subst, and_parts}
+use Rattle.i2c_boardtext.proofs.Cited.{list_all, unwrap_or, codes, Members, get_member, KeyRule, is_there, is_fit, are_listed}
+use Rattle.i2c_boardtext.proofs.Cited.{fits_if_there}
+use Rattle.std.proofs.Common.{zero, suc, not, if◌then◌else◌}
+use Rattle.std.specs.Prelude.{slice_get}
 use Rattle.i2c_boardtext.specs.Devices.{device_row, memory_of}
-use Rattle.i2c_boardtext.specs.Keys.{bus_rule, every_device, set_rule, set_rules, chip_mux, arbitrator_mux, gpio_mux_keys, mux_rules, device_rules}
-use Rattle.i2c_boardtext.specs.Rules.{KeyRule, is_there, is_fit, are_listed, fits_if_there, table_fault}
+use Rattle.i2c_boardtext.specs.Keys.{bus_rule, every_device, set_rule, set_rules, chip_mux, arbitrator_mux, gpio_mux_keys, mux_rules}
+use Rattle.i2c_boardtext.specs.Keys.{device_rules}
+use Rattle.i2c_boardtext.specs.Rules.{table_fault}
 use Rattle.i2c_boardtext.specs.declared.fault.TableFault.TheVariants as fault
 use Rattle.i2c_base.specs.declared.board.MuxKind.{MuxKind}
 use Rattle.i2c_base.specs.Muxes.{facts_of}

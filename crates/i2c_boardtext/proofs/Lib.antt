@@ -6,3 +6,4 @@ pub mod RowLemmas
 pub mod RuleLemmas
 pub mod RunLemmas
 pub mod TextLemmas
+mod Cited

@@ -1,10 +1,6 @@
 -- One mux more at the end of a board's muxes.
-use Rattle.std.proofs.Common.{ℕ, ◌<◌, ◌≤◌, List, [], ◌∷◌, ◌++◌}
+use Rattle.i2c_boardtext.proofs.Cited.{ℕ, ◌<◌, ◌≤◌, List, [], ◌∷◌, ◌++◌, reverse, MuxSpec, IsPlainMux, IsPlanted, buses_of}
 use Rattle.std.proofs.lemmas.List.{reverse-append}
-use Rattle.std.specs.Prelude.{reverse}
-use Rattle.i2c_base.specs.declared.board.MuxSpec.{MuxSpec}
-use Rattle.i2c_spec.specs.Plain.{IsPlainMux, IsPlanted}
-use Rattle.i2c_spec.specs.Tree.{buses_of}
 use Rattle.i2c_spec.proofs.HopLemmas.{buses_of-reverse}
 use Rattle.i2c_spec.proofs.PlainLemmas.{channels_le}
 

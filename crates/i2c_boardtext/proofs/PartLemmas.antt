@@ -1,14 +1,9 @@
 -- The parts of a board, one after the other: each is read beside those before it, and the first fault is that of the whole.
-use Rattle.std.proofs.Common.{◌≡◌, ℕ, List, length, ap, ◌∙◌, sym, subst}
-use Rattle.std.specs.Prelude.{Result, Ok}
+use Rattle.i2c_boardtext.proofs.Cited.{◌≡◌, ℕ, List, length, ap, ◌∙◌, sym, subst, Result, Ok, MuxSpec, RootSpec, buses_of, ◌>>=◌, Fails}
+use Rattle.i2c_boardtext.proofs.Cited.{roots_of, muxes_of, devices_of, board_by_parts, BoardFault}
 use Rattle.i2c_base.specs.Board.{BoardView, DeviceView}
-use Rattle.i2c_base.specs.declared.board.MuxSpec.{MuxSpec}
-use Rattle.i2c_base.specs.declared.board.RootSpec.{RootSpec}
-use Rattle.i2c_spec.specs.Tree.{buses_of}
 use Rattle.i2c_boardtext.proofs.RowLemmas.{fails_on}
-use Rattle.i2c_boardtext.specs.BoardText.{◌>>=◌, Fails, roots_of, muxes_of, devices_of, board_by_parts}
 use Rattle.i2c_boardtext.specs.Values.{TopView}
-use Rattle.i2c_boardtext.specs.declared.fault.BoardFault.{BoardFault}
 
 module _ (t : TopView) where
   abbrev whole : List RootSpec → List MuxSpec → List DeviceView → Result BoardView BoardFault

@@ -1,20 +1,16 @@
 -- The tables of an array beside the members that the definitions speak of.
-use Rattle.std.proofs.Common.{◌≡◌, ℕ, ◌+◌, ◌<◌, ◌≤◌, true, List, [], ◌∷◌, ◌++◌, length, map, drop, get_or, ap, ◌∙◌, sym, subst}
+use Rattle.i2c_boardtext.proofs.Cited.{◌≡◌, ℕ, ◌+◌, ◌<◌, ◌≤◌, true, List, [], ◌∷◌, ◌++◌, length, map, drop, ap, ◌∙◌, sym, subst}
+use Rattle.i2c_boardtext.proofs.Cited.{list_all-map, is_some, Result, Ok, Err, Data, Members, as_table, view, Value, ◌>>=◌, each, placed}
+use Rattle.i2c_boardtext.proofs.Cited.{Fails, elements, row_of, rows_of, is_array_of, BoardFault}
+use Rattle.std.proofs.Common.{get_or}
 use Rattle.std.proofs.lemmas.List.{drop_more, at_drop_all}
-use Rattle.std.proofs.lemmas.List.Folds.{list_all-map}
 use Rattle.std.proofs.lemmas.List.Sums.{AllPass-from_list_all}
-use Rattle.std.specs.Option.{is_some}
-use Rattle.std.specs.Prelude.{Result, Ok, Err, IsErrAnd}
-use Rattle.toml.specs.Data.{Data, Members, as_table}
-use Rattle.toml.specs.View.{view}
-use Rattle.toml.specs.declared.value.Value.{Value}
+use Rattle.std.specs.Prelude.{IsErrAnd}
 use Rattle.i2c_boardtext.proofs.DataLemmas.{mapped}
 use Rattle.i2c_boardtext.proofs.RunLemmas.{elements_pass}
-use Rattle.i2c_boardtext.specs.BoardText.{◌>>=◌, each, placed, Fails, Gives}
-use Rattle.i2c_boardtext.specs.Items.{elements, members_in}
-use Rattle.i2c_boardtext.specs.Rows.{AreTables, row_of, rows_of}
-use Rattle.i2c_boardtext.specs.Rules.{is_array_of}
-use Rattle.i2c_boardtext.specs.declared.fault.BoardFault.{BoardFault}
+use Rattle.i2c_boardtext.specs.BoardText.{Gives}
+use Rattle.i2c_boardtext.specs.Items.{members_in}
+use Rattle.i2c_boardtext.specs.Rows.{AreTables}
 use Rattle.i2c_boardtext.specs.declared.fault.BoardFault.TheVariants as board_fault
 use Rattle.i2c_boardtext.specs.declared.fault.TableFault.{TableFault}
 use Rattle.i2c_boardtext.specs.declared.fault.TableName.{TableName}

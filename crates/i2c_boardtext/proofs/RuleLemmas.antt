@@ -1,11 +1,12 @@
 -- A list of rules over the entries of a table.
-use Rattle.std.proofs.Common.{◌≡◌, ℕ, ◌&&◌, ◌||◌, List, [], ◌∷◌, map, string_bytes, refl, ap}
-use Rattle.std.specs.List.{list_all, list_any}
+use Rattle.i2c_boardtext.proofs.Cited.{◌≡◌, ℕ, ◌&&◌, List, [], ◌∷◌, map, refl, ap, list_all, KeyRule, key_rule, are_listed}
+use Rattle.std.proofs.Common.{◌||◌, string_bytes}
+use Rattle.std.specs.List.{list_any}
 use Rattle.std.specs.Map.{keys_of}
 use Rattle.std.specs.Prelude.{bytes_eq}
 use Rattle.toml.proofs.Views.{Entry}
 use Rattle.toml.specs.View.{members_view}
-use Rattle.i2c_boardtext.specs.Rules.{KeyRule, key_rule, is_listed, are_listed}
+use Rattle.i2c_boardtext.specs.Rules.{is_listed}
 use Rattle.i2c_boardtext.specs.declared.rule.Rule.{Rule}
 
 -- by the entries, from the first on

@@ -1,19 +1,18 @@
 -- Runs that are as listed: nothing of them is cut, and they fit the memory.
-use Rattle.std.proofs.Common.{◌≡◌, ℕ, ◌+◌, ◌%◌, ◌≤◌, nat_le, int_le, ℤ, pos, negsuc, Bool, true, false, List, [], ◌∷◌, length, map, Option, Some, None, option_map, refl, arith}
-use Rattle.std.proofs.lemmas.Bool.{and_parts, false≢true, leb-true}
+use Rattle.i2c_boardtext.proofs.Cited.{◌≡◌, ℕ, ◌+◌, ◌≤◌, Bool, true, false, List, [], ◌∷◌, length, map, Option, Some, None, option_map}
+use Rattle.i2c_boardtext.proofs.Cited.{refl, arith, and_parts, false≢true, list_all, unwrap_or, All, Data, IsPlainRun, cut_byte, cut_run}
+use Rattle.i2c_boardtext.proofs.Cited.{cut_runs_in, items_in, elements, is_in, is_run, is_array_of, fits_if_there, elements_in, runs_in}
+use Rattle.std.proofs.Common.{◌%◌, nat_le, int_le, ℤ, pos, negsuc}
+use Rattle.std.proofs.lemmas.Bool.{leb-true}
 use Rattle.std.proofs.lemmas.List.{length-map}
 use Rattle.std.proofs.lemmas.List.Elements.{All-cons}
 use Rattle.std.proofs.Math.Nat.{mod-eq_of_lt}
-use Rattle.std.specs.List.{list_all}
-use Rattle.std.specs.Option.{unwrap_or}
-use Rattle.std.specs.Prelude.{All}
-use Rattle.toml.specs.Data.{Data, as_integer}
+use Rattle.toml.specs.Data.{as_integer}
 use Rattle.i2c_base.specs.Bytes.{IsByte, AreBytes}
-use Rattle.i2c_spec.specs.Plain.{IsPlainRun}
-use Rattle.i2c_boardtext.specs.Cuts.{cut_byte, cut_run_of, cut_run, cut_runs_in}
-use Rattle.i2c_boardtext.specs.Items.{items_in, elements, nat_of, number}
-use Rattle.i2c_boardtext.specs.Rules.{is_from_to, is_in, is_run_of, is_run, is_array_of, fits_if_there}
-use Rattle.i2c_boardtext.specs.Values.{memory_run, elements_in, runs_in}
+use Rattle.i2c_boardtext.specs.Cuts.{cut_run_of}
+use Rattle.i2c_boardtext.specs.Items.{nat_of, number}
+use Rattle.i2c_boardtext.specs.Rules.{is_from_to, is_run_of}
+use Rattle.i2c_boardtext.specs.Values.{memory_run}
 use Rattle.i2c_boardtext.specs.declared.rule.Test.TheVariants.{Runs}
 
 -- a number that passes its test is within its bounds
@@ -86,7 +85,8 @@ cut_runs_same size (d ∷ ds) most h =
     let (here, more) = and_parts (is_run size d) (list_all (is_run size) ds) h in
     rw (cut_run_same size (elements d) most here, cut_runs_same size ds most more)
 
-plain_runs : (size : ℕ) (ds : List Data) → list_all (is_run size) ds ≡ true → All (IsPlainRun size) (map (λ run. memory_run (elements run)) ds)
+plain_runs : (size : ℕ) (ds : List Data) → list_all (is_run size) ds ≡ true → All (IsPlainRun size)
+    (map (λ run. memory_run (elements run)) ds)
 plain_runs size [] h = λ k d within. absurd (omega arith)
 plain_runs size (d ∷ ds) h =
     let (here, more) = and_parts (is_run size d) (list_all (is_run size) ds) h in

@@ -1,10 +1,10 @@
 -- A text and the document that it spells.
-use Rattle.std.proofs.Common.{◌≡◌, ℕ, Bool, false, List, Some, None, IsTrue, ◌↔◌, ◌∙◌, sym, inl, inr}
-use Rattle.std.proofs.lemmas.Bool.{cases_Bool, false≢true}
+use Rattle.i2c_boardtext.proofs.Cited.{◌≡◌, ℕ, Bool, false, List, Some, None, ◌∙◌, sym, false≢true, Ok, Err, Members}
+use Rattle.std.proofs.Common.{IsTrue, ◌↔◌, inl, inr}
+use Rattle.std.proofs.lemmas.Bool.{cases_Bool}
 use Rattle.std.proofs.lemmas.Str.{is_utf8-from_IsUtf8, IsUtf8-from_is_utf8}
-use Rattle.std.specs.Prelude.{Ok, Err, IsUtf8}
+use Rattle.std.specs.Prelude.{IsUtf8}
 use Rattle.std.specs.Str.{is_utf8}
-use Rattle.toml.specs.Data.{Members}
 use Rattle.toml.specs.Parse.{parse_document}
 use Rattle.i2c_boardtext.specs.BoardText.{document_of}
 use Rattle.i2c_boardtext.specs.declared.fault.BoardFault.TheVariants.{NotToml}

@@ -1,6 +1,7 @@
 -- What is so of each line of a driver: its transfers are within the limits where its fields are in their ranges, and what it prints is
 -- lines of a section.
-use Rattle.std.proofs.Common.{◌≡◌, ℕ, zero, suc, ◌+◌, ◌*◌, ◌/◌, ◌%◌, ◌^◌, ◌<◌, ◌≤◌, inl, inr, true, false, cond, List, [], ◌∷◌, ◌++◌, length, map, zip, take, drop, codes, get_or, Option, Some, None, Ok, Err, refl, sym, ap, subst, arith}
+use Rattle.std.proofs.Common.{◌≡◌, ℕ, zero, suc, ◌+◌, ◌*◌, ◌/◌, ◌%◌, ◌^◌, ◌<◌, ◌≤◌, inl, inr, true, false, cond, List, [], ◌∷◌, ◌++◌}
+use Rattle.std.proofs.Common.{length, map, zip, take, drop, codes, get_or, Option, Some, None, Ok, Err, refl, sym, ap, subst, arith}
 use Rattle.std.specs.Prelude.{All, slice_get, slice_index_or, ℤ, pos, negsuc, neg_ℤ, ◌*ℤ◌, ◌==◌, Result}
 use Rattle.std.specs.Fmt.{decimal, digits, digits_onto, digit_glyph, signed_decimal}
 use Rattle.std.specs.Int.{cast_unsigned, w16}
@@ -32,7 +33,8 @@ use Rattle.tools.proofs.TransferLemmas.{IsAsk, call_asks, short_byte, short_byte
 use Rattle.tools.proofs.ValueLemmas.{others, result_line, errno as errno_line}
 use Rattle.i2c_drivers.specs.At24.{failure_of, eeprom_read_by, read_run, unless_failed, write_by, eeprom_write_run}
 use Rattle.i2c_drivers.specs.Bound.{eeprom_at, sensor_at}
-use Rattle.i2c_drivers.specs.Lm75.{milli_of, outcome_text, pointer_of, raw_of, read_call, reading_text, sensor_read_run, sensor_write_run, swapped, degrees_text, write_call, written_text}
+use Rattle.i2c_drivers.specs.Lm75.{milli_of, outcome_text, pointer_of, raw_of, read_call, reading_text, sensor_read_run, sensor_write_run}
+use Rattle.i2c_drivers.specs.Lm75.{swapped, degrees_text, write_call, written_text}
 use Rattle.i2c_drivers.specs.Laws.{IsInRange, AsksWithinLimits, NoLineIsJournal}
 use Rattle.i2c_drivers.specs.Pages.{PageReadView, PageWriteView}
 use Rattle.i2c_drivers.specs.Rows.{byte_lines, all_bytes_read}
@@ -65,7 +67,8 @@ pointer_small Max = omega arith
 
 pub reading_asks : (s : Sensor) (which : RegName) → IsAsk (messages_of_call (read_call s which))
 reading_asks s which =
-    call_asks (read_call s which) (λ e. absurd cc) (short_byte (pointer_of which) (pointer_small which)) (omega arith, omega arith) (omega arith)
+    call_asks (read_call s which) (λ e. absurd cc) (short_byte (pointer_of which) (pointer_small which)) (omega arith, omega arith)
+    (omega arith)
 
 writing_asks : (s : Sensor) (which : RegName) (word : ℕ) → word < 2 ^ 16 → IsAsk (messages_of_call (write_call s which word))
 writing_asks s which word small =

@@ -1,5 +1,6 @@
 -- Bytes that are printed one after the other are their lines; and the bytes of replies, one reply after the other.
-use Rattle.std.proofs.Common.{◌≡◌, ℕ, zero, suc, ◌+◌, ◌-◌, ◌*◌, ◌/◌, ◌%◌, ◌<◌, ◌≤◌, true, false, cond, List, [], ◌∷◌, ◌++◌, length, take, drop, append_assoc, append-nil, refl, sym, ap, ◌∙◌, length-take, length-drop, length-append, add-one, arith}
+use Rattle.std.proofs.Common.{◌≡◌, ℕ, zero, suc, ◌+◌, ◌-◌, ◌*◌, ◌/◌, ◌%◌, ◌<◌, ◌≤◌, true, false, cond, List, [], ◌∷◌, ◌++◌, length, take}
+use Rattle.std.proofs.Common.{drop, append_assoc, append-nil, refl, sym, ap, ◌∙◌, length-take, length-drop, length-append, add-one, arith}
 use Rattle.std.specs.Prelude.{◌==◌}
 use Rattle.std.specs.List.{flat_map}
 use Rattle.std.proofs.Math.Seq.{take-add}
@@ -140,7 +141,8 @@ module _ (rs : List Reply) (o : List ℕ) where
       ∙ ap (λ t. a ++ cells n t) (sym whole) ∙ same
 
   pub many_next : (k n m : ℕ) (xs : List ℕ) → xs ≡ bytes_at rs k → m ≡ n + length xs
-      → n + length (all_bytes_read (drop k rs)) ≡ length (all_bytes_read rs) → m + length (all_bytes_read (drop (k + 1) rs)) ≡ length (all_bytes_read rs)
+      → n + length (all_bytes_read (drop k rs)) ≡ length (all_bytes_read rs) → m + length (all_bytes_read (drop (k + 1) rs)) ≡ length
+      (all_bytes_read rs)
   many_next k n m xs is more many =
       let here : length xs ≡ length (bytes_at rs k) = ap length is in
       omega (arith, here, more, many, lengths_more rs k)
@@ -149,7 +151,8 @@ module _ (rs : List Reply) (o : List ℕ) where
       → a ≡ o ++ cells 0 (all_bytes_read rs)
   same_end k n a past same = sym (append-nil a) ∙ ap (λ t. a ++ cells n t) (sym (none_left rs k past)) ∙ same
 
-  pub many_end : (k n : ℕ) → length rs ≤ k → n + length (all_bytes_read (drop k rs)) ≡ length (all_bytes_read rs) → n ≡ length (all_bytes_read rs)
+  pub many_end : (k n : ℕ) → length rs ≤ k → n + length (all_bytes_read (drop k rs)) ≡ length (all_bytes_read rs)
+      → n ≡ length (all_bytes_read rs)
   many_end k n past many = let none : length (all_bytes_read (drop k rs)) ≡ 0 = ap length (none_left rs k past) in omega (arith, none, many)
 
   pub some_ended : (k n : ℕ) (a b : List ℕ) → length rs ≤ k → n + length (all_bytes_read (drop k rs)) ≡ length (all_bytes_read rs) → 0 < n
@@ -161,7 +164,8 @@ module _ (rs : List Reply) (o : List ℕ) where
       ∙ ap (λ t. o ++ t) (lines_ended (all_bytes_read rs) (omega (arith, all, some)))
 
   pub none_ended : (k n : ℕ) (a : List ℕ) → length rs ≤ k → n + length (all_bytes_read (drop k rs)) ≡ length (all_bytes_read rs) → n ≤ 0
-      → a ++ cells n (all_bytes_read (drop k rs)) ≡ o ++ cells 0 (all_bytes_read rs) → a ≡ o ++ flat_map line_ended (byte_lines (all_bytes_read rs))
+      → a ++ cells n (all_bytes_read (drop k rs)) ≡ o ++ cells 0 (all_bytes_read rs) → a ≡ o ++ flat_map line_ended
+      (byte_lines (all_bytes_read rs))
   none_ended k n a past many none same =
       let all : n ≡ length (all_bytes_read rs) = many_end k n past many in
       same_end k n a past same ∙ ap (λ t. o ++ t) (sym (no_lines (all_bytes_read rs) (omega (arith, all, none))))

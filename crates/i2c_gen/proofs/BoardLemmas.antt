@@ -1,5 +1,6 @@
 -- The generated boards: their parts one by one, and what is computed of all eight of them.
-use Rattle.std.proofs.Common.{◌≡◌, ℕ, suc, ◌+◌, ◌*◌, ◌-◌, ◌/◌, ◌%◌, ◌<◌, ◌≤◌, nat_lt, Bool, true, false, not, ◌||◌, List, [], ◌∷◌, ◌++◌, length, map, reverse, refl, sym, ◌∙◌, ap, subst, arith, rules}
+use Rattle.std.proofs.Common.{◌≡◌, ℕ, suc, ◌+◌, ◌*◌, ◌-◌, ◌/◌, ◌%◌, ◌<◌, ◌≤◌, nat_lt, Bool, true, false, not, ◌||◌, List, [], ◌∷◌, ◌++◌}
+use Rattle.std.proofs.Common.{length, map, reverse, refl, sym, ◌∙◌, ap, subst, arith, rules}
 use Rattle.std.specs.List.{All, range_with_len, flat_map, list_any}
 use Rattle.std.proofs.lemmas.Bool.{false≢true, or_parts}
 use Rattle.std.proofs.lemmas.Bool.Decides.{nat_tests}
@@ -10,7 +11,8 @@ use Rattle.i2c_base.specs.declared.board.MuxSpec.{MuxSpec}
 use Rattle.i2c_base.specs.Board.{BoardView}
 use Rattle.i2c_base.specs.Limits.{MOST_ROOTS, MOST_DEVICES}
 use Rattle.i2c_spec.specs.Plain.{IsPlainMux, IsPlainDevice, IsPlanted, IsPlainBoard}
-use Rattle.i2c_spec.specs.Rules.{some_below, NoPair, NoneOf, MeetsRules, items, clashes, is_too_deep, is_locked_under, is_wrongly_locked, breaks_idle}
+use Rattle.i2c_spec.specs.Rules.{some_below, NoPair, NoneOf, MeetsRules, items, clashes, is_too_deep, is_locked_under, is_wrongly_locked}
+use Rattle.i2c_spec.specs.Rules.{breaks_idle}
 use Rattle.i2c_spec.specs.Tree.{buses, buses_of}
 use Rattle.i2c_spec.proofs.IdleLemmas.{one_below}
 use Rattle.i2c_gen.specs.Boards.{bus_of, switch_of, devices_on, devices_of, made_board}

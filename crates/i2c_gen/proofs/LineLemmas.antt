@@ -1,5 +1,6 @@
 -- Each line that an operation makes is in the grammar, and means its command.
-use Rattle.std.proofs.Common.{◌≡◌, ℕ, zero, suc, ◌+◌, ◌≤◌, Bool, true, false, cond, leb, List, [], ◌∷◌, ◌++◌, take, Option, Some, None, Ok, refl, sym, ap, ◌∙◌, append_assoc, append-nil, arith, codes}
+use Rattle.std.proofs.Common.{◌≡◌, ℕ, zero, suc, ◌+◌, ◌≤◌, Bool, true, false, cond, leb, List, [], ◌∷◌, ◌++◌, take, Option, Some, None, Ok}
+use Rattle.std.proofs.Common.{refl, sym, ap, ◌∙◌, append_assoc, append-nil, arith, codes}
 use Rattle.std.specs.Prelude.{slice_get, ◌&&◌}
 use Rattle.std.specs.Fmt.{decimal}
 use Rattle.std.specs.Str.{bytes_eq}
@@ -13,7 +14,8 @@ use Rattle.tools.specs.Lines.{line_read}
 use Rattle.tools.specs.Numbers.{number_in}
 use Rattle.tools.specs.Options.{bus_number, address, byte, force_and_yes}
 use Rattle.tools.specs.Readers.{◌>>=◌, of_word, is_at}
-use Rattle.tools.specs.Sets.{set_to, set_by, set_byte, set_number, set_values, set_reg, set_bus, set_words, send_mode, first_piece, by_piece, mode_or}
+use Rattle.tools.specs.Sets.{set_to, set_by, set_byte, set_number, set_values, set_reg, set_bus, set_words, send_mode, first_piece}
+use Rattle.tools.specs.Sets.{by_piece, mode_or}
 use Rattle.tools.specs.Splits.{words_of, joined_words}
 use Rattle.tools.specs.declared.command.Cmd.{Cmd}
 use Rattle.tools.specs.declared.command.get.GetMode.TheVariants as mode
@@ -160,6 +162,7 @@ command_line (suc zero) bus reg val h =
     (decimal_number reg (omega (arith, h.reg_is))) h.reg_is (decimal_number val (omega (arith, h.val_is))) h.val_is)
 command_line (suc (suc op)) bus reg val h =
     let ws : List Word = words_by (suc (suc op)) bus reg val in
-    command_read 32 (joined_words ws) ws (cmd_by (suc (suc op)) bus reg val) (ap (take (MOST_WORDS + 1)) (front (suc (suc op)) bus reg val h))
+    command_read 32 (joined_words ws) ws (cmd_by (suc (suc op)) bus reg val) (ap (take (MOST_WORDS + 1))
+    (front (suc (suc op)) bus reg val h))
     refl
     (word_read bus (decimal bus) (decimal_number bus (omega (arith, h.bus_is))) h.bus_is op (decimal reg) (decimal val))

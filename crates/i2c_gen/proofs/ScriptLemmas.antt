@@ -1,5 +1,6 @@
 -- A script is in the grammar, is short, and costs little. The inductions go over its lines.
-use Rattle.std.proofs.Common.{◌≡◌, ℕ, zero, suc, ◌+◌, ◌*◌, ◌^◌, ◌<◌, ◌≤◌, false, cond, leb, List, [], ◌∷◌, ◌++◌, length, map, Some, Result, Ok, Err, IsOk, All, refl, sym, ap, subst, ◌∙◌, arith, mod-lt, mul-suc, length-append, codes, ◌/◌}
+use Rattle.std.proofs.Common.{◌≡◌, ℕ, zero, suc, ◌+◌, ◌*◌, ◌^◌, ◌<◌, ◌≤◌, false, cond, leb, List, [], ◌∷◌, ◌++◌, length, map, Some, Result}
+use Rattle.std.proofs.Common.{Ok, Err, IsOk, All, refl, sym, ap, subst, ◌∙◌, arith, mod-lt, mul-suc, length-append, codes, ◌/◌}
 use Rattle.std.specs.Fmt.{decimal}
 use Rattle.std.specs.List.{AllByRecursion, range_with_len, flat_map, sum_by}
 use Rattle.std.proofs.lemmas.Bool.Decides.{nat_tests}
@@ -17,7 +18,8 @@ use Rattle.tools.specs.Splits.{joined_words}
 use Rattle.tools.specs.declared.command.Cmd.{Cmd}
 use Rattle.caller_core.specs.Callers.{IsOpened}
 use Rattle.caller_core.specs.Runs.{handles_behind}
-use Rattle.caller_core.specs.Scripts.{Place, command_of, at_most, behind_commands, behind_line_read, lines_read, text_read, script_read, commands_or_none, cost_of_script}
+use Rattle.caller_core.specs.Scripts.{Place, command_of, at_most, behind_commands, behind_line_read, lines_read, text_read, script_read}
+use Rattle.caller_core.specs.Scripts.{commands_or_none, cost_of_script}
 use Rattle.caller_core.specs.Turns.{command_talk, sum_of}
 use Rattle.caller_core.specs.View.{CommandView, CallerView, script_on}
 use Rattle.i2c_gen.specs.Boards.{bus_of, made_board}
@@ -121,7 +123,8 @@ script_is_read p is caller =
     let b : BoardView = made_board p.roots in
     ap (text_read b) (script_text p caller)
     ∙ ap (λ ls. lines_read b 1 0 ls [])
-    (lines_of-flat_map (line_at p) (λ n. words_line (op_at p n) (bus_at p n) (reg_at p n) (val_at p n) (in_range p is n)) (lines_from p caller))
+    (lines_of-flat_map (line_at p) (λ n. words_line (op_at p n) (bus_at p n) (reg_at p n) (val_at p n) (in_range p is n))
+    (lines_from p caller))
     ∙ lines_are_read b (line_at p) (cmd_at p) (λ n. command_line (op_at p n) (bus_at p n) (reg_at p n) (val_at p n) (in_range p is n))
     (λ n. no_handle b (op_at p n) (bus_at p n) (reg_at p n) (val_at p n)) (lines_from p caller) 1 0
     (omega (arith, is.most_lines, length-range_with_len (caller * p.lines) p.lines))
@@ -151,7 +154,8 @@ module _ (roots root channel : ℕ) (some : 1 ≤ roots) (most : roots ≤ 8) (t
       (bus_cost roots root channel some most there within (asked (suc (suc op)) reg val line) refl (omega arith))
 
 -- a sum of terms that are bounded
-sum_most : {X : Type 0} (f : X → ℕ) (g : ℕ → X) (most : ℕ) → ((n : ℕ) → f (g n) ≤ most) → (ns : List ℕ) → sum_by f (map g ns) ≤ most * length ns
+sum_most : {X : Type 0} (f : X → ℕ) (g : ℕ → X) (most : ℕ) → ((n : ℕ) → f (g n) ≤ most) → (ns : List ℕ)
+    → sum_by f (map g ns) ≤ most * length ns
 sum_most f g most h [] = omega arith
 sum_most f g most h (n ∷ ns) =
     omega (arith, sum_by-cons f (g n) (map g ns), h n, sum_most f g most h ns, mul-suc most (length ns))
@@ -163,7 +167,8 @@ script_cost p is caller =
     (channel_below p is n) (op_at p n) (reg_at p n) (val_at p n) (line_at p n) in
     let all : sum_by cost (map (command_at p) (lines_from p caller)) ≤ 125 * length (lines_from p caller) =
     sum_most cost (command_at p) 125 each (lines_from p caller) in
-    let read : cost_of_script (script_on (made_board p.roots) (script_of p caller)) ≡ sum_by cost (map (command_at p) (lines_from p caller)) =
+    let read : cost_of_script (script_on (made_board p.roots) (script_of p caller)) ≡ sum_by cost
+    (map (command_at p) (lines_from p caller)) =
     ap (λ r. sum_by cost (commands_or_none r)) (script_is_read p is caller) in
     bounded _ _ _ p.lines read all (length-range_with_len (caller * p.lines) p.lines) is.most_lines
   where
@@ -184,7 +189,12 @@ behind_reg b m r e = omega (arith, length-append b (m ++ (r ++ e)), length-appen
 
 behind_val : (b m r s v e : List ℕ)
     → length (b ++ (m ++ (r ++ (s ++ (v ++ e))))) ≡ length b + length m + length r + length s + length v + length e
-behind_val b m r s v e = omega (arith, length-append b (m ++ (r ++ (s ++ (v ++ e)))), length-append m (r ++ (s ++ (v ++ e))), behind_reg r s v e)
+behind_val b m r s v e = omega (
+  arith,
+  length-append b (m ++ (r ++ (s ++ (v ++ e)))),
+  length-append m (r ++ (s ++ (v ++ e))),
+  behind_reg r s v e,
+)
 
 line_short : (op bus reg val : ℕ) → AreInRange bus reg val → length (line_by op bus reg val) ≤ 40
 line_short zero bus reg val h =

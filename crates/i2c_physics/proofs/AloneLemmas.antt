@@ -1,10 +1,6 @@
 -- One target alone is told of an event, and nobody.
-use Rattle.std.proofs.Common.{◌≡◌, ℕ, ◌<◌, List, [], ◌∷◌, length, get_or, set, refl, ap, ◌∙◌, arith}
-use Rattle.i2c_base.specs.declared.event.Event.{Event}
-use Rattle.i2c_base.specs.declared.event.Answer.{Answer}
-use Rattle.i2c_base.specs.Table.{Table}
-use Rattle.i2c_spec.specs.World.{feed, answers}
-use Rattle.i2c_physics.specs.Reach.{to_those}
+use Rattle.i2c_physics.proofs.Cited.{◌≡◌, ℕ, ◌<◌, List, [], ◌∷◌, length, get_or, set, refl, ap, ◌∙◌, arith, Event, Answer, Table, feed}
+use Rattle.i2c_physics.proofs.Cited.{answers, to_those}
 use Rattle.i2c_physics.proofs.WiredAndLemmas.{untold-fed, untold-answered, told-fed, told-answered}
 
 module _ {X : Type 0} (t : Table X) (event : Event) (xs : List X) where

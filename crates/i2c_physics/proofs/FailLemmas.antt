@@ -1,10 +1,6 @@
 -- The numbers that are listed for a root, where one more of the calls is of it, and where it is of another.
-use Rattle.std.proofs.Common.{◌≡◌, ℕ, ◌+◌, ◌<◌, ◌++◌, List, [], ◌∷◌, length, map, take, get_or, Bool, true, false, cond, append-nil, sym, ◌∙◌, ap}
-use Rattle.std.specs.Prelude.{◌==◌}
-use Rattle.std.specs.List.{filter}
-use Rattle.std.proofs.lemmas.List.{map-append}
-use Rattle.std.proofs.lemmas.List.Elements.{filter_more}
-use Rattle.i2c_physics.specs.FailPorts.{fails_on}
+use Rattle.i2c_physics.proofs.Cited.{◌≡◌, ℕ, ◌+◌, ◌<◌, ◌++◌, List, [], ◌∷◌, length, map, take, get_or, Bool, true, false, cond, append-nil}
+use Rattle.i2c_physics.proofs.Cited.{sym, ◌∙◌, ap, ◌==◌, filter, map-append, filter_more, fails_on}
 
 module _ (calls : List (ℕ × ℕ)) (root i : ℕ) (x : ℕ × ℕ) (b : Bool) (old : List ℕ) (low : i < length calls) (is : x ≡ get_or calls i x)
     (same : b ≡ (x.0 == root)) (before : old ≡ fails_on (take i calls) root) where

@@ -1,35 +1,27 @@
 -- What a call leaves of the program's lists, where only those are told that a message has reached, is what the world says.
-use Rattle.std.proofs.Common.{◌≡◌, ℕ, ◌+◌, ◌<◌, Bool, true, false, ◌&&◌, ◌||◌, List, [], ◌∷◌, ◌++◌, length, None, refl, sym, ◌∙◌, ap, subst, inl, inr, arith}
-use Rattle.std.specs.Prelude.{not, if◌then◌else◌}
-use Rattle.std.specs.List.{filter, range_with_len}
-use Rattle.std.proofs.lemmas.Bool.{cases_Bool, or_cases, and_parts}
-use Rattle.std.proofs.lemmas.List.{length-map}
+use Rattle.i2c_physics.proofs.Cited.{◌≡◌, ℕ, ◌+◌, ◌<◌, Bool, true, false, ◌&&◌, ◌||◌, List, [], ◌∷◌, ◌++◌, length, None, refl, sym, ◌∙◌, ap}
+use Rattle.i2c_physics.proofs.Cited.{subst, inl, inr, arith, not, if◌then◌else◌, filter, range_with_len, cases_Bool, and_parts, length-map}
+use Rattle.i2c_physics.proofs.Cited.{Node, Event, Answer, Nothing, BoardView, Table, ChipView, chip_table, TargetState, IsQuiet}
+use Rattle.i2c_physics.proofs.Cited.{state_table, World, after, answer, sent_on, answers, feed, to_chips, to_devices, chip_start}
+use Rattle.i2c_physics.proofs.Cited.{device_start, start_chips, start_devices, start_event, stop_event, joins_chip, joins_device, hearers}
+use Rattle.i2c_physics.proofs.Cited.{has_heard, numbers_of, nodes_of, PlaceView, mux_place, device_place, event_if, is_among, AreRising}
+use Rattle.i2c_physics.proofs.Cited.{to_those, joins_at, has_at, addressed, others, union_of, is_own, seen_on, wired_and_of, WiredAnd}
+use Rattle.i2c_physics.proofs.Cited.{feed-same}
+use Rattle.std.proofs.lemmas.Bool.{or_cases}
 use Rattle.std.proofs.lemmas.List.Folds.{list_any-append}
-use Rattle.i2c_base.specs.declared.ids.Node.{Node}
-use Rattle.i2c_base.specs.declared.event.Event.{Event}
 use Rattle.i2c_base.specs.declared.event.Event.TheVariants as event
-use Rattle.i2c_base.specs.declared.event.Answer.{Answer}
-use Rattle.i2c_base.specs.declared.event.Answer.TheVariants.{Ack, Nack, Slow, Nothing}
+use Rattle.i2c_base.specs.declared.event.Answer.TheVariants.{Ack, Nack, Slow}
 use Rattle.i2c_base.specs.declared.port.PortCall.TheVariants as call
-use Rattle.i2c_base.specs.Board.{BoardView}
-use Rattle.i2c_base.specs.Table.{Table}
-use Rattle.i2c_spec.specs.Chips.{ChipView, chip_table, chip_after}
-use Rattle.i2c_spec.specs.Targets.{TargetState, IsQuiet, state_table}
-use Rattle.i2c_spec.specs.World.{World, after, answer, sent_on, answers, feed, to_chips, to_devices, chip_start, device_start, start_chips, start_devices, start_event, stop_event, joins_chip, joins_device, hearers, has_heard, is_ack, is_slow, some_answer}
+use Rattle.i2c_spec.specs.Chips.{chip_after}
+use Rattle.i2c_spec.specs.World.{is_ack, is_slow, some_answer}
 use Rattle.i2c_spec.proofs.StateLemmas.{states_fair}
-use Rattle.i2c_physics.specs.Heard.{numbers_of, nodes_of}
-use Rattle.i2c_physics.specs.Places.{PlaceView, mux_place, device_place, event_if}
-use Rattle.i2c_physics.specs.Reach.{is_among, AreRising, to_those, joins_at, has_at, addressed, others, union_of}
-use Rattle.bus_lines.specs.Owned.{is_own}
-use Rattle.i2c_physics.specs.SimWorlds.{seen_on, IsSimWorld}
-use Rattle.i2c_physics.specs.Answering.{wired_and_of, start_answer}
-use Rattle.i2c_physics.specs.declared.wired_and.WiredAnd.{WiredAnd}
+use Rattle.i2c_physics.specs.SimWorlds.{IsSimWorld}
+use Rattle.i2c_physics.specs.Answering.{start_answer}
 use Rattle.i2c_physics.specs.declared.reach.Reach.{Reach}
 use Rattle.i2c_physics.proofs.NumberLemmas.{filter-among, rising-filter, rising-of_range}
 use Rattle.i2c_physics.proofs.OwnLemmas.{other-apart, joined-own, length-seen, feed-seen, answers-seen}
 use Rattle.i2c_physics.proofs.PlaceLemmas.{chip-started, chip-stopped, device-started, device-stopped}
 use Rattle.i2c_physics.proofs.ReachLemmas.{reached-sent, stopped-fed, reached-stopped, started-fed, started-heard, reached-started}
-use Rattle.i2c_spec.proofs.FeedLemmas.{feed-same}
 use Rattle.i2c_physics.proofs.WiredAndLemmas.{answers-same, length-feed}
 use Rattle.i2c_physics.proofs.WorldLemmas.{chip-hears, device-hears, hearers_told}
 

@@ -11,6 +11,7 @@ pub mod RigLemmas
 pub mod SiteLemmas
 pub mod StepLemmas
 pub mod WiredAndLemmas
+mod Cited
 pub mod WorldLemmas
 pub mod TakeLemmas
 pub mod SendLemmas

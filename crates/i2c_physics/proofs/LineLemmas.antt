@@ -1,17 +1,10 @@
 -- A line is set: a chip that was quiet stays so, and the program's chips and devices are as they are opened.
-use Rattle.std.proofs.Common.{◌≡◌, ◌≢◌, ℕ, zero, suc, ◌<◌, ◌≤◌, false, List, [], ◌∷◌, length, map, set, Some, None, refl, sym, ◌∙◌, ap, subst, inl, inr, arith}
-use Rattle.std.specs.Prelude.{slice_get}
-use Rattle.std.specs.Option.{option_map}
-use Rattle.std.proofs.lemmas.List.{length-map, length-set}
-use Rattle.std.proofs.lemmas.Bool.Decides.{eqb_tells}
-use Rattle.std.proofs.lemmas.Option.{slice_get-map, slice_get_cases}
-use Rattle.i2c_base.specs.Board.{BoardView}
-use Rattle.i2c_base.specs.Table.{Table}
-use Rattle.i2c_spec.specs.Chips.{ChipView, chip_table, chip_opening, at_level}
-use Rattle.i2c_spec.specs.Targets.{TargetState, IsQuiet}
-use Rattle.i2c_spec.specs.World.{set_level, opening_world}
-use Rattle.i2c_physics.specs.Reach.{IsReach}
-use Rattle.i2c_physics.specs.SimWorlds.{opened_on}
+use Rattle.i2c_physics.proofs.Cited.{◌≡◌, ◌≢◌, ℕ, zero, suc, ◌<◌, ◌≤◌, false, List, [], ◌∷◌, length, map, set, Some, None, refl, sym, ◌∙◌}
+use Rattle.i2c_physics.proofs.Cited.{ap, subst, inl, inr, arith, slice_get, option_map, length-map, length-set, eqb_tells, slice_get-map}
+use Rattle.i2c_physics.proofs.Cited.{slice_get_cases, BoardView, Table, ChipView, chip_table, chip_opening, TargetState, IsQuiet}
+use Rattle.i2c_physics.proofs.Cited.{opening_world, IsReach, opened_on}
+use Rattle.i2c_spec.specs.Chips.{at_level}
+use Rattle.i2c_spec.specs.World.{set_level}
 use Rattle.i2c_physics.proofs.FeedLemmas.{world_of}
 use Rattle.i2c_physics.proofs.OwnLemmas.{seen-opened}
 use Rattle.i2c_base.proofs.ListLemmas.{set_here}

@@ -1,20 +1,12 @@
 -- Devices of other roots are not joined: no event goes to one, and the world of a root has it as it was opened. The
 -- inductions go over the devices, the first being number k.
-use Rattle.std.proofs.Common.{◌≡◌, ℕ, zero, suc, ◌+◌, ◌<◌, Bool, true, false, List, [], ◌∷◌, length, map, drop, get_or, set, Option, Some, None, refl, sym, ◌∙◌, ap, inl, inr, arith, add-zero, zero-add}
-use Rattle.std.specs.Prelude.{if◌then◌else◌, slice_get}
-use Rattle.std.specs.Option.{option_map, option_map_or}
-use Rattle.std.proofs.lemmas.Bool.{cases_Bool}
-use Rattle.std.proofs.lemmas.Option.{slice_get-map}
-use Rattle.i2c_base.specs.declared.event.Event.{Event}
-use Rattle.i2c_base.specs.declared.event.Answer.{Answer}
-use Rattle.i2c_base.specs.Board.{BoardView, DeviceView}
-use Rattle.i2c_spec.specs.Chips.{ChipView}
-use Rattle.i2c_spec.specs.Targets.{TargetState, Silent, IsQuiet, state_table, opening_state}
-use Rattle.i2c_spec.specs.World.{answers, answer_with, feed, given}
-use Rattle.i2c_physics.specs.Places.{PlaceView, device_place, joins}
-use Rattle.i2c_physics.specs.Reach.{is_among, joins_at, wired_at}
-use Rattle.bus_lines.specs.Owned.{is_of, is_own}
-use Rattle.i2c_physics.specs.SimWorlds.{opened_on, seen_on}
+use Rattle.i2c_physics.proofs.Cited.{◌≡◌, ℕ, zero, suc, ◌+◌, ◌<◌, Bool, true, false, List, [], ◌∷◌, length, map, drop, get_or, set, Option}
+use Rattle.i2c_physics.proofs.Cited.{Some, None, refl, sym, ◌∙◌, ap, inl, inr, arith, add-zero, zero-add, if◌then◌else◌, slice_get}
+use Rattle.i2c_physics.proofs.Cited.{option_map, option_map_or, cases_Bool, slice_get-map, Event, Answer, BoardView, DeviceView, ChipView}
+use Rattle.i2c_physics.proofs.Cited.{TargetState, Silent, IsQuiet, state_table, answers, answer_with, feed, given, PlaceView, device_place}
+use Rattle.i2c_physics.proofs.Cited.{joins, is_among, joins_at, wired_at, is_own, opened_on, seen_on}
+use Rattle.i2c_spec.specs.Targets.{opening_state}
+use Rattle.bus_lines.specs.Owned.{is_of}
 
 -- device k of these is of the root
 abbrev own_in : BoardView → ℕ → List DeviceView → ℕ → Bool

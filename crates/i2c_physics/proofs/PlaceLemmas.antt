@@ -1,17 +1,13 @@
 -- Where a target stands, by its place: the world says the same by its number.
-use Rattle.std.proofs.Common.{◌≡◌, ℕ, ◌<◌, ◌==◌, Bool, false, ◌&&◌, List, length, map, Some, refl, ◌∙◌, ap}
-use Rattle.std.specs.Prelude.{not, slice_get, is_some}
-use Rattle.std.specs.List.{list_all}
-use Rattle.std.specs.Option.{option_map, option_map_or}
-use Rattle.std.proofs.lemmas.Option.{slice_get-map}
+use Rattle.i2c_physics.proofs.Cited.{◌≡◌, ℕ, ◌<◌, Bool, false, ◌&&◌, List, length, map, Some, refl, ◌∙◌, ap, not, slice_get, is_some}
+use Rattle.i2c_physics.proofs.Cited.{list_all, option_map, option_map_or, slice_get-map, DeviceView, has_address, root_of, World}
+use Rattle.i2c_physics.proofs.Cited.{joins_chip, joins_device, chip_start, device_start, start_event, stop_event, PlaceView, mux_place}
+use Rattle.i2c_physics.proofs.Cited.{device_place, joins, joins_at, has_at}
+use Rattle.std.proofs.Common.{◌==◌}
 use Rattle.i2c_base.proofs.ListLemmas.{there}
 use Rattle.i2c_base.specs.declared.board.MuxSpec.{MuxSpec}
-use Rattle.i2c_base.specs.Board.{DeviceView}
-use Rattle.i2c_spec.specs.Grant.{has_address}
-use Rattle.i2c_spec.specs.Tree.{hops, root_of}
-use Rattle.i2c_spec.specs.World.{World, opens_hop, joins_chip, joins_device, chip_start, device_start, start_event, stop_event}
-use Rattle.i2c_physics.specs.Places.{PlaceView, mux_place, device_place, joins}
-use Rattle.i2c_physics.specs.Reach.{joins_at, has_at}
+use Rattle.i2c_spec.specs.Tree.{hops}
+use Rattle.i2c_spec.specs.World.{opens_hop}
 use mathlib.Core.Bool.{and_assoc}
 
 joins_mux : (w : World) (m : ℕ) (x : MuxSpec) → slice_get w.board.muxes m ≡ Some x

@@ -1,11 +1,8 @@
 -- What a plug gives: the ports of the roots as they are opened, in order.
-use Rattle.std.proofs.Common.{◌≡◌, ℕ, List, [], ◌∷◌, length, map, get_or, refl, ◌∙◌, ap}
-use Rattle.std.specs.Prelude.{All}
-use Rattle.std.specs.List.{range_with_len}
+use Rattle.i2c_physics.proofs.Cited.{◌≡◌, ℕ, List, [], ◌∷◌, length, map, get_or, refl, ◌∙◌, ap, All, range_with_len, BoardView, World}
+use Rattle.i2c_physics.proofs.Cited.{opening_world, openings}
 use Rattle.std.proofs.lemmas.List.Elements.{All-map}
 use Rattle.std.proofs.lemmas.List.FromFn.{length-map-range_with_len}
-use Rattle.i2c_base.specs.Board.{BoardView}
-use Rattle.i2c_spec.specs.World.{World, opening_world, openings}
 
 module _ {X : Type 0} (opened : ℕ → X) where
   all_opened : (P : X → Type 0) → ((r : ℕ) → P (opened r)) → (rs : List ℕ) → All P (map opened rs)

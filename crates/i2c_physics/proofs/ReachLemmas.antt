@@ -1,28 +1,18 @@
 -- Targets that no message has reached are quiet: telling the others alone leaves what telling all leaves. The inductions
 -- go over the targets, the first being number j.
-use Rattle.std.proofs.Common.{◌≡◌, ℕ, zero, suc, ◌+◌, ◌<◌, Bool, true, false, ◌&&◌, ◌||◌, cond, List, [], ◌∷◌, length, Option, Some, None, refl, sym, ap, ◌∙◌, subst, inl, inr, arith, add-zero, zero-add}
-use Rattle.std.specs.Prelude.{not, ◌⊎◌, IsSome, slice_get}
-use Rattle.std.specs.List.{filter, range_with_len}
-use Rattle.std.specs.Option.{option_map}
-use Rattle.std.proofs.lemmas.Bool.{cases_Bool}
-use Rattle.std.proofs.lemmas.Bool.Decides.{eqb_tells}
-use Rattle.std.proofs.lemmas.Option.{slice_get_cases}
-use Rattle.i2c_base.specs.declared.event.Event.{Event}
+use Rattle.i2c_physics.proofs.Cited.{◌≡◌, ℕ, zero, suc, ◌+◌, ◌<◌, Bool, true, false, ◌&&◌, ◌||◌, cond, List, [], ◌∷◌, length, Option, Some}
+use Rattle.i2c_physics.proofs.Cited.{None, refl, sym, ap, ◌∙◌, subst, inl, inr, arith, add-zero, zero-add, not, IsSome, slice_get, filter}
+use Rattle.i2c_physics.proofs.Cited.{range_with_len, option_map, cases_Bool, eqb_tells, slice_get_cases, Event, Answer, Nothing, Table}
+use Rattle.i2c_physics.proofs.Cited.{ChipView, IsQuiet, feed, given, answers, answer_with, has_heard, start_event, stop_event, numbers_of}
+use Rattle.i2c_physics.proofs.Cited.{PlaceView, event_if, is_among, AreRising, to_those, joins_at, has_at, addressed, others, union_of}
+use Rattle.i2c_physics.proofs.Cited.{IsReach}
+use Rattle.std.specs.Prelude.{◌⊎◌}
+use Rattle.std.proofs.lemmas.Bool.{or_parts}
+use Rattle.std.proofs.lemmas.Option.{same_Some}
 use Rattle.i2c_base.specs.declared.event.Event.TheVariants as event
-use Rattle.i2c_base.specs.declared.event.Answer.{Answer}
-use Rattle.i2c_base.specs.declared.event.Answer.TheVariants.{Nothing}
-use Rattle.i2c_base.specs.Table.{Table}
-use Rattle.i2c_spec.specs.Chips.{ChipView}
-use Rattle.i2c_spec.specs.Targets.{IsQuiet}
-use Rattle.i2c_spec.specs.World.{feed, given, answers, answer_with, has_heard, start_event, stop_event}
-use Rattle.i2c_physics.specs.Heard.{numbers_of}
-use Rattle.i2c_physics.specs.Places.{PlaceView, event_if}
-use Rattle.i2c_physics.specs.Reach.{is_among, AreRising, to_those, joins_at, has_at, addressed, others, union_of, IsReach}
 use Rattle.i2c_physics.proofs.NumberLemmas.{rising-filter, rising-of_range, rising-lower, among-filter, among-range}
 use Rattle.i2c_physics.proofs.WiredAndLemmas.{length-feed}
 use Rattle.std.proofs.Math.Bool.{or-true}
-use Rattle.std.proofs.lemmas.Bool.{or_parts}
-use Rattle.std.proofs.lemmas.Option.{same_Some}
 
 true_false : true ≡ false → ⊥
 true_false e = cc

@@ -1,22 +1,17 @@
 -- The devices that a rig keeps are those that the worlds leave. The induction goes over the devices, the first being
 -- number k.
-use Rattle.std.proofs.Common.{◌≡◌, ℕ, suc, ◌+◌, ◌<◌, Bool, true, false, List, [], ◌∷◌, ◌++◌, length, map, get_or, Option, Some, None, refl, sym, ◌∙◌, ap, arith, inl, inr, add-zero, zero-add, append_assoc}
-use Rattle.std.specs.Prelude.{All, IsSome, if◌then◌else◌, slice_get, slice_index, unwrap_or, option_to_list}
-use Rattle.std.specs.Option.{option_map_or}
-use Rattle.std.specs.List.{range_with_len}
-use Rattle.std.proofs.lemmas.List.{length-map, map-append, length-append, get_or-map}
-use Rattle.std.proofs.lemmas.List.Elements.{All-head, All-tail, All-get_or}
-use Rattle.std.proofs.lemmas.List.FromFn.{length-range_with_len, get_or-range_with_len}
-use Rattle.std.proofs.lemmas.Option.{slice_get_cases}
-use Rattle.i2c_base.specs.Board.{BoardView, DeviceView}
-use Rattle.i2c_spec.specs.Plain.{IsPlainBoard}
-use Rattle.i2c_spec.specs.Tree.{buses, of_device, root_of}
-use Rattle.i2c_spec.specs.Targets.{TargetState, Silent}
-use Rattle.i2c_spec.specs.World.{World, AreWorldsOf, device_in, devices_of}
+use Rattle.i2c_physics.proofs.Cited.{◌≡◌, ℕ, suc, ◌+◌, ◌<◌, Bool, true, false, List, [], ◌∷◌, ◌++◌, length, map, get_or, Option, Some, None}
+use Rattle.i2c_physics.proofs.Cited.{refl, sym, ◌∙◌, ap, arith, inl, inr, add-zero, zero-add, append_assoc, All, IsSome, if◌then◌else◌}
+use Rattle.i2c_physics.proofs.Cited.{slice_get, unwrap_or, option_to_list, option_map_or, range_with_len, length-map, map-append}
+use Rattle.i2c_physics.proofs.Cited.{length-append, get_or-map, All-head, All-tail, length-range_with_len, slice_get_cases, BoardView}
+use Rattle.i2c_physics.proofs.Cited.{DeviceView, IsPlainBoard, root_of, TargetState, Silent, World, AreWorldsOf, devices_of, is_own, owns}
+use Rattle.i2c_physics.proofs.Cited.{device_of, state_at, states_from, IsThere, eq_self}
+use Rattle.std.specs.Prelude.{slice_index}
+use Rattle.std.proofs.lemmas.List.Elements.{All-get_or}
+use Rattle.std.proofs.lemmas.List.FromFn.{get_or-range_with_len}
+use Rattle.i2c_spec.specs.Tree.{buses, of_device}
+use Rattle.i2c_spec.specs.World.{device_in}
 use Rattle.i2c_spec.proofs.TreeLemmas.{tree_root_is}
-use Rattle.bus_lines.specs.Owned.{is_own, owns}
-use Rattle.i2c_physics.specs.SimRigs.{device_of, state_at, states_from, IsThere}
-use Rattle.wire_spec.proofs.WorldLemmas.{eq_self}
 
 -- these devices are those of the board from number k on
 abbrev AreFrom : BoardView → ℕ → List DeviceView → Type 0

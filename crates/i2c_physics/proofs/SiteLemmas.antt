@@ -1,17 +1,12 @@
 -- What an index by address has at an address, and what one number more makes of it. The inductions go over the addresses.
-use Rattle.std.proofs.Common.{◌≡◌, ◌≢◌, ℕ, zero, suc, ◌+◌, ◌<◌, ◌≤◌, Bool, true, false, cond, List, [], ◌∷◌, ◌++◌, length, map, get_or, set, Some, None, append-nil, refl, sym, ap, ◌∙◌, arith, add-zero, zero-add}
-use Rattle.std.specs.List.{range_with_len}
-use Rattle.std.specs.Option.{option_map_or}
-use Rattle.std.proofs.lemmas.Bool.{ne_eqb}
-use Rattle.std.proofs.lemmas.List.{length-map, get_or-map, map-set}
-use Rattle.std.proofs.lemmas.List.FromFn.{length-range_with_len, get_or-map-range_with_len}
-use Rattle.std.proofs.lemmas.Option.{slice_get-get_or}
-use Rattle.i2c_spec.specs.Grant.{has_address}
-use Rattle.i2c_physics.specs.Places.{PlaceView}
-use Rattle.i2c_physics.specs.Reach.{has_at}
-use Rattle.i2c_physics.specs.Sites.{numbers_at, numbers_below, IsIndex}
+use Rattle.i2c_physics.proofs.Cited.{◌≡◌, ◌≢◌, ℕ, zero, suc, ◌+◌, ◌<◌, ◌≤◌, Bool, true, false, cond, List, [], ◌∷◌, ◌++◌, length, map}
+use Rattle.i2c_physics.proofs.Cited.{get_or, set, Some, None, append-nil, refl, sym, ap, ◌∙◌, arith, add-zero, zero-add, range_with_len}
+use Rattle.i2c_physics.proofs.Cited.{option_map_or, ne_eqb, length-map, get_or-map, length-range_with_len, slice_get-get_or, has_address}
+use Rattle.i2c_physics.proofs.Cited.{PlaceView, has_at, numbers_at, numbers_below, eq_self}
+use Rattle.std.proofs.lemmas.List.{map-set}
+use Rattle.std.proofs.lemmas.List.FromFn.{get_or-map-range_with_len}
+use Rattle.i2c_physics.specs.Sites.{IsIndex}
 use Rattle.i2c_physics.proofs.NumberLemmas.{filter_more, rising-length, rising-of_range}
-use Rattle.wire_spec.proofs.WorldLemmas.{eq_self}
 
 pub length-at : (places : List PlaceView) (a : ℕ) → length (numbers_at places a) ≤ length places
 length-at places a = omega (

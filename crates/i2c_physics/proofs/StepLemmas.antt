@@ -1,10 +1,9 @@
 -- One element more of a list that is gone through, and what stands at a place of a list.
-use Rattle.std.proofs.Common.{◌≡◌, ℕ, ◌+◌, ◌<◌, ◌++◌, List, [], ◌∷◌, length, take, get_or, Bool, true, false, cond, Option, Some, None, Bor, append-nil, sym, ◌∙◌, ap}
-use Rattle.std.specs.List.{filter, slice_get}
-use Rattle.std.specs.Option.{option_map_or}
+use Rattle.i2c_physics.proofs.Cited.{◌≡◌, ℕ, ◌+◌, ◌<◌, ◌++◌, List, [], ◌∷◌, length, take, get_or, Bool, true, false, cond, Option, Some}
+use Rattle.i2c_physics.proofs.Cited.{None, append-nil, sym, ◌∙◌, ap, filter, option_map_or, filter_more, slice_get-get_or, slice_get_past}
+use Rattle.std.proofs.Common.{Bor}
+use Rattle.std.specs.List.{slice_get}
 use Rattle.std.specs.Slice.{IsItemAt}
-use Rattle.std.proofs.lemmas.List.Elements.{filter_more}
-use Rattle.std.proofs.lemmas.Option.{slice_get-get_or, slice_get_past}
 
 -- the elements that pass a test, where one more is kept, and where it is left out
 pub kept-more

@@ -1,11 +1,8 @@
 -- Worlds of which a device was taken out: each other device is as it was. The inductions go over the worlds.
-use Rattle.std.proofs.Common.{◌≡◌, ℕ, zero, suc, ◌+◌, ◌<◌, ◌≤◌, Bool, true, false, List, [], ◌∷◌, ◌++◌, length, map, drop, set, get_or, append_assoc, Option, Some, None, refl, sym, ◌∙◌, ap, subst, arith}
-use Rattle.std.specs.Prelude.{IsSome, if◌then◌else◌, slice_get, option_to_list, unwrap_or}
-use Rattle.i2c_spec.specs.Targets.{TargetState, Silent}
-use Rattle.i2c_spec.specs.World.{World}
-use Rattle.bus_lines.specs.Owned.{own_device, owns, without}
-use Rattle.i2c_physics.specs.SimRigs.{state_at, states_from, taken_out, IsThere}
-use Rattle.i2c_physics.specs.SimWorlds.{seen_on}
+use Rattle.i2c_physics.proofs.Cited.{◌≡◌, ℕ, zero, suc, ◌+◌, ◌<◌, ◌≤◌, Bool, true, false, List, [], ◌∷◌, ◌++◌, length, map, drop, set}
+use Rattle.i2c_physics.proofs.Cited.{get_or, append_assoc, Option, Some, None, refl, sym, ◌∙◌, ap, subst, arith, IsSome, if◌then◌else◌}
+use Rattle.i2c_physics.proofs.Cited.{slice_get, option_to_list, unwrap_or, TargetState, Silent, World, own_device, owns, without, state_at}
+use Rattle.i2c_physics.proofs.Cited.{states_from, taken_out, IsThere, seen_on}
 use Rattle.i2c_physics.proofs.OwnLemmas.{seen-get, seen-set}
 use Rattle.i2c_base.proofs.ListLemmas.{set_elsewhere}
 

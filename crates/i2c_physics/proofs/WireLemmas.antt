@@ -1,18 +1,11 @@
 -- The ports of the rig of two wires, as they are opened, and as they are taken apart.
-use Rattle.std.proofs.Common.{◌≡◌, ℕ, ◌+◌, ◌<◌, ◌≤◌, List, [], ◌∷◌, ◌++◌, length, map, append_assoc, refl, sym, ap, ◌∙◌, arith}
-use Rattle.std.specs.Prelude.{All, min, sum_by}
-use Rattle.std.specs.List.{range_with_len}
-use Rattle.std.proofs.lemmas.List.{length-map, map-append, get_or-map}
-use Rattle.std.proofs.lemmas.List.Elements.{All-head, All-tail}
+use Rattle.i2c_physics.proofs.Cited.{◌≡◌, ℕ, ◌+◌, ◌<◌, ◌≤◌, List, [], ◌∷◌, ◌++◌, length, map, append_assoc, refl, sym, ap, ◌∙◌, arith, All}
+use Rattle.i2c_physics.proofs.Cited.{range_with_len, length-map, map-append, get_or-map, All-head, All-tail, splat_is_map, BoardView}
+use Rattle.i2c_physics.proofs.Cited.{AreWorldsOf, openings, BitPortView, PortView, wired, opening_wired, parted, edges_of, none_of}
+use Rattle.std.specs.Prelude.{min, sum_by}
 use Rattle.std.proofs.lemmas.List.Sums.{sum_by-append}
-use Rattle.std.proofs.lemmas.Simd.{splat_is_map}
-use Rattle.i2c_base.specs.Board.{BoardView}
-use Rattle.i2c_spec.specs.World.{AreWorldsOf, openings}
 use Rattle.ports.specs.Causes.{MOST}
-use Rattle.i2c_bits.specs.PortViews.{BitPortView}
-use Rattle.i2c_physics.specs.SimPorts.{PortView}
-use Rattle.i2c_physics.specs.BitRigs.{WiredView, wired, opening_wired, parted, edges_of}
-use Rattle.i2c_physics.specs.SimRigs.{none_of}
+use Rattle.i2c_physics.specs.BitRigs.{WiredView}
 use Rattle.i2c_physics.proofs.PlugLemmas.{opened-count, opened-all, opened-worlds}
 use Rattle.i2c_physics.proofs.RigLemmas.{count_of_worlds}
 
@@ -38,12 +31,14 @@ module _ (b : BoardView) (ps : List BitPortView) (are : map wired ps ≡ map (op
 pub one_more_edge : (ps : List BitPortView) (p : BitPortView) (sum more new : ℕ) → sum ≡ edges_of ps → more ≡ min p.counts.edges MOST
     → new ≡ min (sum + more) MOST → new ≡ edges_of (ps ++ p ∷ [])
 one_more_edge ps p sum more new was one is =
-    let all : sum_by (λ (q : BitPortView). q.counts.edges) (ps ++ p ∷ []) ≡ sum_by (λ (q : BitPortView). q.counts.edges) ps + (0 + p.counts.edges) =
+    let all : sum_by (λ (q : BitPortView). q.counts.edges) (ps ++ p ∷ []) ≡ sum_by (λ (q : BitPortView). q.counts.edges) ps
+    + (0 + p.counts.edges) =
     sum_by-append (λ (q : BitPortView). q.counts.edges) ps (p ∷ []) in
     omega (arith, was, one, is, all)
 
 -- where none of these ports has counted a fault, their counts are all 0
-no_fault : (ps : List BitPortView) → All (λ (p : BitPortView). p.faults ≡ 0) ps → map (λ (p : BitPortView). 0) ps ≡ map (λ (p : BitPortView). p.faults) ps
+no_fault : (ps : List BitPortView) → All (λ (p : BitPortView). p.faults ≡ 0) ps → map (λ (p : BitPortView). 0) ps ≡ map
+    (λ (p : BitPortView). p.faults) ps
 no_fault [] none = refl
 no_fault (p ∷ ps) none =
     let head = All-head (λ (q : BitPortView). q.faults ≡ 0) p ps none in
@@ -65,5 +60,6 @@ one_more_parted old now new ps p was more =
 pub parted_worlds : (ps : List BitPortView) → map (λ p. p.world) (map parted ps) ≡ map (λ (p : BitPortView). p.world) ps
 parted_worlds ps = map_both parted (λ p. p.world) (λ p. p.world) (λ p. refl) ps
 
-pub room_enough : (b : BoardView) (ps : List BitPortView) → AreWorldsOf b (map (λ (p : BitPortView). p.world) ps) → length ps ≤ length b.roots
+pub room_enough : (b : BoardView) (ps : List BitPortView) → AreWorldsOf b (map (λ (p : BitPortView). p.world) ps)
+    → length ps ≤ length b.roots
 room_enough b ps of = omega (arith, length-map ps (λ (p : BitPortView). p.world), count_of_worlds b (map (λ p. p.world) ps) of)

@@ -1,19 +1,12 @@
 -- Targets that are told of an event by their numbers, the highest number first: one target more.
-use Rattle.std.proofs.Common.{◌≡◌, ◌≢◌, ℕ, zero, suc, ◌+◌, ◌<◌, ◌≤◌, true, false, List, [], ◌∷◌, ◌++◌, length, map, drop, get_or, set, Option, Some, None, refl, sym, ap, ◌∙◌, subst, arith, add-zero, zero-add}
-use Rattle.std.specs.Prelude.{◌==◌}
-use Rattle.std.specs.List.{range_with_len}
-use Rattle.std.proofs.lemmas.Bool.{ne_eqb}
+use Rattle.i2c_physics.proofs.Cited.{◌≡◌, ◌≢◌, ℕ, zero, suc, ◌+◌, ◌<◌, ◌≤◌, true, false, List, [], ◌∷◌, ◌++◌, length, map, drop, get_or}
+use Rattle.i2c_physics.proofs.Cited.{set, Option, Some, None, refl, sym, ap, ◌∙◌, subst, arith, add-zero, zero-add, ◌==◌, range_with_len}
+use Rattle.i2c_physics.proofs.Cited.{ne_eqb, Event, Answer, Table, feed, given, answers, answer_with, feed-same, AreRising, to_those}
+use Rattle.i2c_physics.proofs.Cited.{eq_self}
 use Rattle.std.proofs.lemmas.List.{at_drop_more}
 use Rattle.std.proofs.Math.Seq.{drop-length}
 use Rattle.std.proofs.lemmas.List.FromFn.{map-range_with_len_more}
-use Rattle.i2c_base.specs.declared.event.Event.{Event}
-use Rattle.i2c_base.specs.declared.event.Answer.{Answer}
-use Rattle.i2c_base.specs.Table.{Table}
-use Rattle.i2c_spec.specs.World.{feed, given, answers, answer_with}
-use Rattle.i2c_spec.proofs.FeedLemmas.{feed-same}
-use Rattle.i2c_physics.specs.Reach.{AreRising, to_those}
 use Rattle.i2c_physics.proofs.NumberLemmas.{rising-apart, rising-drop}
-use Rattle.wire_spec.proofs.WorldLemmas.{eq_self}
 
 -- one number more
 pub listed_more : {X : Type 0} (f : ℕ → X) (n : ℕ) → map f (range_with_len 0 (n + 1)) ≡ map f (range_with_len 0 n) ++ f n ∷ []

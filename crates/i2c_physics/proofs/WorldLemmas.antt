@@ -1,22 +1,17 @@
 -- What chips and devices answer together is what the world answers. The inductions go over the answers.
-use Rattle.std.proofs.Common.{◌≡◌, ℕ, ◌+◌, ◌<◌, Bool, true, false, cond, ◌||◌, ◌==◌, List, [], ◌∷◌, ◌++◌, Some, None, bit_and, refl, sym, ap, ◌∙◌}
+use Rattle.i2c_physics.proofs.Cited.{◌≡◌, ℕ, ◌+◌, ◌<◌, Bool, true, false, cond, ◌||◌, List, [], ◌∷◌, ◌++◌, Some, None, bit_and, refl, sym}
+use Rattle.i2c_physics.proofs.Cited.{ap, ◌∙◌, Node, Event, Answer, Table, ChipView, chip_table, TargetState, state_table, World, answers}
+use Rattle.i2c_physics.proofs.Cited.{answer_with, has_heard, hearers, start_chips, start_devices, to_chips, to_devices, numbers_of}
+use Rattle.i2c_physics.proofs.Cited.{nodes_of, event_if, is_among, to_those, chips_say, devices_say}
+use Rattle.std.proofs.Common.{◌==◌}
 use Rattle.std.specs.Prelude.{map}
 use Rattle.std.specs.List.{list_any}
 use Rattle.std.proofs.lemmas.Nat.{and_assoc}
-use Rattle.i2c_base.specs.declared.ids.Node.{Node}
 use Rattle.i2c_base.specs.declared.ids.Node.TheVariants as node
-use Rattle.i2c_base.specs.declared.event.Event.{Event}
 use Rattle.i2c_base.specs.declared.event.Event.TheVariants as event
-use Rattle.i2c_base.specs.declared.event.Answer.{Answer}
-use Rattle.i2c_base.specs.Table.{Table, byte_of}
-use Rattle.i2c_spec.specs.Chips.{ChipView, chip_table}
-use Rattle.i2c_spec.specs.Targets.{TargetState, state_table}
-use Rattle.i2c_spec.specs.World.{World, answers, answer_with, has_heard, heard_of, hearers, start_chips, start_devices, and_of, gives, to_chips, to_devices, is_chip, is_device}
+use Rattle.i2c_base.specs.Table.{byte_of}
+use Rattle.i2c_spec.specs.World.{heard_of, and_of, gives, is_chip, is_device}
 use Rattle.i2c_spec.proofs.StateLemmas.{gives-same}
-use Rattle.i2c_physics.specs.Heard.{numbers_of, nodes_of}
-use Rattle.i2c_physics.specs.Places.{event_if}
-use Rattle.i2c_physics.specs.Reach.{is_among, to_those}
-use Rattle.i2c_physics.specs.Answering.{chips_say, devices_say}
 use Rattle.wire_spec.proofs.WorldLemmas.{all_ones}
 
 -- those who have heard, by name and by number

@@ -1,6 +1,7 @@
 -- An address stands on no two targets of which one's bus lies on the other's path: the rule over pairs of items
 -- says so of numbers, and each target is one of the items. The one induction goes over the hops of a bus.
-use Rattle.std.proofs.Common.{◌≡◌, ℕ, zero, suc, ◌+◌, ◌-◌, ◌<◌, inl, inr, ◌==◌, nat_lt, Bool, true, false, not, ◌&&◌, ◌||◌, List, [], ◌∷◌, length, Option, Some, None, option_map, slice_get, refl, sym, ap, ◌∙◌, arith, rules}
+use Rattle.std.proofs.Common.{◌≡◌, ℕ, zero, suc, ◌+◌, ◌-◌, ◌<◌, inl, inr, ◌==◌, nat_lt, Bool, true, false, not, ◌&&◌, ◌||◌, List, [], ◌∷◌}
+use Rattle.std.proofs.Common.{length, Option, Some, None, option_map, slice_get, refl, sym, ap, ◌∙◌, arith, rules}
 use Rattle.std.specs.List.{list_any}
 use Rattle.std.specs.Option.{unwrap_or}
 use Rattle.std.proofs.lemmas.Bool.{cases_order, eq-eqb, false≢true}
@@ -11,12 +12,15 @@ use Rattle.i2c_base.specs.declared.board.MuxSpec.{MuxSpec}
 use Rattle.i2c_base.specs.declared.board.MuxKind.TheVariants.{Pca9548}
 use Rattle.i2c_base.specs.Muxes.{facts_of}
 use Rattle.i2c_base.specs.Board.{BoardView}
-use Rattle.i2c_spec.specs.Tree.{Hop, hops, root_of, crosses_mux, of_mux, is_below, is_on_path, is_along, is_left_open, is_staying, Crosses, IsOver, IsAlong}
-use Rattle.i2c_spec.specs.Rules.{items, home_at, addr_at, clashes, some_below, is_shared, stands_outside, may_stay, breaks_idle, NoPair, NoneOf, MeetsRules}
+use Rattle.i2c_spec.specs.Tree.{Hop, hops, root_of, crosses_mux, of_mux, is_below, is_on_path, is_along, is_left_open, is_staying, Crosses}
+use Rattle.i2c_spec.specs.Tree.{IsOver, IsAlong}
+use Rattle.i2c_spec.specs.Rules.{items, home_at, addr_at, clashes, some_below, is_shared, stands_outside, may_stay, breaks_idle, NoPair}
+use Rattle.i2c_spec.specs.Rules.{NoneOf, MeetsRules}
 use Rattle.i2c_spec.specs.TreeFacts.{home_of, addr_of, IsTree}
 use Rattle.i2c_spec.specs.Plain.{IsPlainBoard}
 use Rattle.i2c_spec.proofs.IdleLemmas.{one_below, asking_broken}
-use Rattle.i2c_spec.proofs.TreeLemmas.{tree_leads, tree_tail, tree_apart, tree_hop, tree_within, tree_channel, tree_root_over, tree_root_is, tree_root_same, tree_root_hops}
+use Rattle.i2c_spec.proofs.TreeLemmas.{tree_leads, tree_tail, tree_apart, tree_hop, tree_within, tree_channel, tree_root_over, tree_root_is}
+use Rattle.i2c_spec.proofs.TreeLemmas.{tree_root_same, tree_root_hops}
 use Rattle.std.proofs.Math.Bool.{or-true}
 
 -- what is said of buses, as the tests of the rules have it

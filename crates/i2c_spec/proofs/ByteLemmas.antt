@@ -1,6 +1,7 @@
 -- Lists of bytes: what is read from them, written into them or put together of them are bytes again. The inductions go over
 -- the lists, and over what a board writes into a memory.
-use Rattle.std.proofs.Common.{ℕ, zero, suc, ◌+◌, Bool, true, false, if◌then◌else◌, List, [], ◌∷◌, ◌++◌, length, take, drop, replicate, set, get_or, arith}
+use Rattle.std.proofs.Common.{ℕ, zero, suc, ◌+◌, Bool, true, false, if◌then◌else◌, List, [], ◌∷◌, ◌++◌, length, take, drop, replicate, set}
+use Rattle.std.proofs.Common.{get_or, arith}
 use Rattle.std.specs.List.{AllByRecursion}
 use Rattle.i2c_base.specs.Board.{RunView}
 use Rattle.i2c_base.specs.Bytes.{IsByte}

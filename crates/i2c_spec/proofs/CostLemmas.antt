@@ -1,7 +1,8 @@
 -- What a job costs at the end of few hops fits in a number: an induction over the hops, each at most twelve times what is
 -- below it. A job's own steps are added to that as they are. And an accepted board has few hops over a bus: the depth is
 -- that of the bus that the nearest of them stands on, and one more.
-use Rattle.std.proofs.Common.{◌≡◌, ℕ, zero, suc, ◌+◌, ◌*◌, ◌^◌, ◌<◌, ◌≤◌, nat_le, nat_lt, Bool, true, false, cond, List, [], ◌∷◌, length, refl, sym, ◌∙◌, ap, subst, arith, rules, inl}
+use Rattle.std.proofs.Common.{◌≡◌, ℕ, zero, suc, ◌+◌, ◌*◌, ◌^◌, ◌<◌, ◌≤◌, nat_le, nat_lt, Bool, true, false, cond, List, [], ◌∷◌, length}
+use Rattle.std.proofs.Common.{refl, sym, ◌∙◌, ap, subst, arith, rules, inl}
 use Rattle.std.proofs.lemmas.Bool.Decides.{nat_tests}
 use Rattle.std.specs.Prelude.{All, sum_by, get_or}
 use Rattle.std.proofs.lemmas.List.Sums.{sum_by-le}

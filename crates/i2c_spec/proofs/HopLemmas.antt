@@ -1,6 +1,7 @@
 -- The hops over a bus, found by going over the muxes from the last one of the board back: a mux is crossed where
 -- its channels begin at or before the bus, and passed where they begin after it.
-use Rattle.std.proofs.Common.{◌≡◌, ℕ, suc, slice_get, Some, ◌+◌, ◌-◌, ◌<◌, ◌≤◌, nat_le, true, false, cond, List, [], ◌∷◌, ◌++◌, length, reverse, take, get_or, sym, ap, ◌∙◌, arith, rules}
+use Rattle.std.proofs.Common.{◌≡◌, ℕ, suc, slice_get, Some, ◌+◌, ◌-◌, ◌<◌, ◌≤◌, nat_le, true, false, cond, List, [], ◌∷◌, ◌++◌, length}
+use Rattle.std.proofs.Common.{reverse, take, get_or, sym, ap, ◌∙◌, arith, rules}
 use Rattle.std.specs.List.{All}
 use Rattle.std.proofs.lemmas.List.{take_more, reverse-append, length-reverse}
 use Rattle.std.proofs.lemmas.List.Sums.{sum_by-cons, sum_by_push}

@@ -19,7 +19,29 @@ use Rattle.i2c_base.specs.declared.event.Answer.TheVariants as answer
 use Rattle.i2c_spec.specs.Plain.{IsPlainRun, IsPlainDevice}
 use Rattle.i2c_spec.specs.Targets.RegsDevice.{is_too_long}
 use Rattle.i2c_base.specs.Table.{byte_of}
-use Rattle.i2c_spec.specs.Targets.{TargetState, Eeprom, Lm75, Regs, Smbus, Silent, state_table, state_after, state_answer, state_sends, state_hold, IsQuiet, IsAckOrNack, IsStartAnswer, IsFairTable, HoldsBytes, IsByteEvent, KeepsBytes, FitsKind, row_of_kind, opening_state}
+use Rattle.i2c_spec.specs.Targets.{
+  TargetState,
+  Eeprom,
+  Lm75,
+  Regs,
+  Smbus,
+  Silent,
+  state_table,
+  state_after,
+  state_answer,
+  state_sends,
+  state_hold,
+  IsQuiet,
+  IsAckOrNack,
+  IsStartAnswer,
+  IsFairTable,
+  HoldsBytes,
+  IsByteEvent,
+  KeepsBytes,
+  FitsKind,
+  row_of_kind,
+  opening_state,
+}
 use Rattle.i2c_spec.proofs.ByteLemmas.{RunsHoldBytes}
 use Rattle.i2c_spec.proofs.StateLemmas.EepromLemmas.{eeprom_fair, eeprom_keep_bytes, eeprom_opening-quiet, eeprom_opening-bytes}
 use Rattle.i2c_spec.proofs.StateLemmas.Lm75Lemmas.{lm75_fair, lm75_keep_bytes, lm75_opening-bytes}

@@ -1,6 +1,7 @@
 -- The hops over a bus are a way up a tree. The inductions go over the muxes from the last one of the board back,
 -- each in two cases: the mux is crossed, or passed.
-use Rattle.std.proofs.Common.{◌≡◌, ◌==◌, ◌||◌, Bool, false, ℕ, zero, suc, ◌+◌, ◌<◌, ◌≤◌, ◌⊎◌, inl, inr, List, [], ◌∷◌, ◌++◌, length, reverse, take, Some, slice_get, refl, sym, ap, ◌∙◌, subst, arith}
+use Rattle.std.proofs.Common.{◌≡◌, ◌==◌, ◌||◌, Bool, false, ℕ, zero, suc, ◌+◌, ◌<◌, ◌≤◌, ◌⊎◌, inl, inr, List, [], ◌∷◌, ◌++◌, length}
+use Rattle.std.proofs.Common.{reverse, take, Some, slice_get, refl, sym, ap, ◌∙◌, subst, arith}
 use Rattle.std.proofs.lemmas.List.{reverse-append, length-reverse, reverse-reverse, take-append-le, take_all}
 use Rattle.std.specs.List.{list_any}
 use Rattle.std.proofs.lemmas.Bool.{cases_lt}
@@ -9,7 +10,8 @@ use Rattle.std.proofs.lemmas.Option.{slice_get_within, same_Some}
 use Rattle.i2c_base.specs.declared.board.MuxKind.{MuxKind}
 use Rattle.i2c_base.specs.declared.board.MuxSpec.{MuxSpec}
 use Rattle.i2c_base.specs.Board.{BoardView}
-use Rattle.i2c_spec.specs.Tree.{of_mux, Hop, hops, buses, buses_of, hop_at, hops_of, end_of, root_of, is_parent, is_staying, Crosses, IsAmongHops, IsApart, IsOver, is_below}
+use Rattle.i2c_spec.specs.Tree.{of_mux, Hop, hops, buses, buses_of, hop_at, hops_of, end_of, root_of, is_parent, is_staying, Crosses}
+use Rattle.i2c_spec.specs.Tree.{IsAmongHops, IsApart, IsOver, is_below}
 use Rattle.i2c_spec.specs.Plain.{IsPlanted}
 use Rattle.i2c_spec.specs.TreeFacts.{IsHop}
 use Rattle.i2c_spec.proofs.HopLemmas.{buses_of-cons, buses_of-reverse, hops_of-cross, hops_of-pass}

@@ -16,9 +16,7 @@ mod smbus_rows;
 mod target_rows;
 
 pub use device_memory::{eeprom_bytes, eeprom_page, is_wide, write_runs};
-pub use fair_targets::{
-    chips_are_fair, devices_hold_bytes, openings_are_quiet, states_are_fair,
-};
+pub use fair_targets::{chips_are_fair, devices_hold_bytes, openings_are_quiet, states_are_fair};
 pub use flat_world::errno_of;
 pub use laws::an_accepted_board_is_a_tree;
 pub use smbus_row::{CallRow, ReadShape, ValueShape};

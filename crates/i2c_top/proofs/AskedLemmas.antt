@@ -1,5 +1,5 @@
 -- What the words ask for, by the tests of the forms.
-use Rattle.std.proofs.Common.{◌≡◌, ℕ, Bool, true, false, if◌then◌else◌, List, Some, refl}
+use Rattle.i2c_top.proofs.Cited.{◌≡◌, ℕ, Bool, true, false, if◌then◌else◌, List, Some, refl}
 use Rattle.i2c_top.specs.forms.{request_in, Verify}
 use Rattle.i2c_top.specs.forms.Checks.{is_check}
 use Rattle.i2c_top.specs.forms.Replays.{is_replay, is_run}
@@ -15,7 +15,8 @@ fourth false true r s first second third fourth_one rest a b c d = cc
 fourth true q r s first second third fourth_one rest a b c d = cc
 
 -- words of the form `verify` ask for it
-pub verify_asked : (words : List (List ℕ)) → is_replay words ≡ false → is_run words ≡ false → is_check words ≡ false → is_verify words ≡ true
+pub verify_asked : (words : List (List ℕ)) → is_replay words ≡ false → is_run words ≡ false → is_check words ≡ false
+    → is_verify words ≡ true
     → request_in words ≡ Some (Verify (verify_names words))
 verify_asked words a b c d =
     fourth (is_replay words) (is_run words) (is_check words) (is_verify words) _ _ _ (Some (Verify (verify_names words))) _

@@ -1,22 +1,14 @@
 -- The files of a call of `atr` decide one status: of two that they are a cause of, both are the same. No induction.
-use Rattle.std.proofs.Common.{◌≡◌, ℕ, ◌⊎◌, inl, inr, List, length, Result, Ok, Err, refl, sym, ◌∙◌, ap, subst}
-use Rattle.i2c_base.specs.Board.{BoardView}
+use Rattle.i2c_top.proofs.Cited.{◌≡◌, ℕ, ◌⊎◌, inl, inr, List, length, Result, Ok, Err, refl, sym, ◌∙◌, ap, subst, BoardView, broken_breaks}
+use Rattle.i2c_top.proofs.Cited.{one_broken, MeetsRules, TellsBroken, lowered, MapView, IsMapOf, MapFault, HasAccepted, Files, DecidesOnce}
+use Rattle.i2c_top.proofs.Cited.{HasBadMap, MOST_COST, HasBadSchedule, HasScripts, AtrNames, HasMapped, HasAtrTexts, HasAtrFiles, as_run}
+use Rattle.i2c_top.proofs.Cited.{atr_form, Status}
 use Rattle.i2c_base.specs.declared.rules.RuleBroken.{RuleBroken}
-use Rattle.i2c_board.proofs.BrokenLemmas.{broken_breaks, one_broken}
-use Rattle.i2c_spec.specs.Rules.{MeetsRules, TellsBroken}
-use Rattle.addr_atr.specs.Lowering.{lowered}
-use Rattle.addr_atr.specs.Maps.{TranslatorView, MapView}
-use Rattle.addr_atr.specs.MapTexts.{translators_of, Fails, IsMapOf}
-use Rattle.addr_atr.specs.declared.fault.MapFault.{MapFault}
+use Rattle.addr_atr.specs.Maps.{TranslatorView}
+use Rattle.addr_atr.specs.MapTexts.{translators_of, Fails}
 use Rattle.addr_atr.specs.declared.fault.MapFault.TheVariants as fault
-use Rattle.i2c_top.specs.Boards.{HasAccepted}
-use Rattle.i2c_top.specs.Files.{Files}
-use Rattle.i2c_top.specs.Form.{DecidesOnce}
-use Rattle.i2c_top.specs.MapFiles.{HasMap, HasBadMap}
-use Rattle.i2c_top.specs.Runs.{MOST_COST}
-use Rattle.i2c_top.specs.Scripts.{HasBadSchedule, HasScripts}
-use Rattle.i2c_top.specs.forms.Atrs.{AtrNames, HasMapped, HasAtrTexts, HasAtrFiles, HasDearAtr, IsAtrCause, as_run, atr_cost, atr_form}
-use Rattle.i2c_top.specs.declared.status.Status.{Status}
+use Rattle.i2c_top.specs.MapFiles.{HasMap}
+use Rattle.i2c_top.specs.forms.Atrs.{HasDearAtr, IsAtrCause, atr_cost}
 use Rattle.i2c_top.specs.declared.status.Status.TheVariants as status
 use Rattle.i2c_top.proofs.BoardLemmas.{no_board, one_why, one_board_in, one_text}
 use Rattle.i2c_top.proofs.ReplayCauses.{DecideBoard, DecideScript, agree_script, all_earlier, no_schedule, not_dear, one_word}
@@ -162,7 +154,8 @@ one_cost file names a b = ap (atr_cost file names) (one_board_in file names.boar
 
 cheap_dear : (file : Files) (names : AtrNames) (cost : ℕ) → HasAtrFiles file names → HasDearAtr file names cost → ⊥
 cheap_dear file names cost a d =
-    not_dear MOST_COST (atr_cost file names a.texts.files.board.board) cost a.cheap d.dear (one_cost file names a.texts d.texts ∙ sym d.same)
+    not_dear MOST_COST (atr_cost file names a.texts.files.board.board) cost a.cheap d.dear (one_cost file names a.texts d.texts
+    ∙ sym d.same)
 
 agree_texts : (file : Files) (names : AtrNames) (s r : Status) → DecideTexts file names s → DecideTexts file names r → r ≡ s
 agree_texts file names s r (inl a) (inl b) = b.0 ∙ sym a.0

@@ -1,27 +1,14 @@
 -- How a call of `atr` ends: what each refusal of its files comes from, and what a run of them comes to. No induction.
-use Rattle.std.proofs.Common.{◌≡◌, ℕ, ◌+◌, ◌<◌, ◌≤◌, ◌⊎◌, inl, inr, Bool, IsTrue, false, List, length, Some, Result, Ok, Err, refl, sym, ◌∙◌, ap, subst, arith}
-use Rattle.std.specs.Prelude.{IfOk, OnOk, IfErr}
-use Rattle.std.proofs.lemmas.List.{take_all}
-use Rattle.caller_core.specs.View.{CallerView}
-use Rattle.i2c_base.specs.declared.port.PortCall.{PortCall}
-use Rattle.i2c_base.specs.Board.{BoardView}
-use Rattle.i2c_spec.specs.Targets.{TargetState}
-use Rattle.addr_atr.specs.Maps.{MapView}
-use Rattle.addr_atr.specs.MapTexts.{IsMapOf}
-use Rattle.addr_atr.specs.declared.fault.MapFault.{MapFault}
+use Rattle.i2c_top.proofs.Cited.{◌≡◌, ℕ, ◌+◌, ◌<◌, ◌≤◌, ◌⊎◌, inl, inr, Bool, IsTrue, false, List, length, Some, Result, Ok, Err, refl, sym}
+use Rattle.i2c_top.proofs.Cited.{◌∙◌, ap, subst, arith, IfOk, OnOk, IfErr, take_all, CallerView, PortCall, BoardView, TargetState, MapView}
+use Rattle.i2c_top.proofs.Cited.{IsMapOf, MapFault, Rose, counted, CameToRefusal, CameToSuccess, HasEndedAs, Files, TellsItsFiles}
+use Rattle.i2c_top.proofs.Cited.{KeepsShelf, HasBadMap, AreScriptsIn, HasReadSomeMap, IsAcceptedIn, IsRejectedIn, IsRefusedAt}
+use Rattle.i2c_top.proofs.Cited.{IsRefusedScript, IsScheduleIn, IsBadBoard, IsTooDear, MOST_COST, cost_of_texts, texts_of, script_name}
+use Rattle.i2c_top.proofs.Cited.{HasBadSchedule, HasBadScript, HasScripts, texts_in, ShelfView, RigView, Outside, KeepsBut, IsAtMostOnce}
+use Rattle.i2c_top.proofs.Cited.{AtrNames, HasAtrFiles, HasAtrRun, HasAtrTexts, HasMapped, as_run, atr_form, HasScriptsBefore, Status}
 use Rattle.addr_atr.specs.declared.fault.MapFault.TheVariants as fault
-use Rattle.ports.specs.Causes.{Rose, counted}
-use Rattle.i2c_top.specs.Endings.{CameToRefusal, CameToSuccess, HasEndedAs}
-use Rattle.i2c_top.specs.Files.{Files}
-use Rattle.i2c_top.specs.Form.{TellsItsFiles, KeepsShelf}
-use Rattle.i2c_top.specs.MapFiles.{HasBadMap}
-use Rattle.i2c_top.specs.Readings.{AreScriptsIn, HasReadMap, HasReadSomeMap, IsAcceptedIn, IsMapIn, IsRejectedIn, IsRefusedAt, IsRefusedScript, IsScheduleIn, IsBadBoard, IsBadMap, IsBadSchedule, IsTooDear}
-use Rattle.i2c_top.specs.Runs.{MOST_COST, cost_of_texts, texts_of}
-use Rattle.i2c_top.specs.Scripts.{script_name, HasBadSchedule, HasBadScript, HasScripts, texts_in}
-use Rattle.i2c_top.specs.Traces.{ShelfView, RigView, Outside, KeepsBut, IsAtMostOnce}
-use Rattle.i2c_top.specs.forms.Atrs.{AtrNames, HasAtrFiles, HasAtrReport, HasAtrRun, HasAtrTexts, HasMapped, HasTranslated, IsAtrAfter, IsAtrPlace, as_run, atr_form}
-use Rattle.i2c_top.specs.forms.Replays.{HasScriptsBefore}
-use Rattle.i2c_top.specs.declared.status.Status.{Status}
+use Rattle.i2c_top.specs.Readings.{HasReadMap, IsMapIn, IsBadMap, IsBadSchedule}
+use Rattle.i2c_top.specs.forms.Atrs.{HasAtrReport, HasTranslated, IsAtrAfter, IsAtrPlace}
 use Rattle.i2c_top.specs.declared.status.Status.TheVariants as status
 use Rattle.i2c_top.proofs.EndingLemmas.{came_to_success, memory_wanting, file_unread, run_refused, text_refused}
 use Rattle.i2c_top.proofs.FileLemmas.{kept_then, same_bad, same_scripts, same_texts}
@@ -37,7 +24,8 @@ after_first other a e =
     ]
 
 -- ---- a map of the text of a file
-pub map_there : (file : Files) (b : BoardView) (name text : List ℕ) (r : Result MapView Status) → file name ≡ Some text → IfOk r (IsMapOf b text)
+pub map_there : (file : Files) (b : BoardView) (name text : List ℕ) (r : Result MapView Status) → file name ≡ Some text
+    → IfOk r (IsMapOf b text)
     → IfOk r (IsMapIn file b name)
 map_there file b name text (Ok m) there is = record { has = record { text = text; there = there; map = m; is_map = is }; same = refl }
 map_there file b name text (Err e) there is = tt
@@ -65,7 +53,8 @@ same_words file file_now name callers words same is =
     }
 
 -- what was read after other files is what was there at first
-pub map_read : (first second third fourth : Files) (names : AtrNames) (tells : Bool) (b : BoardView) (scripts : List CallerView) (m : MapView)
+pub map_read : (first second third fourth : Files) (names : AtrNames) (tells : Bool) (b : BoardView) (scripts : List CallerView)
+    (m : MapView)
     (words : List ℕ) (callers : ℕ) → ((n : List ℕ) → second n ≡ first n) → ((n : List ℕ) → third n ≡ first n)
     → ((n : List ℕ) → fourth n ≡ first n) → IsTrue tells → IsAcceptedIn first names.board b → length scripts ≡ length names.scripts
     → AreScriptsIn tells second names.scripts b scripts → IsMapIn third b names.map m → callers ≡ length names.scripts
@@ -142,7 +131,8 @@ module _ (names : AtrNames) (shelf shelf_now : ShelfView) (rig : RigView) (kept 
             (when names shelf (λ t. inr (inl (record { caller = r.caller; at = refl; earlier = earlier t }))))
             (record {
               named = record { first = omega arith; last = (let low = r.known in omega (arith, low)) };
-              rose = subst (λ (k : ℕ). Rose k (shelf_now.faults (4 + r.caller))) (others (4 + r.caller) (λ e. absurd (omega (arith, e)))) h.1;
+              rose = subst (λ (k : ℕ). Rose k (shelf_now.faults (4 + r.caller))) (others (4 + r.caller)
+                  (λ e. absurd (omega (arith, e)))) h.1;
             }) rest kept)
         | inr (inl m) ↦ subst Refused (sym m) starved
         | inr (inr n) ↦ subst Refused (sym n.same)
@@ -213,7 +203,8 @@ module _ (names : AtrNames) (shelf shelf_now : ShelfView) (rig : RigView) (kept 
       → mid.faults 3 ≡ shelf.faults 3 → (IsTrue shelf.tells → IsAcceptedIn shelf.file names.board b)
       → (IsTrue shelf.tells → HasScripts shelf.file b names.scripts (length names.scripts))
       → (IsTrue shelf.tells → IsMapIn shelf.file b names.map m) → callers ≡ length names.scripts
-      → IsRefusedAt 3 (IsBadSchedule (λ word. IsTrue shelf.tells → HasBadSchedule mid.file names.schedule callers word)) (mid.faults 3) (shelf_now.faults 3) s
+      → IsRefusedAt 3 (IsBadSchedule (λ word. IsTrue shelf.tells → HasBadSchedule mid.file names.schedule callers word)) (mid.faults 3)
+      (shelf_now.faults 3) s
       → Refused s
   word_told b m mid callers s same was board scripts map count refused =
       elim refused [
@@ -256,7 +247,8 @@ module _ (file : Files) (names : AtrNames) (b : BoardView) (m : MapView) (texts 
   files_of = record {
     texts = has_atr_texts file names b m texts words read;
     cheap = subst (λ (n : ℕ). n ≤ MOST_COST)
-        (ap (λ (k : BoardView). cost_of_texts k texts) read.board_in.same ∙ ap (cost_of_texts read.board_in.has.board) read.texts_are) cheap;
+        (ap (λ (k : BoardView). cost_of_texts k texts) read.board_in.same ∙ ap (cost_of_texts read.board_in.has.board) read.texts_are)
+        cheap;
   }
 
   -- a run of them is the report that they ask for
@@ -265,7 +257,8 @@ module _ (file : Files) (names : AtrNames) (b : BoardView) (m : MapView) (texts 
   unfolding files_of
   report_of_files bytes logs states counts run = record {
     files = files_of;
-    run = subst (λ (k : MapView). HasAtrRun k (texts_in file names.scripts) read.words_in.has.words bytes logs states counts) read.map_in.same
+    run = subst (λ (k : MapView). HasAtrRun k (texts_in file names.scripts) read.words_in.has.words bytes logs states counts)
+        read.map_in.same
         (subst (λ (ws : List ℕ). HasAtrRun m (texts_in file names.scripts) ws bytes logs states counts) read.words_in.same
         (subst (λ (ts : List (List ℕ)). HasAtrRun m ts words bytes logs states counts) read.texts_are run));
   }
@@ -274,7 +267,8 @@ module _ (file : Files) (names : AtrNames) (b : BoardView) (m : MapView) (texts 
 module _ (names : AtrNames) (shelf shelf_now : ShelfView) (rig rig_now : RigView) (b : BoardView) (m : MapView) (texts : List (List ℕ))
     (words : List ℕ) (some : HasReadSomeMap names b m texts words) (read : IsTrue shelf.tells → HasReadMap shelf.file names b m texts words)
     (cheap : cost_of_texts b texts ≤ MOST_COST)
-    (kept : KeepsShelf (atr_form names) shelf shelf_now) (plugs : rig_now.plugs ≡ counted rig.plugs) (unplugged : rig_now.plugged ≡ false) where
+    (kept : KeepsShelf (atr_form names) shelf shelf_now) (plugs : rig_now.plugs ≡ counted rig.plugs)
+    (unplugged : rig_now.plugged ≡ false) where
   files : IsTrue shelf.tells → HasAtrFiles shelf.file names
   files t = files_of shelf.file names b m texts words (read t) cheap
 
@@ -288,7 +282,8 @@ module _ (names : AtrNames) (shelf shelf_now : ShelfView) (rig rig_now : RigView
       (record { plugs = plugs; unplugs = unplugs; unplugged = unplugged })
       (record {
         by_files = λ t tells ports.
-            report_of_files shelf.file names b m texts words (read t) cheap (bytes_of x) rig_now.logs rig_now.states rig_now.counts (run tells ports);
+            report_of_files shelf.file names b m texts words (read t) cheap (bytes_of x) rig_now.logs rig_now.states rig_now.counts
+            (run tells ports);
         by_rig = record {
           file = some.file;
           called = some.called;

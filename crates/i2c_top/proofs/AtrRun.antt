@@ -1,30 +1,16 @@
 -- Scripts behind translators, as callers: they are ready, what is left of them is at most what their texts cost, and their run is that of
 -- what their texts ask for, translated. The inductions go over the scripts.
-use Rattle.std.proofs.Common.{◌≡◌, ℕ, ◌≤◌, List, [], ◌∷◌, length, map, Option, Some, None, refl, sym, ◌∙◌, ap, subst, sum_by, arith}
-use Rattle.std.specs.Prelude.{slice_get}
-use Rattle.std.specs.Option.{option_map, option_map_or}
-use Rattle.std.proofs.lemmas.List.{length-map}
-use Rattle.std.proofs.lemmas.List.Elements.{All-head, All-map, All-tail}
-use Rattle.std.proofs.lemmas.List.Sums.{sum_by-cons}
-use Rattle.addr_atr.specs.Callers.{AtrView, AtrCallerView, data_of, board_of, asked_by, left_of, owed_by}
-use Rattle.addr_atr.specs.Lowering.{lowered, translated}
-use Rattle.addr_atr.specs.Maps.{MapView}
+use Rattle.i2c_top.proofs.Cited.{◌≡◌, ℕ, ◌≤◌, List, [], ◌∷◌, length, map, Option, Some, None, refl, sym, ◌∙◌, ap, subst, sum_by, arith}
+use Rattle.i2c_top.proofs.Cited.{slice_get, option_map, option_map_or, length-map, All-head, All-map, All-tail, sum_by-cons, AtrCallerView}
+use Rattle.i2c_top.proofs.Cited.{lowered, MapView, PortCall, Reply, BoardView, Asks, IsPlainBoard, MeetsRules, TargetState, report_of}
+use Rattle.i2c_top.proofs.Cited.{IsOpened, commands_of, cost_of_script, section_text, CallerView, script_on, asks_in, printed_in}
+use Rattle.i2c_top.proofs.Cited.{scripts_in, AreReady, left_in, HasRunOfAny, IsRunBy, AreOpened, asks_by, printed_by, texts_of}
+use Rattle.i2c_top.proofs.Cited.{cost_of_texts, behind_of, HasAtrRun}
+use Rattle.addr_atr.specs.Callers.{AtrView, data_of, board_of, asked_by, left_of, owed_by}
+use Rattle.addr_atr.specs.Lowering.{translated}
 use Rattle.addr_atr.specs.Runs.{translated_asks}
 use Rattle.i2c_base.specs.declared.caller.Caller.{Ghosts as CallerGhosts}
-use Rattle.i2c_base.specs.declared.port.PortCall.{PortCall}
-use Rattle.i2c_base.specs.declared.reply.Reply.{Reply}
-use Rattle.i2c_base.specs.Board.{BoardView}
-use Rattle.i2c_spec.specs.History.{Asks}
-use Rattle.i2c_spec.specs.Plain.{IsPlainBoard}
-use Rattle.i2c_spec.specs.Rules.{MeetsRules}
-use Rattle.i2c_spec.specs.Targets.{TargetState}
-use Rattle.bus_spec.specs.Report.{report_of}
-use Rattle.caller_core.specs.Callers.{IsOpened}
-use Rattle.caller_core.specs.Scripts.{asked_by as script_asked, commands_of, cost_of_script, section_text}
-use Rattle.caller_core.specs.View.{CallerView, script_on}
-use Rattle.i2c_top.specs.Callers.{asks_in, printed_in, scripts_in, AreReady, left_in, HasRunOfAny, IsRunBy}
-use Rattle.i2c_top.specs.Runs.{AreOpened, asks_by, printed_by, texts_of, cost_of_texts}
-use Rattle.i2c_top.specs.forms.Atrs.{behind_of, HasAtrRun}
+use Rattle.caller_core.specs.Scripts.{asked_by as script_asked}
 use Rattle.i2c_top.proofs.CostLemmas.{cost_of_opened, costs_are}
 use Rattle.i2c_top.proofs.TextLemmas.{told_in, told-mapped}
 
@@ -78,7 +64,8 @@ behind-scripts : (m : MapView) (scripts : List CallerView) → AreOpened m.board
     → scripts_in atr_row (map (behind_of m) scripts) ≡ map (atr_on m) (texts_of scripts)
 behind-scripts m [] opened = refl
 behind-scripts m (s ∷ ss) opened =
-    ap (λ (k : BoardView). record { script = script_on k s.script.text; translators = m.translators } ∷ scripts_in atr_row (map (behind_of m) ss))
+    ap (λ (k : BoardView). record { script = script_on k s.script.text; translators = m.translators } ∷ scripts_in atr_row
+    (map (behind_of m) ss))
     (All-head (λ x. IsOpened m.board x.script.text x) s ss opened).board_is
     ∙ ap (λ (vs : List AtrView). atr_on m s.script.text ∷ vs)
     (behind-scripts m ss (All-tail (λ x. IsOpened m.board x.script.text x) s ss opened))
@@ -114,14 +101,17 @@ module _ (m : MapView) (texts : List (List ℕ)) where
               ∙ ap (λ (n : ℕ). report_of (printed_by m.board texts) n run.journal) count;
           is_run = subst (λ (n : ℕ). IsRunBy (lowered m.board m.translators) n
               (translated_asks m.board m.translators (asks_by m.board texts)) logs states counts run.journal) count
-              (subst (λ (a : Asks). IsRunBy (lowered m.board m.translators) (length views) a logs states counts run.journal) asks run.is_run);
+              (subst (λ (a : Asks). IsRunBy (lowered m.board m.translators) (length views) a logs states counts run.journal) asks
+              run.is_run);
           ordered = run.ordered;
         }
 
 -- the run of callers behind translators is that of their texts
-pub behind-run : (m : MapView) (scripts : List CallerView) → AreOpened m.board scripts → (words bytes : List ℕ) (logs : List (List PortCall))
+pub behind-run : (m : MapView) (scripts : List CallerView) → AreOpened m.board scripts → (words bytes : List ℕ)
+    (logs : List (List PortCall))
     (states : List TargetState) (counts : List ℕ)
-    → HasRunOfAny asked_by section_by (lowered m.board m.translators) (scripts_in atr_row (map (behind_of m) scripts)) words bytes logs states counts
+    → HasRunOfAny asked_by section_by (lowered m.board m.translators)
+    (scripts_in atr_row (map (behind_of m) scripts)) words bytes logs states counts
     → HasAtrRun m (texts_of scripts) words bytes logs states counts
 behind-run m scripts opened =
     translated-run m (texts_of scripts) (scripts_in atr_row (map (behind_of m) scripts)) (behind-scripts m scripts opened)

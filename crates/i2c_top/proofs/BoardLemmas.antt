@@ -1,14 +1,9 @@
 -- What a text says of a board, it says once: it is a board or is refused, and for one cause. No induction.
-use Rattle.std.proofs.Common.{◌≡◌, ℕ, List, Option, Some, Result, Ok, Err, sym, ap, subst, ◌∙◌}
-use Rattle.i2c_base.specs.Board.{BoardView}
-use Rattle.i2c_spec.specs.Rules.{MeetsRules, TellsBroken}
+use Rattle.i2c_top.proofs.Cited.{◌≡◌, ℕ, List, Option, Some, Result, Ok, Err, sym, ap, subst, ◌∙◌, BoardView, MeetsRules, TellsBroken}
+use Rattle.i2c_top.proofs.Cited.{IsAccepted, IsRejected, HasAccepted, HasRejected, Files, BoardRefusal, broken_breaks, one_broken}
 use Rattle.i2c_boardtext.specs.BoardText.{board_of}
 use Rattle.i2c_boardtext.specs.declared.fault.BoardFault.{BoardFault}
-use Rattle.i2c_top.specs.Boards.{IsAccepted, IsRejected, HasAccepted, HasRejected}
-use Rattle.i2c_top.specs.Files.{Files}
-use Rattle.i2c_top.specs.declared.status.BoardRefusal.{BoardRefusal}
 use Rattle.i2c_top.specs.declared.status.BoardRefusal.TheVariants as refusal
-use Rattle.i2c_board.proofs.BrokenLemmas.{broken_breaks, one_broken}
 
 -- a result is one
 both : (r : Result BoardView BoardFault) (b : BoardView) (f : BoardFault) → r ≡ Ok b → r ≡ Err f → ⊥

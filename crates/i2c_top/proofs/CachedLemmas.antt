@@ -1,19 +1,9 @@
 -- How a call of `cached` ends: its report, and what its status tells. No induction.
-use Rattle.std.proofs.Common.{◌≡◌, ℕ, ◌≤◌, false, IsTrue, IsSome, List, [], Option, Some, Result, Ok, Err, sym, ◌∙◌, subst}
-use Rattle.std.specs.Prelude.{IfOk, OnOk, unwrap_or}
-use Rattle.i2c_base.specs.declared.port.PortCall.{PortCall}
-use Rattle.i2c_base.specs.Board.{BoardView}
-use Rattle.i2c_spec.specs.Targets.{TargetState}
-use Rattle.ports.specs.Causes.{counted}
-use Rattle.i2c_top.specs.Endings.{CameToSuccess, HasEndedAs}
-use Rattle.i2c_top.specs.Readings.{HasRead, HasReadSome}
-use Rattle.i2c_top.specs.Files.{Files}
-use Rattle.i2c_top.specs.Form.{KeepsShelf}
-use Rattle.i2c_top.specs.forms.Caches.{cached_form, HasCached, HasCachedReport, HasCachedRun, IsCachedAnswer}
-use Rattle.i2c_top.specs.forms.Replays.{Names}
-use Rattle.i2c_top.specs.Runs.{cost_of_texts, MOST_COST}
-use Rattle.i2c_top.specs.Traces.{ShelfView, RigView, Outside}
-use Rattle.i2c_top.specs.declared.status.Status.{Status}
+use Rattle.i2c_top.proofs.Cited.{◌≡◌, ℕ, ◌≤◌, false, IsTrue, IsSome, List, [], Option, Some, Result, Ok, Err, sym, ◌∙◌, subst, IfOk, OnOk}
+use Rattle.i2c_top.proofs.Cited.{unwrap_or, PortCall, BoardView, TargetState, counted, CameToSuccess, HasEndedAs, HasRead, HasReadSome}
+use Rattle.i2c_top.proofs.Cited.{Files, KeepsShelf, cached_form, HasCachedRun, IsCachedAnswer, Names, cost_of_texts, MOST_COST, ShelfView}
+use Rattle.i2c_top.proofs.Cited.{RigView, Outside, Status}
+use Rattle.i2c_top.specs.forms.Caches.{HasCached, HasCachedReport}
 use Rattle.i2c_top.specs.declared.status.Status.TheVariants as status
 use Rattle.i2c_top.proofs.EndingLemmas.{came_to_success}
 use Rattle.i2c_top.proofs.ReplayLemmas.{has_files, order_of_some, when}

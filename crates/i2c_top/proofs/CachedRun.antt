@@ -1,40 +1,24 @@
 -- Cached scripts as callers: they are ready, what is left of them is what their texts cost, and their run is what it would have been with
 -- each hit asked for. The inductions go over the scripts.
-use Rattle.std.proofs.Common.{◌≡◌, ℕ, zero, suc, ◌+◌, ◌<◌, List, [], ◌∷◌, ◌++◌, length, map, reverse, All, Option, Some, None, sum_by, refl, sym, ◌∙◌, ap, subst, arith, zero-add}
-use Rattle.std.proofs.lemmas.List.{length-map, get_or-map}
-use Rattle.std.proofs.lemmas.List.Elements.{All-filter, All-head, All-map, All-tail}
-use Rattle.std.proofs.lemmas.List.FromFn.{length-enumerate_from, get_or-range_with_len, length-range_with_len}
-use Rattle.std.proofs.lemmas.List.Sums.{sum_by-cons}
-use Rattle.std.specs.Prelude.{slice_get}
-use Rattle.std.specs.List.{AllZip, enumerate_from, range_with_len}
-use Rattle.std.specs.Option.{option_map_or}
-use Rattle.i2c_base.specs.declared.entry.Entry.{Entry}
-use Rattle.i2c_base.specs.declared.port.PortCall.{PortCall}
-use Rattle.i2c_base.specs.declared.reply.Reply.{Reply}
-use Rattle.i2c_base.specs.Board.{BoardView}
-use Rattle.i2c_spec.specs.History.{Asks}
-use Rattle.i2c_spec.specs.Targets.{TargetState}
-use Rattle.i2c_spec.proofs.AddressLemmas.{tree_of}
-use Rattle.bus_spec.specs.Legal.{KeepsReplies}
-use Rattle.bus_spec.specs.Report.{report_of}
-use Rattle.bus_spec.specs.Schedule.{Follows}
-use Rattle.caller_core.specs.Callers.{IsOpened, ScriptsAreFair}
-use Rattle.caller_core.specs.Reach.{IsReachOf}
-use Rattle.caller_core.specs.Scripts.{commands_of, cost_of_script, left_of, section_text}
-use Rattle.caller_core.specs.View.{CallerView, script_on}
-use Rattle.caller_core.specs.declared.reach.Reach.{Reach}
-use Rattle.caller_core.proofs.FairLemmas.{left_at_first}
+use Rattle.i2c_top.proofs.Cited.{◌≡◌, ℕ, zero, suc, ◌+◌, ◌<◌, List, [], ◌∷◌, ◌++◌, length, map, reverse, All, Option, Some, None, sum_by}
+use Rattle.i2c_top.proofs.Cited.{refl, sym, ◌∙◌, ap, subst, arith, zero-add, length-map, All-head, All-map, All-tail, length-enumerate_from}
+use Rattle.i2c_top.proofs.Cited.{get_or-range_with_len, length-range_with_len, sum_by-cons, slice_get, AllZip, enumerate_from}
+use Rattle.i2c_top.proofs.Cited.{range_with_len, option_map_or, Entry, PortCall, Reply, BoardView, Asks, TargetState, tree_of, KeepsReplies}
+use Rattle.i2c_top.proofs.Cited.{report_of, Follows, IsOpened, ScriptsAreFair, IsReachOf, commands_of, cost_of_script, left_of}
+use Rattle.i2c_top.proofs.Cited.{section_text, CallerView, script_on, Reach, left_at_first, CachedScript, CachedView, cached_asked}
+use Rattle.i2c_top.proofs.Cited.{AreReaches, cacheable_devices, asks_in, printed_in, AreReady, left_in, HasRunBy, HasRunOfAny, IsRunBy}
+use Rattle.i2c_top.proofs.Cited.{AreOpened, texts_of, cost_of_texts, cached_scripts, HasCachedRun}
+use Rattle.std.proofs.lemmas.List.{get_or-map}
+use Rattle.std.proofs.lemmas.List.Elements.{All-filter}
 use Rattle.cache_laws.specs.Cache.{Cached, answered, cached_asks, unknown}
 use Rattle.cache_laws.specs.Order.{IsReplayed}
 use Rattle.cache_laws.proofs.Law.{full-replayed}
-use Rattle.reg_cache.specs.Cached.{CachedScript, CachedView, cached, cached_asked, cached_left, cached_on, kept_of}
-use Rattle.reg_cache.specs.Cacheable.{AreReaches, cacheable_devices, cached_texts, is_cacheable, is_kept_by_some}
+use Rattle.reg_cache.specs.Cached.{cached, cached_left, cached_on, kept_of}
+use Rattle.reg_cache.specs.Cacheable.{cached_texts, is_cacheable, is_kept_by_some}
 use Rattle.reg_cache.proofs.CacheLemmas.{cached-opens}
 use Rattle.reg_cache.proofs.ScriptLemmas.{asks-touch}
 use Rattle.reg_cache.proofs.TouchLemmas.{may-be-cached}
-use Rattle.i2c_top.specs.Callers.{asks_in, printed_in, AreReady, left_in, HasRunBy, HasRunOfAny, IsRunBy}
-use Rattle.i2c_top.specs.Runs.{AreOpened, texts_of, cost_of_texts}
-use Rattle.i2c_top.specs.forms.Caches.{cached_printed, cached_row, cached_scripts, script_at, HasCachedRun}
+use Rattle.i2c_top.specs.forms.Caches.{cached_printed, cached_row, script_at}
 use Rattle.i2c_top.proofs.Numbering.{map-push, numbered-next}
 use Rattle.i2c_top.proofs.RunLemmas.{same_asks}
 
@@ -74,7 +58,8 @@ reaches-by-texts b [] [] opened are = tt
 reaches-by-texts b [] (r ∷ rs) opened are = absurd are
 reaches-by-texts b (s ∷ ss) [] opened are = absurd are
 reaches-by-texts b (s ∷ ss) (r ∷ rs) opened are = (
-  subst (λ (k : BoardView). IsReachOf (script_on k s.script.text) r) (All-head (λ x. IsOpened b x.script.text x) s ss opened).board_is are.0,
+  subst (λ (k : BoardView). IsReachOf (script_on k s.script.text) r)
+      (All-head (λ x. IsOpened b x.script.text x) s ss opened).board_is are.0,
   reaches-by-texts b ss rs (All-tail (λ x. IsOpened b x.script.text x) s ss opened) are.1,
 )
 
@@ -109,7 +94,8 @@ module _ (b : BoardView) (texts : List (List ℕ)) (callers : List CachedView)
       sym (length-map callers (λ (c : CachedView). c.script)) ∙ ap (λ (ss : List CachedScript). length ss) are
       ∙ length-map (enumerate_from 0 texts) (script_at b texts) ∙ length-enumerate_from 0 texts
 
-  sum-scripts : (cs : List CachedView) → left_in cached_row cs ≡ sum_by (λ (s : CachedScript). cached_left s []) (map (λ (c : CachedView). c.script) cs)
+  sum-scripts : (cs : List CachedView) → left_in cached_row cs ≡ sum_by (λ (s : CachedScript). cached_left s [])
+      (map (λ (c : CachedView). c.script) cs)
   sum-scripts [] = refl
   sum-scripts (c ∷ cs) =
       sum_by-cons (λ (x : CachedView). cached_left x.script []) c cs
@@ -195,7 +181,8 @@ cached-replayed b texts logs states counts journal run =
     subst (λ (xs : List TargetState). IsReplayed b (cached_texts b texts) (is_kept_by_some b texts) (length texts) (reverse journal) xs)
     (sym run.left)
     (full-replayed b (tree_of b run.plain run.rules) (cached_texts b texts) (is_kept_by_some b texts)
-    (may-be-cached b (tree_of b run.plain run.rules) texts (asks-touch b texts)) (length texts) (reverse journal) kept.told kept.defined kept.same)
+    (may-be-cached b (tree_of b run.plain run.rules) texts (asks-touch b texts)) (length texts)
+    (reverse journal) kept.told kept.defined kept.same)
   where
     kept : KeepsReplies b (cached_asks (cached_texts b texts)) (reverse journal)
     kept = run.legal.replies_kept
@@ -218,6 +205,7 @@ cached-run b texts words bytes logs states counts run =
               ∙ ap (λ (p : ℕ → List Reply → List ℕ). report_of p (length (cached_scripts b texts)) run.journal) (printed-same b texts)
               ∙ ap (λ (n : ℕ). report_of (cached_printed b texts) n run.journal) count;
           is_run = subst (λ (n : ℕ). IsRunBy b n (cached_asks (cached_texts b texts)) logs states counts run.journal) count
-              (subst (λ (a : Asks). IsRunBy b (length (cached_scripts b texts)) a logs states counts run.journal) (asks-same b texts) run.is_run);
+              (subst (λ (a : Asks). IsRunBy b (length (cached_scripts b texts)) a logs states counts run.journal)
+              (asks-same b texts) run.is_run);
           ordered = run.ordered;
         }

@@ -1,15 +1,9 @@
 -- How a call of `check` ends: its file decides one status, and a success is the line of its board. No induction.
-use Rattle.std.proofs.Common.{◌≡◌, ℕ, ◌<◌, ◌⊎◌, inl, inr, false, IsTrue, List, [], refl, sym, ◌∙◌, ap, subst, arith}
-use Rattle.i2c_base.specs.Board.{BoardView}
-use Rattle.i2c_top.specs.Boards.{IsSpelled, HasAccepted, HasRejected}
-use Rattle.i2c_top.specs.Endings.{CameToSuccess, CameToRefusal, HasEndedAs}
-use Rattle.i2c_top.specs.Files.{Files, IsAnyName}
-use Rattle.i2c_top.specs.Form.{DecidesOnce, TellsItsFiles}
-use Rattle.i2c_top.specs.Readings.{IsAcceptedIn, IsRejectedIn, IsRefusedAt, IsBadBoard}
-use Rattle.i2c_top.specs.Traces.{ShelfView, RigView, Outside, KeepsBut, IsUntouched}
-use Rattle.i2c_top.specs.forms.Checks.{IsCheckCause, accepted_text, HasCheck, HasChecked, check_form}
-use Rattle.i2c_top.specs.declared.status.BoardRefusal.{BoardRefusal}
-use Rattle.i2c_top.specs.declared.status.Status.{Status}
+use Rattle.i2c_top.proofs.Cited.{◌≡◌, ℕ, ◌<◌, ◌⊎◌, inl, inr, false, IsTrue, List, [], refl, sym, ◌∙◌, ap, subst, arith, BoardView}
+use Rattle.i2c_top.proofs.Cited.{IsSpelled, HasAccepted, HasRejected, CameToSuccess, CameToRefusal, HasEndedAs, Files, IsAnyName}
+use Rattle.i2c_top.proofs.Cited.{DecidesOnce, TellsItsFiles, IsAcceptedIn, IsRejectedIn, IsRefusedAt, IsBadBoard, ShelfView, RigView}
+use Rattle.i2c_top.proofs.Cited.{Outside, KeepsBut, IsUntouched, accepted_text, check_form, BoardRefusal, Status}
+use Rattle.i2c_top.specs.forms.Checks.{IsCheckCause, HasCheck, HasChecked}
 use Rattle.i2c_top.specs.declared.status.Status.TheVariants as status
 use Rattle.i2c_top.proofs.BoardLemmas.{no_board, one_why}
 use Rattle.i2c_top.proofs.EndingLemmas.{came_to_success, memory_wanting, file_unread, text_refused}

@@ -1,75 +1,53 @@
 -- A core of scripts that has followed the journal of a report: what it is opened with, what is left of it, and what that says of the
 -- report. The inductions go over the scripts.
-use Rattle.std.proofs.Common.{◌≡◌, ◌⊎◌, ℕ, zero, suc, ◌+◌, ◌<◌, ◌≤◌, ◌==◌, Bool, true, false, List, [], ◌∷◌, ◌++◌, ◌^◌, append_assoc, append-nil, cond, drop, get_or, length, length-append, map, reverse, Option, Some, None, Result, Ok, Err, inl, inr, refl, sym, ◌∙◌, ap, subst, arith, zero-add}
-use Rattle.std.specs.Prelude.{IfOk, IfErr, codes, slice_get}
-use Rattle.std.specs.List.{enumerate_from, flat_map, range_with_len}
-use Rattle.std.specs.Option.{option_map, option_map_or}
-use Rattle.std.proofs.lemmas.Bool.{cases_lt, eq-eqb, eqb-true, false_from_ne_true}
-use Rattle.std.proofs.lemmas.List.{drop_all, drop_more, length-map}
+use Rattle.i2c_top.proofs.Cited.{◌≡◌, ◌⊎◌, ℕ, zero, suc, ◌+◌, ◌<◌, ◌≤◌, ◌==◌, Bool, true, false, List, [], ◌∷◌, ◌++◌, ◌^◌, append_assoc}
+use Rattle.i2c_top.proofs.Cited.{append-nil, cond, drop, get_or, length, map, reverse, Option, Some, None, Result, Ok, Err, inl, inr, refl}
+use Rattle.i2c_top.proofs.Cited.{sym, ◌∙◌, ap, subst, arith, zero-add, IfOk, IfErr, slice_get, enumerate_from, range_with_len, option_map}
+use Rattle.i2c_top.proofs.Cited.{option_map_or, cases_lt, drop_more, length-map, length-map-range_with_len, get_or-map-range_with_len}
+use Rattle.i2c_top.proofs.Cited.{slice_get-get_or, slice_get-map, slice_get_past, Entry, Idle, PortCall, Reply, BoardView, MOST_CALLERS}
+use Rattle.i2c_top.proofs.Cited.{IsTransfer, IsFairCaller, Asks, IsPlainBoard, MeetsRules, World, IsComplete, IsLegal, now, world_at}
+use Rattle.i2c_top.proofs.Cited.{calls_of, ended_line, report_lines, sections, text_of, IsStepwise, Ends, AsksForMessages, AsksWithinLimits}
+use Rattle.i2c_top.proofs.Cited.{Opening, script_at, scripts_of, asks_of, AllThrough, CoreState, has_caller, logs_of, roots_in, taken_of}
+use Rattle.i2c_top.proofs.Cited.{worlds_of, ClosedCore, Seat, entries_of, JournalView, IsOpened, board_of, asked_by, left_of, commands_of}
+use Rattle.i2c_top.proofs.Cited.{section_text, SectionsHaveNoJournalLine, CallerView, ScriptView, script_on, CanBeChecked, Checked}
+use Rattle.i2c_top.proofs.Cited.{IsFaultIn, IsVerified, FirstOther, IsWhole, CheckFault, checked_on, IsCoreOf, asks_in, scripts_in}
+use Rattle.i2c_top.proofs.Cited.{callers_in, asks_by, script_row, AreOpened, printed_by, section_of, texts_of, all_at, map_map}
+use Rattle.std.proofs.Common.{length-append}
+use Rattle.std.specs.Prelude.{codes}
+use Rattle.std.specs.List.{flat_map}
+use Rattle.std.proofs.lemmas.Bool.{eq-eqb, eqb-true, false_from_ne_true}
+use Rattle.std.proofs.lemmas.List.{drop_all}
 use Rattle.std.proofs.Math.ListN.{get_or-map}
 use Rattle.std.proofs.lemmas.List.Elements.{All-nil}
-use Rattle.std.proofs.lemmas.List.FromFn.{length-map-range_with_len, get_or-map-range_with_len}
-use Rattle.std.proofs.lemmas.Option.{slice_get-get_or, slice_get-map, slice_get_past}
-use Rattle.i2c_base.specs.declared.entry.Entry.{Entry}
-use Rattle.i2c_base.specs.declared.port.Phase.TheVariants.{Idle}
-use Rattle.i2c_base.specs.declared.port.PortCall.{PortCall}
-use Rattle.i2c_base.specs.declared.reply.Reply.{Reply}
-use Rattle.i2c_base.specs.Board.{BoardView}
-use Rattle.i2c_base.specs.Limits.{MOST_CALLERS}
-use Rattle.i2c_base.specs.Transfer.{IsTransfer}
-use Rattle.i2c_spec.specs.Fair.{IsFairCaller}
-use Rattle.i2c_spec.specs.History.{Asks}
-use Rattle.i2c_spec.specs.Plain.{IsPlainBoard}
-use Rattle.i2c_spec.specs.Rules.{MeetsRules}
-use Rattle.i2c_spec.specs.World.{World}
 use Rattle.ports.specs.declared.port.Port.{Ghosts as PortGhosts}
-use Rattle.bus_spec.specs.Legal.{IsComplete, IsLegal}
-use Rattle.bus_spec.specs.Past.{now, world_at, calls_of}
-use Rattle.bus_spec.specs.Report.{ended_line, report_lines, sections, text_of}
-use Rattle.bus_spec.specs.Stepwise.{IsStepwise}
-use Rattle.bus_spec.specs.Walk.{Ends}
-use Rattle.bus_laws.specs.Reach.{AsksForMessages, AsksWithinLimits}
-use Rattle.bus_core.specs.Opening.{HasRoot, Opening}
-use Rattle.bus_core.specs.Places.{script_at, scripts_of, asks_of}
-use Rattle.bus_core.specs.State.{AllThrough, CoreState, has_caller, logs_of, roots_in, taken_of, worlds_of}
-use Rattle.bus_core.specs.declared.bus.ClosedCore.{ClosedCore}
-use Rattle.bus_core.specs.declared.seat.Seat.{Seat}
+use Rattle.bus_core.specs.Opening.{HasRoot}
 use Rattle.bus_journal.specs.Reports.{HasNoJournalLine, IsSectionLine}
-use Rattle.bus_journal.specs.Told.{entries_of}
-use Rattle.bus_journal.specs.View.{JournalView}
-use Rattle.caller_core.specs.Callers.{IsOpened, board_of}
-use Rattle.caller_core.specs.Scripts.{asked_by, left_of, commands_of, section_text}
-use Rattle.caller_core.specs.Sections.{SectionsHaveNoJournalLine}
-use Rattle.caller_core.specs.View.{CallerView, ScriptView, script_on}
 use Rattle.journal_check.specs.Checks.{HasPassed}
-use Rattle.journal_check.specs.Faults.{AtCaller, AtEntry, CanBeChecked, Checked, IsFaultIn, IsRead, IsVerified, IsWrongIn}
+use Rattle.journal_check.specs.Faults.{AtCaller, AtEntry, IsRead, IsWrongIn}
 use Rattle.journal_check.specs.Forms.{HasForm, lines_of}
 use Rattle.journal_check.specs.Steps.{asks_on}
-use Rattle.journal_check.specs.Texts.{FirstOther, GoesOn, GoesOtherwise, IsWhole}
-use Rattle.journal_check.specs.declared.fault.CheckFault.{CheckFault}
+use Rattle.journal_check.specs.Texts.{GoesOn, GoesOtherwise}
 use Rattle.journal_check.specs.declared.fault.CheckFault.TheVariants as fault
 use Rattle.journal_check.proofs.LineLemmas.{fewer-entries}
 use Rattle.journal_check.proofs.SectionLemmas.{goes-on-then, otherwise-then, under, whole-lines}
-use Rattle.i2c_top.specs.Checked.{HasBeenChecked, callers_on, checked_on}
-use Rattle.i2c_top.specs.Cores.{IsCoreOf}
-use Rattle.i2c_top.specs.Callers.{asks_in, scripts_in, callers_in}
-use Rattle.i2c_top.specs.Runs.{asks_by, script_row, AreOpened, printed_by, section_of, texts_of}
+use Rattle.i2c_top.specs.Checked.{HasBeenChecked, callers_on}
 use Rattle.i2c_top.proofs.CoreLemmas.{asks-same, is-left, left, number-here, scripts-same, through-at}
 use Rattle.i2c_top.proofs.RunLemmas.{of_asks, report-over, same_asks, sections_are}
 use Rattle.i2c_top.proofs.TextLemmas.{asks-of-texts, count-of-texts, opened-scripts, printed-of-texts, report-of-texts, section_by}
-use Rattle.i2c_base.proofs.ListLemmas.{all_at, map_map}
 
 -- THE OPENING: each script by its number
 abbrev numbered : ℕ → List CallerView → List (ℕ × ScriptView)
 numbered n ss = map (λ (y : ℕ × CallerView). (y.0, y.1.script)) (enumerate_from n ss)
 
 other-number : (n c : ℕ) → (n == (n + suc c)) ≡ false
-other-number n c = false_from_ne_true (n == (n + suc c)) (λ is. let e : n ≡ n + suc c = eqb-true n (n + suc c) is in absurd (omega (arith, e)))
+other-number n c = false_from_ne_true (n == (n + suc c)) (λ is. let e : n ≡ n + suc c = eqb-true n (n + suc c) is in
+    absurd (omega (arith, e)))
 
 same-number : (n : ℕ) → (n == (n + 0)) ≡ true
 same-number n = eq-eqb n (n + 0) (omega arith)
 
-script-numbered : (n c : ℕ) (ss : List CallerView) → script_at (numbered n ss) (n + c) ≡ option_map (λ (s : CallerView). s.script) (slice_get ss c)
+script-numbered : (n c : ℕ) (ss : List CallerView) → script_at (numbered n ss) (n + c) ≡ option_map (λ (s : CallerView). s.script)
+    (slice_get ss c)
 script-numbered n c [] = refl
 script-numbered n zero (s ∷ ss) = ap (λ (t : Bool). cond t (Some s.script) (script_at (numbered (n + 1) ss) (n + 0))) (same-number n)
 script-numbered n (suc c) (s ∷ ss) =
@@ -100,7 +78,8 @@ module _ (b : BoardView) (scripts : List CallerView) (opened : AreOpened b scrip
           ≡ option_map_or (λ text. asked_by (script_on b text) rs) (option_map (λ (s : CallerView). s.script.text) o) None
       by c rs None at = refl
       by c rs (Some s) at =
-          ap (λ (k : BoardView). asked_by (script_on k s.script.text) rs) (all_at (λ t. IsOpened b t.script.text t) scripts c s opened at).board_is
+          ap (λ (k : BoardView). asked_by (script_on k s.script.text) rs)
+          (all_at (λ t. IsOpened b t.script.text t) scripts c s opened at).board_is
 
   module _ {P : Type 0} (ports : List P) (core : CoreState ScriptView) (of : IsCoreOf script_row b scripts ports core) where
     pub asks-opened : asks_on asked_by core.opening ≡ asks_by b (texts_of scripts)
@@ -119,10 +98,12 @@ module _ (b : BoardView) (scripts : List CallerView) (opened : AreOpened b scrip
         split (inr high) = high
 
     pub some-opened : IsFairCaller asked_by left_of board_of → AsksForMessages (asks_on asked_by core.opening)
-    some-opened fair = subst AsksForMessages (sym asks-opened) (of_asks b (texts_of scripts) (λ t. 0 < length t.msgs) (λ text. fair.sends (script_on b text)))
+    some-opened fair = subst AsksForMessages (sym asks-opened) (of_asks b (texts_of scripts) (λ t. 0 < length t.msgs)
+        (λ text. fair.sends (script_on b text)))
 
     pub limits-opened : IsFairCaller asked_by left_of board_of → AsksWithinLimits (asks_on asked_by core.opening)
-    limits-opened fair = subst AsksWithinLimits (sym asks-opened) (of_asks b (texts_of scripts) (λ t. IsTransfer t.msgs t.out) (λ text. fair.limits (script_on b text)))
+    limits-opened fair = subst AsksWithinLimits (sym asks-opened) (of_asks b (texts_of scripts) (λ t. IsTransfer t.msgs t.out)
+        (λ text. fair.limits (script_on b text)))
 
     pub silent-opened : (c : ℕ) → length scripts ≤ c → (rs : List Reply) → asks_on asked_by core.opening c rs ≡ None
     silent-opened c high rs =
@@ -142,7 +123,8 @@ module _ (b : BoardView) (scripts : List CallerView) (opened : AreOpened b scrip
 
     -- WHAT IS LEFT of a core that has passed
     pub been-checked : (count : ℕ) → count ≡ length scripts → (es : List Entry) (v : CoreState ScriptView)
-        → HasPassed asked_by true core.opening count es v → (x : ClosedCore P CallerView) → scripts_of script_row x.seats.items ≡ v.opening.scripts
+        → HasPassed asked_by true core.opening count es v → (x : ClosedCore P CallerView) → scripts_of script_row x.seats.items
+        ≡ v.opening.scripts
         → taken_of script_row x.seats.items ≡ v.taken → (world : P → World) → worlds_of world x.ports.items ≡ v.worlds
         → (log : P → List PortCall) → logs_of log x.ports.items ≡ v.logs → x.journal ≡ v.journal
         → HasBeenChecked b (texts_of scripts) es x.seats.items x.journal.entries
@@ -205,7 +187,8 @@ module _ (b : BoardView) (scripts : List CallerView) (opened : AreOpened b scrip
             → Q b (asks_by b (texts_of scripts)) (length (texts_of scripts))
         over-there Q q =
             subst (λ (n : ℕ). Q b (asks_by b (texts_of scripts)) n) (is ∙ sym (length-map scripts (λ (s : CallerView). s.script.text)))
-            (subst (λ (a : Asks). Q b a count) asks-opened (subst (λ (k : BoardView). Q k (asks_on asked_by core.opening) count) of.board q))
+            (subst (λ (a : Asks). Q b a count) asks-opened (subst
+            (λ (k : BoardView). Q k (asks_on asked_by core.opening) count) of.board q))
 
         on-callers : (Q : BoardView → Asks → Type 0) → Q core.opening.board (asks_on asked_by core.opening) → Q b asks
         on-callers Q q =
@@ -217,7 +200,8 @@ module _ (b : BoardView) (scripts : List CallerView) (opened : AreOpened b scrip
         → IsWrongIn core.opening.board count (asks_on asked_by core.opening) es e
         → IsWrongIn b (length (texts_of scripts)) (asks_by b (texts_of scripts)) es e
     wrong-opened count is es e wrong =
-        subst (λ (n : ℕ). IsWrongIn b n (asks_by b (texts_of scripts)) es e) (is ∙ sym (length-map scripts (λ (s : CallerView). s.script.text)))
+        subst (λ (n : ℕ). IsWrongIn b n (asks_by b (texts_of scripts)) es e)
+        (is ∙ sym (length-map scripts (λ (s : CallerView). s.script.text)))
         (subst (λ (a : Asks). IsWrongIn b count a es e) asks-opened
         (subst (λ (k : BoardView). IsWrongIn k count (asks_on asked_by core.opening) es e) of.board wrong))
 
@@ -233,7 +217,8 @@ can-be b texts plain rules fair none =
       whole = λ c rs. by rs (slice_get texts c);
     }
   where
-    by : (rs : List Reply) (o : Option (List ℕ)) → HasNoJournalLine (option_map_or (λ text. section_text (commands_of (script_on b text)) rs) o [])
+    by : (rs : List Reply) (o : Option (List ℕ)) → HasNoJournalLine
+        (option_map_or (λ text. section_text (commands_of (script_on b text)) rs) o [])
     by rs None = record { lines = []; text_is = refl; others = All-nil IsSectionLine }
     by rs (Some text) = none (script_on b text) rs
 
@@ -290,10 +275,12 @@ module _ (text : List ℕ) (texts : List (List ℕ)) where
     pub beside-more : length texts ≤ place → (f : ℕ) → FirstOther number (lines_of rest) (lines_of []) f
         → FirstOther 1 (lines_of text) (lines_of (sections 0 texts)) f
     beside-more high f other =
-        subst (λ (xs : List ℕ). FirstOther 1 (lines_of text) (lines_of xs) f) (append-nil beside.due ∙ all-due high) (beside.goes.goes [] f other)
+        subst (λ (xs : List ℕ). FirstOther 1 (lines_of text) (lines_of xs) f) (append-nil beside.due ∙ all-due high)
+        (beside.goes.goes [] f other)
 
 -- what a caller has printed, among the texts of all
-pub own-text : (seats : List (Seat CallerView)) (i : ℕ) (s : Seat CallerView) (own : List ℕ) → s ≡ get_or seats i s → own ≡ section_of s.caller
+pub own-text : (seats : List (Seat CallerView)) (i : ℕ) (s : Seat CallerView) (own : List ℕ) → s ≡ get_or seats i s
+    → own ≡ section_of s.caller
     → own ≡ get_or (map (λ (t : Seat CallerView). section_of t.caller) seats) i (section_of s.caller)
 own-text seats i s own same is =
     is ∙ ap (λ (t : Seat CallerView). section_of t.caller) same ∙ sym (get_or-map (λ (t : Seat CallerView). section_of t.caller) seats i s)
@@ -322,7 +309,8 @@ module _ (b : BoardView) (texts : List (List ℕ)) (text front lines : List ℕ)
   entry-fault e (AtEntry i first) = record { read = read; first = first }
   entry-fault e (AtCaller c legal first) = record { read = read; legal = legal; first = first }
 
-  module _ (seats : List (Seat CallerView)) (entries : List Entry) (left : HasBeenChecked b texts es seats entries) (fair : IsFairCaller asked_by left_of board_of) where
+  module _ (seats : List (Seat CallerView)) (entries : List Entry) (left : HasBeenChecked b texts es seats entries)
+      (fair : IsFairCaller asked_by left_of board_of) where
     printed : map (λ (s : Seat CallerView). section_of s.caller) seats ≡ map section_of (callers_on seats)
     printed = sym (map_map section_of (λ (s : Seat CallerView). s.caller) seats)
 
@@ -342,7 +330,8 @@ module _ (b : BoardView) (texts : List (List ℕ)) (text front lines : List ℕ)
         whole : text ≡ report_lines (map section_of (callers_on seats)) es
         whole =
             form.parts ∙ ap (λ (xs : List ℕ). xs ++ (codes "journal\n" ++ (lines ++ codes "end\n"))) (same ∙ ap (sections 0) printed)
-            ∙ ap (λ (xs : List ℕ). sections 0 (map section_of (callers_on seats)) ++ (codes "journal\n" ++ (xs ++ codes "end\n"))) form.entries.lines
+            ∙ ap (λ (xs : List ℕ). sections 0 (map section_of (callers_on seats)) ++ (codes "journal\n" ++ (xs ++ codes "end\n")))
+            form.entries.lines
 
     pub text-fault : (n : ℕ)
         → FirstOther 1 (lines_of front) (lines_of (sections 0 (map (λ (s : Seat CallerView). section_of s.caller) seats))) n
@@ -354,7 +343,8 @@ module _ (b : BoardView) (texts : List (List ℕ)) (text front lines : List ℕ)
           complete = left.complete;
           first = subst (λ (xs : List ℕ). FirstOther 1 (lines_of front) (lines_of xs) n)
               (ap (sections 0) (printed ∙ sections_are script_row b (callers_on seats) MOST_CALLERS es _ _ fair left.over section_by)
-              ∙ ap (λ (p : ℕ → List Reply → List ℕ). sections 0 (map (text_of p es) (range_with_len 0 (length (scripts_in script_row (callers_on seats))))))
+              ∙ ap (λ (p : ℕ → List Reply → List ℕ). sections 0 (map (text_of p es) (range_with_len 0
+              (length (scripts_in script_row (callers_on seats))))))
               (printed-of-texts b texts (scripts_in script_row (callers_on seats)) left.scripts_are)
               ∙ ap (λ (n : ℕ). sections 0 (map (text_of (printed_by b texts) es) (range_with_len 0 n)))
               (count-of-texts b texts (scripts_in script_row (callers_on seats)) left.scripts_are)) other;

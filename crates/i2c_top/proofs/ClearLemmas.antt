@@ -1,21 +1,14 @@
 -- How a call of `clear` ends: its file and the number of the bus decide one status, and a success is the lines of its board. No
 -- induction.
-use Rattle.std.proofs.Common.{◌≡◌, ℕ, ◌<◌, ◌≤◌, ◌⊎◌, inl, inr, IsTrue, Bool, List, length, refl, sym, ◌∙◌, ap, subst, arith, Result}
+use Rattle.i2c_top.proofs.Cited.{◌≡◌, ℕ, ◌<◌, ◌≤◌, ◌⊎◌, inl, inr, IsTrue, Bool, List, length, refl, sym, ◌∙◌, ap, subst, arith, Result}
+use Rattle.i2c_top.proofs.Cited.{BoardView, World, opening_world, IsSpelled, HasRejected, CameToSuccess, CameToRefusal, HasEndedAs, Files}
+use Rattle.i2c_top.proofs.Cited.{IsAnyName, DecidesOnce, TellsItsFiles, IsAcceptedIn, IsRejectedIn, IsRefusedAt, IsBadBoard, ShelfView}
+use Rattle.i2c_top.proofs.Cited.{RigView, Outside, KeepsBut, IsUntouched, clear_form, BoardRefusal, Status}
 use Rattle.bus_clear.specs.Cuts.{level_at, pulses_of}
 use Rattle.bus_clear.specs.Receives.{RootClears}
-use Rattle.i2c_base.specs.Board.{BoardView}
 use Rattle.i2c_base.specs.declared.errno.Errno.{Errno}
-use Rattle.i2c_spec.specs.World.{World, opening_world}
-use Rattle.i2c_top.specs.Boards.{IsSpelled, HasRejected}
-use Rattle.i2c_top.specs.Endings.{CameToSuccess, CameToRefusal, HasEndedAs}
-use Rattle.i2c_top.specs.Files.{Files, IsAnyName}
-use Rattle.i2c_top.specs.Form.{DecidesOnce, TellsItsFiles}
-use Rattle.i2c_top.specs.Readings.{IsAcceptedIn, IsRejectedIn, IsRefusedAt, IsBadBoard}
-use Rattle.i2c_top.specs.Traces.{ShelfView, RigView, Outside, KeepsBut, IsUntouched}
-use Rattle.i2c_top.specs.forms.Clears.{HasRoot, LacksRoot, IsClearCause, cleared_lines, cleared_text, HasClear, HasCleared, clear_form}
+use Rattle.i2c_top.specs.forms.Clears.{HasRoot, LacksRoot, IsClearCause, cleared_lines, cleared_text, HasClear, HasCleared}
 use Rattle.i2c_top.specs.declared.forms.clear.ClearAt.{ClearAt}
-use Rattle.i2c_top.specs.declared.status.BoardRefusal.{BoardRefusal}
-use Rattle.i2c_top.specs.declared.status.Status.{Status}
 use Rattle.i2c_top.specs.declared.status.Status.TheVariants as status
 use Rattle.i2c_top.proofs.BoardLemmas.{no_board, one_why, one_board_in}
 use Rattle.i2c_top.proofs.EndingLemmas.{came_to_success, memory_wanting, file_unread, text_refused}
@@ -72,7 +65,8 @@ clear_decides name at file s r h k = one_cause file name at.bus s r (decided fil
 pub lines_told : (b : BoardView) (at : ClearAt) (root : ℕ) (high : Bool) (pulses : ℕ) (read : Result ℕ Errno) → root ≡ at.bus
     → RootClears b root at.addr at.cut high pulses read → cleared_lines at.cut high pulses read ≡ cleared_text b at
 lines_told b at root high pulses read same clears =
-    let c : RootClears b at.bus at.addr at.cut high pulses read = subst (λ (r : ℕ). RootClears b r at.addr at.cut high pulses read) same clears in
+    let c : RootClears b at.bus at.addr at.cut high pulses read =
+    subst (λ (r : ℕ). RootClears b r at.addr at.cut high pulses read) same clears in
     let w : World = opening_world b at.bus in
     ap (λ h. cleared_lines at.cut h pulses read) c.level
     ∙ (ap (λ p. cleared_lines at.cut (level_at w at.addr at.cut) p read) c.pulses_are
@@ -82,7 +76,8 @@ abbrev root_in : (file : Files) (name : List ℕ) (bus : ℕ) (board : BoardView
     → HasRoot file name bus
 root_in file name bus board a root = record { accepted = a.has; root = subst (λ (b : BoardView). bus < length b.roots) a.same root }
 
-module _ (name : List ℕ) (at : ClearAt) (shelf shelf_now : ShelfView) (rig : RigView) (kept : KeepsBut (λ place. place ≡ 1) shelf shelf_now) where
+module _ (name : List ℕ) (at : ClearAt) (shelf shelf_now : ShelfView) (rig : RigView) (kept : KeepsBut
+    (λ place. place ≡ 1) shelf shelf_now) where
   -- the file is read, so the shelf tells it where it tells the files that are read
   when : {X : Type 0} → (IsTrue shelf.tells → X) → TellsItsFiles (clear_form name at) shelf → X
   when f t = f (t 1 refl)
@@ -135,7 +130,8 @@ module _ (name : List ℕ) (at : ClearAt) (shelf shelf_now : ShelfView) (rig : R
             (file_unread (clear_form name at) shelf shelf_now rig 1 (when (λ t. refl)) (record { named = refl; rose = h.1 }) skipped kept)
         | inr (inl m) ↦ subst (CameToRefusal (clear_form name at) shelf shelf_now rig rig) (sym m) clear_starved
         | inr (inr b) ↦ subst (CameToRefusal (clear_form name at) shelf shelf_now rig rig) (sym b.same)
-            (text_refused (clear_form name at) shelf shelf_now rig (status.Board b.why) refl (when b.is_bad) (inl (b.why, refl)) skipped kept)
+            (text_refused (clear_form name at) shelf shelf_now rig (status.Board b.why) refl (when b.is_bad)
+            (inl (b.why, refl)) skipped kept)
       ]
 
 -- a success was the lines of the board

@@ -1,56 +1,32 @@
 -- The callers of a run on their seats: what a core is opened with, and what it is when all are through.
-use Rattle.std.proofs.Common.{◌≡◌, ◌⊎◌, ℕ, zero, suc, ◌+◌, ◌<◌, ◌≤◌, true, IsTrue, List, [], ◌∷◌, length, map, reverse, All, Option, Some, None, Result, Ok, Err, inl, inr, refl, sym, ◌∙◌, ap, subst, arith}
-use Rattle.std.specs.Prelude.{IfOk, slice_get}
-use Rattle.std.specs.List.{enumerate_from, range_with_len, sum_by}
-use Rattle.std.specs.Option.{option_map_or}
-use Rattle.std.proofs.lemmas.Bool.{cases_lt}
-use Rattle.std.proofs.lemmas.List.{length-map}
+use Rattle.i2c_top.proofs.Cited.{◌≡◌, ◌⊎◌, ℕ, zero, suc, ◌+◌, ◌<◌, ◌≤◌, true, IsTrue, List, [], ◌∷◌, length, map, reverse, All, Option}
+use Rattle.i2c_top.proofs.Cited.{Some, None, Result, Ok, Err, inl, inr, refl, sym, ◌∙◌, ap, subst, arith, IfOk, slice_get, enumerate_from}
+use Rattle.i2c_top.proofs.Cited.{range_with_len, option_map_or, cases_lt, length-map, sum_by-cons, length-enumerate_from}
+use Rattle.i2c_top.proofs.Cited.{length-range_with_len, get_or-range_with_len, slice_get_past, get_or_from_slice_get, Entry, Idle, PortCall}
+use Rattle.i2c_top.proofs.Cited.{Reply, BoardView, MOST_CALLERS, TransferView, IsFairCaller, Asks, IsPlainBoard, MeetsRules, root_of, World}
+use Rattle.i2c_top.proofs.Cited.{opening_world, now, world_at, calls_of, Follows, IsStepwise, Ends, roots_of, Opening, MayOpen}
+use Rattle.i2c_top.proofs.Cited.{callers_scripts, scripts_of, script_at, asks_of, AllThrough, CoreState, has_caller, logs_of, roots_in}
+use Rattle.i2c_top.proofs.Cited.{taken_of, worlds_of, ClosedCore, Seat, one_of, Ran, JournalView, asks_in, scripts_in, AreReady, left_in}
+use Rattle.i2c_top.proofs.Cited.{callers_in, IsOver, IsCoreOf, IsLeftOf, HaveJournal, faults_in, AccountsForFaults, AreCounted, MOST_COST}
+use Rattle.i2c_top.proofs.Cited.{map_from, all_at, map_map}
+use Rattle.std.specs.List.{sum_by}
 use Rattle.std.proofs.lemmas.List.Elements.{All-from_get_or}
-use Rattle.std.proofs.lemmas.List.Sums.{sum_by-cons}
-use Rattle.std.proofs.lemmas.List.FromFn.{length-enumerate_from, length-range_with_len, get_or-range_with_len}
-use Rattle.std.proofs.lemmas.Option.{slice_get_within, slice_get_past, get_or_from_slice_get}
+use Rattle.std.proofs.lemmas.Option.{slice_get_within}
 use Rattle.i2c_base.specs.declared.caller.Caller.{Ghosts as CallerGhosts}
-use Rattle.i2c_base.specs.declared.entry.Entry.{Entry}
-use Rattle.i2c_base.specs.declared.port.Phase.TheVariants.{Idle}
-use Rattle.i2c_base.specs.declared.port.PortCall.{PortCall}
-use Rattle.i2c_base.specs.declared.reply.Reply.{Reply}
-use Rattle.i2c_base.specs.Board.{BoardView}
-use Rattle.i2c_base.specs.Limits.{MOST_CALLERS}
-use Rattle.i2c_base.specs.Transfer.{TransferView}
 use Rattle.ports.specs.declared.port.Port.{Ghosts as PortGhosts}
-use Rattle.i2c_spec.specs.Fair.{IsFairCaller}
-use Rattle.i2c_spec.specs.History.{Asks}
-use Rattle.i2c_spec.specs.Plain.{IsPlainBoard}
-use Rattle.i2c_spec.specs.Rules.{MeetsRules}
-use Rattle.i2c_spec.specs.Tree.{root_of}
-use Rattle.i2c_spec.specs.World.{World, opening_world, openings}
+use Rattle.i2c_spec.specs.World.{openings}
 use Rattle.i2c_spec.proofs.TreeLemmas.{tree_root_is}
-use Rattle.bus_spec.specs.Past.{now, world_at, calls_of}
-use Rattle.bus_spec.specs.Schedule.{Follows}
 use Rattle.bus_laws.specs.Following.{GoesOnBy}
-use Rattle.bus_spec.specs.Stepwise.{IsStepwise}
-use Rattle.bus_spec.specs.Walk.{Ends}
-use Rattle.bus_core.specs.Kept.{roots_of}
-use Rattle.bus_core.specs.Opening.{Opening}
-use Rattle.bus_core.specs.Opens.{MayOpen, callers_scripts, opening_of}
-use Rattle.bus_core.specs.Places.{script_of, scripts_of, script_at, asks_of}
-use Rattle.bus_core.specs.State.{AllThrough, CoreState, CoreTold, IsThrough, has_caller, logs_of, roots_in, taken_of, worlds_of}
-use Rattle.bus_core.specs.declared.bus.ClosedCore.{ClosedCore}
-use Rattle.bus_core.specs.declared.seat.Seat.{Seat}
+use Rattle.bus_core.specs.Opens.{opening_of}
+use Rattle.bus_core.specs.Places.{script_of}
+use Rattle.bus_core.specs.State.{CoreTold, IsThrough}
 use Rattle.bus_core.proofs.Kept.{script-own}
 use Rattle.bus_core.proofs.Loops.{script-none}
 use Rattle.bus_core.proofs.Told.{has-by, roots-told}
-use Rattle.bus_groups.specs.Rounds.{one_of}
 use Rattle.bus_groups.specs.Slots.{IsTold}
-use Rattle.bus_groups.specs.declared.together.Ran.{Ran}
-use Rattle.bus_journal.specs.View.{JournalView}
-use Rattle.i2c_top.specs.Callers.{asks_in, scripts_in, AreReady, left_in, callers_in, IsOver}
-use Rattle.i2c_top.specs.Cores.{IsAsOne, IsCoreOf, IsLeftOf, HaveJournal}
-use Rattle.bus_spec.specs.Faults.{faults_in}
-use Rattle.i2c_top.specs.Faults.{AccountsForFaults, AreCounted}
-use Rattle.i2c_top.specs.Runs.{MOST_COST}
+use Rattle.i2c_top.specs.Cores.{IsAsOne}
 use Rattle.i2c_top.proofs.RunLemmas.{same_asks}
-use Rattle.i2c_base.proofs.ListLemmas.{there, map_from, map_at, all_at, map_map}
+use Rattle.i2c_base.proofs.ListLemmas.{there, map_at}
 
 -- an element of a numbered list, and of a list whose elements all are so
 pub numbered-at : {X : Type 0} (n : ℕ) (xs : List X) (i : ℕ) (y : ℕ × X) → slice_get (enumerate_from n xs) i ≡ Some y
@@ -129,8 +105,10 @@ module _ {P C S : Type 0} (g : PortGhosts P) (row : CallerGhosts C S) (b : Board
               all_at (λ p. g.log p ≡ []) ports k x.1 (empty tells) r.1,
             );
         fair = fair;
-        untaken = λ i x here. (all_at (λ s. (row.board (row.script s) ≡ b) × (row.taken s ≡ [])) callers i x.1 ready (numbered-at 0 callers i x here).1).1;
-        home = λ i x here. (all_at (λ s. (row.board (row.script s) ≡ b) × (row.taken s ≡ [])) callers i x.1 ready (numbered-at 0 callers i x here).1).0;
+        untaken = λ i x here. (all_at (λ s. (row.board (row.script s) ≡ b) × (row.taken s ≡ [])) callers i x.1 ready
+            (numbered-at 0 callers i x here).1).1;
+        home = λ i x here. (all_at (λ s. (row.board (row.script s) ≡ b) × (row.taken s ≡ [])) callers i x.1 ready
+            (numbered-at 0 callers i x here).1).0;
         wired = λ i x rs t here asks bus.
             let low : root_of b t.bus < length b.roots = tree_root_is b plain.planted t.bus bus in
             let on = number-here 0 ports (root_of b t.bus) (omega (arith, low, count)) in
@@ -377,7 +355,8 @@ taken-apart {P} {C} {S} g row b callers ports core ran x of opening roots_kept s
     record {
       over = λ tells.
           core-over g row b x callers same ports ran of.plain of.rules
-          (λ tell. told-of row.asked (left g row b x callers same ran) (subst (λ (v : CoreState S). CoreTold row.asked v) is_left (told tell)))
+          (λ tell. told-of row.asked (left g row b x callers same ran) (subst (λ (v : CoreState S). CoreTold row.asked v) is_left
+          (told tell)))
           (subst (λ (v : CoreState S). AllThrough row.asked g.tells v) is_left through) roots of.count tells;
       scripts = scripts-same g row b x callers same;
       count = ports-count x ports roots;
@@ -407,8 +386,18 @@ as-one {P} {C} {S} g row b callers ports x y left as_one =
     (record { over = left.over; scripts = left.scripts; count = left.count })
   where
     same : record x { journal = record { entries = x.journal.entries; room = 0; room_bytes = 0 } } ≡ one_of y
-    same = ap (λ (ps : _). record x { ports = ps; journal = record { entries = x.journal.entries; room = 0; room_bytes = 0 } }) (sym as_one.ports)
-        ∙ ap (λ (ss : _). record x { ports = y.ports; seats = ss; journal = record { entries = x.journal.entries; room = 0; room_bytes = 0 } })
+    same = ap (λ (ps : _). record x { ports = ps; journal = record { entries = x.journal.entries; room = 0; room_bytes = 0 } })
+        (sym as_one.ports)
+        ∙ ap (λ (ss : _). record x {
+          ports = y.ports;
+          seats = ss;
+          journal = record {
+            entries = x.journal.entries;
+            room = 0;
+            room_bytes =
+                0;
+          };
+        })
         (sym as_one.seats)
         ∙ ap (λ (es : List Entry). record { ports = y.ports; seats = y.seats; journal = record { entries = es; room = 0; room_bytes = 0 } })
         (sym as_one.entries)

@@ -1,12 +1,6 @@
 -- What opened scripts cost together is what their texts cost. By induction over the scripts.
-use Rattle.std.proofs.Common.{◌≡◌, ℕ, ◌+◌, List, [], ◌∷◌, sum_by, refl, sym, ap, ◌∙◌}
-use Rattle.std.proofs.lemmas.List.Elements.{All-head, All-tail}
-use Rattle.std.proofs.lemmas.List.Sums.{sum_by-cons}
-use Rattle.i2c_base.specs.Board.{BoardView}
-use Rattle.caller_core.specs.Callers.{IsOpened}
-use Rattle.caller_core.specs.Scripts.{cost_of_script}
-use Rattle.caller_core.specs.View.{CallerView, script_on}
-use Rattle.i2c_top.specs.Runs.{AreOpened, texts_of, cost_of_texts}
+use Rattle.i2c_top.proofs.Cited.{◌≡◌, ℕ, ◌+◌, List, [], ◌∷◌, sum_by, refl, sym, ap, ◌∙◌, All-head, All-tail, sum_by-cons, BoardView}
+use Rattle.i2c_top.proofs.Cited.{IsOpened, cost_of_script, CallerView, script_on, AreOpened, texts_of, cost_of_texts}
 
 abbrev pub cost_of_opened : CallerView → ℕ
 cost_of_opened s = cost_of_script s.script

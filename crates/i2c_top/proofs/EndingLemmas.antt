@@ -1,13 +1,14 @@
 -- The ending of a call of any form: what is told of it (`HasEndedAs`) is read off how it came to its end. No induction, by the
 -- class of the status; of a form it asks for the one law that every row keeps (`DecidesOnce`).
-use Rattle.std.proofs.Common.{◌≡◌, ℕ, ◌⊎◌, inl, inr, Bool, true, false, IsTrue, List, ◌++◌, Result, Ok, Err, refl, sym, ap, ◌∙◌, subst, append-nil}
-use Rattle.std.specs.Prelude.{⊤, IfOk, IfErr}
-use Rattle.ports.specs.Causes.{Rose, counted}
-use Rattle.i2c_top.specs.Endings.{shown_of, CameTo, CameToSuccess, CameToRefusal, IsAnswer, IsCaused, name_in, due_of, IsTextDue, IsStarved, IsWritten, IsRefusalWritten, HasSaid, HasEndedAs, IsCutShort}
-use Rattle.i2c_top.specs.Form.{Form, DecidesOnce, TellsItsFiles, IsStatusOf, own_of, told_of, unreached_of, rig_after, traced_of, IsCalm, KeepsShelf, KeepsSkipped}
-use Rattle.i2c_top.specs.Status.{Class, Done, Misused, Refused, Unread, NoRig, Silent, class_of, refusal_text}
-use Rattle.i2c_top.specs.Traces.{ShelfView, OutputView, RigView, Outside, IsAtMostOnce, IsRigLeft, IsTried, IsUnread}
-use Rattle.i2c_top.specs.declared.status.Status.{Status}
+use Rattle.i2c_top.proofs.Cited.{◌≡◌, ℕ, ◌⊎◌, inl, inr, Bool, true, false, IsTrue, List, ◌++◌, Result, Ok, Err, refl, sym, ap, ◌∙◌, subst}
+use Rattle.i2c_top.proofs.Cited.{append-nil, IfOk, IfErr, Rose, counted, CameToSuccess, CameToRefusal, name_in, IsRefusalWritten}
+use Rattle.i2c_top.proofs.Cited.{HasEndedAs, Form, DecidesOnce, TellsItsFiles, own_of, KeepsShelf, KeepsSkipped, Class, Done, Misused}
+use Rattle.i2c_top.proofs.Cited.{Refused, Unread, NoRig, Silent, class_of, ShelfView, RigView, Outside, IsAtMostOnce, Status}
+use Rattle.std.specs.Prelude.{⊤}
+use Rattle.i2c_top.specs.Endings.{shown_of, CameTo, IsAnswer, IsCaused, due_of, IsTextDue, IsStarved, IsWritten, HasSaid, IsCutShort}
+use Rattle.i2c_top.specs.Form.{IsStatusOf, told_of, unreached_of, rig_after, traced_of, IsCalm}
+use Rattle.i2c_top.specs.Status.{refusal_text}
+use Rattle.i2c_top.specs.Traces.{OutputView, IsRigLeft, IsTried, IsUnread}
 use Rattle.i2c_top.specs.declared.status.Status.TheVariants as status
 
 -- the statuses of the classes that have one or two
@@ -130,7 +131,8 @@ module _ (form : Form) (decides : DecidesOnce form) (old new : Outside) where
         | inr m ↦ inr m
       ]
 
-  ended_complete : (result : Status) → CameToEnd form old new result → TellsItsFiles form old.shelf → (s : Status) → form.cause old.shelf.file s
+  ended_complete : (result : Status) → CameToEnd form old new result → TellsItsFiles form old.shelf → (s : Status)
+      → form.cause old.shelf.file s
       → IsCalm form old new → (result ≡ s) ⊎ (result ≡ status.Memory)
   ended_complete result h t s cause calm =
       by_ending result (λ r. (r ≡ s) ⊎ (r ≡ status.Memory))

@@ -1,12 +1,10 @@
 -- A port that counted each fault of its log did so of one call more. The inductions go over the calls.
-use Rattle.std.proofs.Common.{◌≡◌, ℕ, ◌+◌, ◌<◌, ◌≤◌, inl, inr, false, List, [], ◌∷◌, ◌++◌, length, Result, Ok, Err, sym, ap, subst, arith}
-use Rattle.std.specs.Prelude.{OnOk, OnErr}
-use Rattle.std.proofs.lemmas.List.{length-append}
-use Rattle.i2c_base.specs.declared.port.PortCall.{PortCall}
+use Rattle.i2c_top.proofs.Cited.{◌≡◌, ℕ, ◌+◌, ◌<◌, ◌≤◌, inl, inr, false, List, [], ◌∷◌, ◌++◌, length, Result, Ok, Err, sym, ap, subst}
+use Rattle.i2c_top.proofs.Cited.{arith, OnOk, length-append, PortCall, MOST_CALLS, Rose, faults_in}
+use Rattle.std.specs.Prelude.{OnErr}
 use Rattle.i2c_base.specs.declared.port.PortCall.TheVariants as call
-use Rattle.i2c_base.specs.Limits.{MOST_CALLS}
-use Rattle.ports.specs.Causes.{HasCause, Rose, MOST}
-use Rattle.bus_spec.specs.Faults.{count_if, is_fault, faults_in}
+use Rattle.ports.specs.Causes.{HasCause, MOST}
+use Rattle.bus_spec.specs.Faults.{count_if, is_fault}
 
 pub faults-append : (xs ys : List PortCall) → faults_in (xs ++ ys) ≡ faults_in xs + faults_in ys
 faults-append [] ys = omega arith

@@ -1,26 +1,19 @@
 -- What came of reading a file, from what came of its text.
-use Rattle.std.proofs.Common.{◌≡◌, ℕ, ◌+◌, ◌<◌, ◌≤◌, ◌⊎◌, inl, inr, Bool, IsTrue, List, [], ◌∷◌, ◌++◌, length, take, get_or, Option, None, Some, unwrap_or, Result, Ok, Err, refl, sym, ap, subst, ◌∙◌, arith}
-use Rattle.std.specs.Prelude.{IfOk, OnOk, IfErr}
+use Rattle.i2c_top.proofs.Cited.{◌≡◌, ℕ, ◌+◌, ◌<◌, ◌≤◌, ◌⊎◌, inl, inr, Bool, IsTrue, List, [], ◌∷◌, ◌++◌, length, take, get_or, Option}
+use Rattle.i2c_top.proofs.Cited.{None, Some, Result, Ok, Err, refl, sym, ap, subst, ◌∙◌, arith, IfOk, OnOk, IfErr, cases_lt, take_all}
+use Rattle.i2c_top.proofs.Cited.{take_more, length-append, All-push, BoardView, IsOpened, script_read, commands_of, CallerView, script_on}
+use Rattle.i2c_top.proofs.Cited.{IsAccepted, IsRejected, Files, IsAcceptedIn, IsRejectedIn, AreScriptsIn, IsScheduleIn, IsOrderIn, HasRead}
+use Rattle.i2c_top.proofs.Cited.{IsRefusedAt, IsRefusedScript, IsBadBoard, IsBadScript, IsTooDear, IsFileRefusal, Rose, script_name}
+use Rattle.i2c_top.proofs.Cited.{IsInGrammar, HasScript, HasBadScript, HasScripts, HasBadSchedule, texts_in, Names, names_of}
+use Rattle.i2c_top.proofs.Cited.{HasScriptsBefore, HasTexts, cost_in, IsPlaceIn, IsSkipped, texts_of, cost_of_texts, schedule_read}
+use Rattle.i2c_top.proofs.Cited.{ShelfView, KeepsBut, BoardRefusal, Status}
+use Rattle.std.proofs.Common.{unwrap_or}
 use Rattle.std.specs.Result.{IsErrAnd}
-use Rattle.std.proofs.lemmas.Bool.{cases_lt}
-use Rattle.std.proofs.lemmas.List.{take_all, take_more, map_push, length-append}
-use Rattle.std.proofs.lemmas.List.Elements.{All-push}
+use Rattle.std.proofs.lemmas.List.{map_push}
 use Rattle.std.proofs.lemmas.Option.{unwrap_or-slice_get}
-use Rattle.i2c_base.specs.Board.{BoardView}
-use Rattle.caller_core.specs.Callers.{IsOpened}
-use Rattle.caller_core.specs.Scripts.{script_read, commands_of}
-use Rattle.caller_core.specs.View.{CallerView, script_on}
-use Rattle.i2c_top.specs.Boards.{IsAccepted, IsRejected}
-use Rattle.i2c_top.specs.Files.{Files, bytes_in}
-use Rattle.i2c_top.specs.Readings.{IsAcceptedIn, IsRejectedIn, IsScriptIn, AreScriptsIn, IsScheduleIn, IsOrderIn, HasRead, IsRefusedAt, IsRefusedScript, IsRefusedOrder, IsBadBoard, IsBadScript, IsTooDear, IsFileRefusal}
-use Rattle.ports.specs.Causes.{Rose}
-use Rattle.i2c_top.specs.Scripts.{script_name, IsInGrammar, HasScript, HasBadScript, HasScripts, HasBadSchedule, texts_in}
-use Rattle.i2c_top.specs.forms.Replays.{Names, names_of, HasScriptsBefore, HasTexts, first_script, cost_in, IsPlaceIn, IsScheduleAt, IsReadAfter, IsSkipped}
-use Rattle.i2c_top.specs.Runs.{texts_of, cost_of_texts}
-use Rattle.i2c_top.specs.Schedules.{schedule_read}
-use Rattle.i2c_top.specs.Traces.{ShelfView, KeepsBut}
-use Rattle.i2c_top.specs.declared.status.BoardRefusal.{BoardRefusal}
-use Rattle.i2c_top.specs.declared.status.Status.{Status}
+use Rattle.i2c_top.specs.Files.{bytes_in}
+use Rattle.i2c_top.specs.Readings.{IsScriptIn, IsRefusedOrder}
+use Rattle.i2c_top.specs.forms.Replays.{first_script, IsScheduleAt, IsReadAfter}
 use Rattle.i2c_top.specs.declared.status.Status.TheVariants as status
 
 pub accepted_in : (file : Files) (name text : List ℕ) (b : BoardView) → file name ≡ Some text → IsAccepted text b → IsAcceptedIn file name b

@@ -1,21 +1,14 @@
 -- How a call of `gen` ends: no file decides it, and a success is the summary of its run. No induction.
-use Rattle.std.proofs.Common.{◌≡◌, ℕ, ◌⊎◌, inl, false, IsTrue, List, [], None, Some, Result, Ok, Err, refl, sym, ◌∙◌, subst}
-use Rattle.std.specs.Prelude.{IfOk, IfErr, OnOk}
-use Rattle.caller_core.specs.View.{CallerView}
-use Rattle.i2c_base.specs.Board.{BoardView}
-use Rattle.i2c_base.specs.declared.port.PortCall.{PortCall}
+use Rattle.i2c_top.proofs.Cited.{◌≡◌, ℕ, ◌⊎◌, inl, false, IsTrue, List, [], None, Some, Result, Ok, Err, refl, sym, ◌∙◌, subst, IfOk, IfErr}
+use Rattle.i2c_top.proofs.Cited.{OnOk, CallerView, BoardView, PortCall, TargetState, texts_of, HasRunTold, Rose, counted, name_in}
+use Rattle.i2c_top.proofs.Cited.{CameToSuccess, CameToRefusal, IsRefusalWritten, HasEndedAs, DecidesOnce, own_of, KeepsShelf, Class, Done}
+use Rattle.i2c_top.proofs.Cited.{Misused, Refused, Unread, NoRig, Silent, class_of, ShelfView, RigView, Outside, IsAtMostOnce, summary_of}
+use Rattle.i2c_top.proofs.Cited.{gen_form, Status}
 use Rattle.i2c_gen.specs.Made.{AreMade, IsSchedule}
 use Rattle.i2c_gen.specs.Scripts.{scripts_of, schedule_of}
 use Rattle.i2c_gen.specs.declared.plan.Plan.{Plan}
-use Rattle.i2c_spec.specs.Targets.{TargetState}
-use Rattle.i2c_top.specs.Runs.{texts_of, HasRunTold}
-use Rattle.ports.specs.Causes.{Rose, counted}
-use Rattle.i2c_top.specs.Endings.{name_by_class, name_in, CameToSuccess, CameToRefusal, IsRefusalWritten, HasEndedAs}
-use Rattle.i2c_top.specs.Form.{DecidesOnce, own_of, KeepsShelf}
-use Rattle.i2c_top.specs.Status.{Class, Done, Misused, Refused, Unread, NoRig, Silent, class_of}
-use Rattle.i2c_top.specs.Traces.{ShelfView, RigView, Outside, IsAtMostOnce}
-use Rattle.i2c_top.specs.forms.Generations.{summary_of, HasSummary, HasGenerated, gen_form}
-use Rattle.i2c_top.specs.declared.status.Status.{Status}
+use Rattle.i2c_top.specs.Endings.{name_by_class}
+use Rattle.i2c_top.specs.forms.Generations.{HasSummary, HasGenerated}
 use Rattle.i2c_top.specs.declared.status.Status.TheVariants as status
 use Rattle.i2c_top.proofs.EndingLemmas.{came_to_success, memory_wanting, run_refused}
 
@@ -44,7 +37,8 @@ module _ (p : Plan) (shelf : ShelfView) (rig rig_now : RigView) where
   -- a run that ended is a success, by its summary
   pub gen_done : {X : Type 0} (r : Result X Status) (bytes_of : X → List ℕ) → rig_now.plugs ≡ counted rig.plugs → rig_now.plugged ≡ false
       → OnOk r (rig_now.unplugs ≡ counted rig.unplugs)
-      → (IsTrue rig_now.tells → IsTrue rig_now.ports_tell → IfOk r (λ x. HasSummary p (bytes_of x) rig_now.logs rig_now.states rig_now.counts))
+      → (IsTrue rig_now.tells → IsTrue rig_now.ports_tell → IfOk r
+      (λ x. HasSummary p (bytes_of x) rig_now.logs rig_now.states rig_now.counts))
       → IfOk r (λ x. CameToSuccess (gen_form p) shelf shelf rig rig_now (bytes_of x))
   gen_done (Ok x) bytes_of plugs unplugged unplugs run =
       came_to_success (gen_form p) shelf shelf rig rig_now (bytes_of x) (λ t. refl)
@@ -66,9 +60,11 @@ pub made_summary : {X : Type 0} (p : Plan) (board : BoardView) (scripts : List C
     → IfOk r (λ x. HasRunTold (summary_of p) board (texts_of scripts) (Some words) (bytes_of x) logs states counts)
     → IfOk r (λ x. HasSummary p (bytes_of x) logs states counts)
 made_summary p board scripts words (Ok x) bytes_of logs states counts made schedule run =
-    subst (λ (b : BoardView). HasRunTold (summary_of p) b (scripts_of p) (Some (schedule_of p)) (bytes_of x) logs states counts) made.board_is
+    subst (λ (b : BoardView). HasRunTold (summary_of p) b (scripts_of p) (Some (schedule_of p))
+    (bytes_of x) logs states counts) made.board_is
     (subst (λ (ts : List (List ℕ)). HasRunTold (summary_of p) board ts (Some (schedule_of p)) (bytes_of x) logs states counts) made.texts
-    (subst (λ (ws : List ℕ). HasRunTold (summary_of p) board (texts_of scripts) (Some ws) (bytes_of x) logs states counts) schedule.same run))
+    (subst (λ (ws : List ℕ). HasRunTold (summary_of p) board (texts_of scripts) (Some ws) (bytes_of x) logs states counts) schedule.same
+    run))
 made_summary p board scripts words (Err e) bytes_of logs states counts made schedule run = tt
 
 -- what was written for a refusal has no name in it, whatever the words are

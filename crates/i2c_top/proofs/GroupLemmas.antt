@@ -1,34 +1,16 @@
 -- Scripts over groups: each names by its bits what its transfers name, and has left what it costs. The inductions go over the scripts.
-use Rattle.std.proofs.Common.{◌≡◌, ℕ, zero, suc, ◌+◌, ◌<◌, ◌≤◌, true, IsTrue, List, [], ◌∷◌, length, map, sum_by, Some, None, Result, Ok, Err, refl, sym, ◌∙◌, ap, subst, arith}
-use Rattle.std.specs.Prelude.{IfOk, slice_get, ◌==◌}
-use Rattle.std.specs.List.{enumerate_from, range_with_len, AllZip}
-use Rattle.std.proofs.lemmas.List.{length-map}
-use Rattle.std.proofs.lemmas.List.Elements.{All-head, All-tail}
-use Rattle.std.proofs.lemmas.List.Sums.{sum_by-cons}
-use Rattle.i2c_base.specs.declared.entry.Entry.{Entry}
-use Rattle.i2c_base.specs.Board.{BoardView}
-use Rattle.i2c_base.specs.Limits.{MOST_CALLERS}
-use Rattle.i2c_base.proofs.ListLemmas.{map_from}
+use Rattle.i2c_top.proofs.Cited.{◌≡◌, ℕ, zero, suc, ◌+◌, ◌<◌, ◌≤◌, true, IsTrue, List, [], ◌∷◌, length, map, sum_by, Some, None, Result, Ok}
+use Rattle.i2c_top.proofs.Cited.{Err, refl, sym, ◌∙◌, ap, subst, arith, IfOk, slice_get, enumerate_from, range_with_len, AllZip, length-map}
+use Rattle.i2c_top.proofs.Cited.{All-head, All-tail, sum_by-cons, Entry, BoardView, MOST_CALLERS, map_from, IsFairCaller, IsPlainBoard}
+use Rattle.i2c_top.proofs.Cited.{MeetsRules, root_of, roots_of, callers_scripts, scripts_of, HaveRun, one_of, Ran, zip-length, IsOpened}
+use Rattle.i2c_top.proofs.Cited.{board_of, HasRoots, asked_by, left_of, commands_of, cost_of_script, CallerView, script_on, left_at_first}
+use Rattle.i2c_top.proofs.Cited.{AreFresh, IsLeftOf, script_row, AreOpened, texts_of, cost_of_texts, MOST_COST, IsOfGroups}
+use Rattle.std.specs.Prelude.{◌==◌}
 use Rattle.ports.specs.declared.port.Port.{Ghosts as PortGhosts}
-use Rattle.i2c_spec.specs.Fair.{IsFairCaller}
-use Rattle.i2c_spec.specs.Plain.{IsPlainBoard}
-use Rattle.i2c_spec.specs.Rules.{MeetsRules}
-use Rattle.i2c_spec.specs.Tree.{buses, root_of}
+use Rattle.i2c_spec.specs.Tree.{buses}
 use Rattle.bus_groups.specs.Homes.{names, homes_of, caller_home_at, AreByHomes}
-use Rattle.bus_core.specs.Kept.{roots_of}
-use Rattle.bus_core.specs.Opens.{callers_scripts}
-use Rattle.bus_core.specs.Places.{scripts_of}
-use Rattle.bus_groups.specs.Rounds.{AreNamed, HaveRun, MayRun, no_core, one_of}
-use Rattle.bus_groups.specs.declared.together.Ran.{Ran}
-use Rattle.bus_groups.proofs.ShareLemmas.{zip-length}
-use Rattle.caller_core.specs.Callers.{IsOpened, board_of}
-use Rattle.caller_core.specs.Roots.{HasRoots}
-use Rattle.caller_core.specs.Scripts.{asked_by, left_of, commands_of, cost_of_script}
-use Rattle.caller_core.specs.View.{CallerView, script_on}
-use Rattle.caller_core.proofs.FairLemmas.{left_at_first}
+use Rattle.bus_groups.specs.Rounds.{AreNamed, MayRun, no_core}
 use Rattle.caller_core.proofs.NameLemmas.{asked_named}
-use Rattle.i2c_top.specs.Cores.{AreFresh, IsLeftOf}
-use Rattle.i2c_top.specs.Runs.{script_row, AreOpened, texts_of, cost_of_texts, MOST_COST, IsOfGroups}
 use Rattle.i2c_top.proofs.CoreLemmas.{numbered-at, may-open, core-over, scripts-same, ports-count}
 use Rattle.i2c_top.proofs.TextLemmas.{opened-ready, opened-left}
 

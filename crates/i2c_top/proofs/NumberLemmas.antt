@@ -1,15 +1,15 @@
 -- The number that a word names, where it is read as digits by the library.
-use Rattle.std.proofs.Common.{◌≡◌, ℕ, ◌<◌, ◌≤◌, ◌⊎◌, inl, inr, ◌^◌, ◌==◌, nat_le, nat_lt, not, ◌&&◌, ◌||◌, Bool, true, false, if◌then◌else◌, List, [], ◌∷◌, length, Result, Ok, Err, None, Some, refl, sym, ◌∙◌, ap, arith, leb-true, ltb-true}
+use Rattle.i2c_top.proofs.Cited.{◌≡◌, ℕ, ◌<◌, ◌≤◌, ◌⊎◌, inl, inr, ◌^◌, ◌==◌, ◌&&◌, Bool, true, false, if◌then◌else◌, List, [], ◌∷◌, length}
+use Rattle.i2c_top.proofs.Cited.{Result, Ok, Err, None, Some, refl, sym, ◌∙◌, ap, arith, list_all, cases_lt, and_parts, is_numeral}
+use Rattle.std.proofs.Common.{nat_le, nat_lt, not, ◌||◌, leb-true, ltb-true}
 use Rattle.std.specs.Prelude.{slice_index}
-use Rattle.std.specs.List.{list_all}
 use Rattle.std.specs.Str.{all_ascii_digits}
 use Rattle.std.specs.Char.{is_ascii_digit}
 use Rattle.std.specs.Str.Parse.{ParsesUnsigned, digits_value}
 use Rattle.std.specs.Result.{OkIff}
-use Rattle.std.proofs.lemmas.Bool.{cases_lt, and_parts}
 use Rattle.std.proofs.lemmas.Str.Parse.{tells_all_ascii_digits, numerals_by_value, parse_digits}
 use Rattle.tools.specs.Numbers.{is_decimal, within}
-use Rattle.i2c_top.specs.Numbers.{is_numeral, number_named}
+use Rattle.i2c_top.specs.Numbers.{number_named}
 
 -- digits, one after the other
 pub all_digits : (word : List ℕ) → list_all is_ascii_digit word ≡ all_ascii_digits word
@@ -40,7 +40,8 @@ module _ (word : List ℕ) (low high : ℕ) (small : high < 2 ^ 64) (is : is_num
   numeral : number_named low high word ≡ within low high (Some (digits_value 10 word))
   numeral = ap (λ (t : Bool). if t then within low high (Some (digits_value 10 word)) else None) is
 
-  read : {E : Type 0} (r : Result ℕ E) → ParsesUnsigned 64 10 word r → OkIff r ((0 < length word) × (digits_value 10 word < 2 ^ 64)) (digits_value 10 word)
+  read : {E : Type 0} (r : Result ℕ E) → ParsesUnsigned 64 10 word r → OkIff r ((0 < length word) × (digits_value 10 word < 2 ^ 64))
+      (digits_value 10 word)
   read r parsed = parse_digits (numerals_by_value _ tells_all_ascii_digits) 64 word r parsed digits
 
   pub named_read : (E : Type 0) (n : ℕ) → ParsesUnsigned {E = E} 64 10 word (Ok n) → number_named low high word ≡ within low high (Some n)

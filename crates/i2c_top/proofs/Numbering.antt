@@ -1,8 +1,7 @@
 -- A list that goes over into another, one element after the other: each under its number, or alone.
-use Rattle.std.proofs.Common.{◌≡◌, ℕ, suc, ◌+◌, ◌<◌, ◌≤◌, List, [], ◌∷◌, ◌++◌, length, map, All, refl, sym, ◌∙◌, ap, subst, arith}
-use Rattle.std.specs.List.{enumerate_from}
-use Rattle.std.proofs.lemmas.List.{length-append, append_assoc}
-use Rattle.std.proofs.lemmas.List.Elements.{All-head, All-tail}
+use Rattle.i2c_top.proofs.Cited.{◌≡◌, ℕ, suc, ◌+◌, ◌<◌, ◌≤◌, List, [], ◌∷◌, ◌++◌, length, map, All, refl, sym, ◌∙◌, ap, subst, arith}
+use Rattle.i2c_top.proofs.Cited.{enumerate_from, length-append, All-head, All-tail}
+use Rattle.std.proofs.lemmas.List.{append_assoc}
 use Rattle.journal_check.proofs.PortLemmas.{numbered-push}
 
 -- so far `out` is what a function tells of the elements that came, `rest` is to come, and there is room for all

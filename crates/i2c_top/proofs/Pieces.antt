@@ -1,12 +1,12 @@
 -- A text that is taken in pieces.
-use Rattle.std.proofs.Common.{◌≡◌, ℕ, ◌+◌, ◌≤◌, List, [], ◌∷◌, ◌++◌, flat_map, refl, take, drop, get_or, codes, Option, Some, None, length, length-append, append-nil, ◌<◌, arith, append_assoc, sym, ap, ◌∙◌}
+use Rattle.i2c_top.proofs.Cited.{◌≡◌, ℕ, ◌+◌, ◌≤◌, List, [], ◌∷◌, ◌++◌, flat_map, refl, take, drop, get_or, codes, Option, Some, None}
+use Rattle.i2c_top.proofs.Cited.{length, append-nil, ◌<◌, arith, append_assoc, sym, ap, ◌∙◌, option_map_or, take_more, drop_more}
+use Rattle.i2c_top.proofs.Cited.{ended_line, JournalView, HasFront, lines_of}
+use Rattle.std.proofs.Common.{length-append}
 use Rattle.std.proofs.Math.Seq.{take-add, take-append-add}
-use Rattle.std.specs.Option.{option_map_or, option_to_list}
+use Rattle.std.specs.Option.{option_to_list}
 use Rattle.std.proofs.lemmas.Grind.{flat_map-append}
-use Rattle.std.proofs.lemmas.List.{take_more, drop_more, take-append-le, take-append-drop}
-use Rattle.bus_spec.specs.Report.{ended_line}
-use Rattle.bus_journal.specs.View.{JournalView}
-use Rattle.i2c_top.specs.Written.{HasFront, lines_of}
+use Rattle.std.proofs.lemmas.List.{take-append-le, take-append-drop}
 
 -- one piece more of what is left
 pub pieces_more : (before mid after text rest : List ℕ) (n m : ℕ)
@@ -38,7 +38,8 @@ whole journals rest (Some j) parted =
     ∙ sym (flat_map-append (λ (k : JournalView). flat_map ended_line k.entries) rest (j ∷ [])) ∙ ap lines_of (sym parted)
 
 -- the lines of journals are those of all their entries
-reported_lines : (journals : List JournalView) → flat_map ended_line (flat_map (λ (j : JournalView). j.entries) journals) ≡ lines_of journals
+reported_lines : (journals : List JournalView) → flat_map ended_line (flat_map (λ (j : JournalView). j.entries) journals)
+    ≡ lines_of journals
 reported_lines [] = refl
 reported_lines (j ∷ js) =
     flat_map-append ended_line j.entries (flat_map (λ (k : JournalView). k.entries) js)
@@ -64,7 +65,8 @@ front_within before mid after text first piece rest is whole front =
 
 -- the lines of journals from a place on
 pub lines_split : (journals : List JournalView) (i : ℕ) (d : JournalView) → i < length journals
-    → lines_of journals ≡ lines_of (take i journals) ++ (flat_map ended_line (get_or journals i d).entries ++ lines_of (drop (i + 1) journals))
+    → lines_of journals ≡ lines_of (take i journals) ++ (flat_map ended_line (get_or journals i d).entries ++ lines_of
+    (drop (i + 1) journals))
 lines_split journals i d low =
     ap lines_of (sym (take-append-drop i journals))
     ∙ flat_map-append (λ (j : JournalView). flat_map ended_line j.entries) (take i journals) (drop i journals)

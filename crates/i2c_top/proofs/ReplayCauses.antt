@@ -1,18 +1,13 @@
 -- The files of a replay decide one status: of two that they are a cause of, both are the same.
-use Rattle.std.proofs.Common.{◌≡◌, ℕ, ◌<◌, ◌≤◌, ◌⊎◌, inl, inr, List, length, Option, None, Some, Result, Ok, Err, refl, sym, ◌∙◌, ap, subst, arith}
+use Rattle.i2c_top.proofs.Cited.{◌≡◌, ℕ, ◌<◌, ◌≤◌, ◌⊎◌, inl, inr, List, length, Option, None, Some, Result, Ok, Err, refl, sym, ◌∙◌, ap}
+use Rattle.i2c_top.proofs.Cited.{subst, arith, BoardView, HasAccepted, HasRejected, Files, script_name, HasScript, HasBadScript, HasScripts}
+use Rattle.i2c_top.proofs.Cited.{HasBadSchedule, Names, HasTexts, HasFiles, HasScriptsBefore, cost_in, replay_form, DecidesOnce, MOST_COST}
+use Rattle.i2c_top.proofs.Cited.{script_read, commands_of, script_on, schedule_read, BoardRefusal, Status}
 use Rattle.std.proofs.lemmas.Bool.{cases_order}
-use Rattle.i2c_base.specs.Board.{BoardView}
-use Rattle.i2c_top.specs.Boards.{HasAccepted, HasRejected}
-use Rattle.i2c_top.specs.Files.{Files}
-use Rattle.i2c_top.specs.Scripts.{script_name, HasScript, HasBadScript, HasScripts, HasSchedule, HasBadSchedule, HasOrder, HasBadOrder}
-use Rattle.i2c_top.specs.forms.Replays.{Names, HasTexts, HasFiles, HasDearFiles, HasScriptsBefore, cost_in, IsReplayCause, replay_form}
-use Rattle.i2c_top.specs.Form.{DecidesOnce}
-use Rattle.i2c_top.specs.Runs.{MOST_COST}
-use Rattle.caller_core.specs.Scripts.{Place, script_read, commands_of}
-use Rattle.caller_core.specs.View.{CommandView, script_on}
-use Rattle.i2c_top.specs.Schedules.{schedule_read}
-use Rattle.i2c_top.specs.declared.status.BoardRefusal.{BoardRefusal}
-use Rattle.i2c_top.specs.declared.status.Status.{Status}
+use Rattle.i2c_top.specs.Scripts.{HasSchedule, HasOrder, HasBadOrder}
+use Rattle.i2c_top.specs.forms.Replays.{HasDearFiles, IsReplayCause}
+use Rattle.caller_core.specs.Scripts.{Place}
+use Rattle.caller_core.specs.View.{CommandView}
 use Rattle.i2c_top.specs.declared.status.Status.TheVariants as status
 use Rattle.i2c_top.proofs.BoardLemmas.{one_text, no_board, one_why, one_board_in}
 
@@ -28,7 +23,8 @@ no_script file board name line word s b =
 not_words : (r : Result (List ℕ) ℕ) (cs : List ℕ) (w : ℕ) → r ≡ Ok cs → r ≡ Err w → ⊥
 not_words r cs w e f = absurd (let h : Ok cs ≡ Err w = sym e ∙ f in cc)
 
-pub no_schedule : (file : Files) (name : List ℕ) (callers word : ℕ) → HasSchedule file name callers → HasBadSchedule file name callers word → ⊥
+pub no_schedule : (file : Files) (name : List ℕ) (callers word : ℕ) → HasSchedule file name callers → HasBadSchedule file name callers word
+    → ⊥
 no_schedule file name callers word s b =
     not_words (schedule_read callers b.text) s.words word
     (ap (schedule_read callers) (sym (one_text (file name) s.text b.text s.there b.there)) ∙ s.read) b.fault

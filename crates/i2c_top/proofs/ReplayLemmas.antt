@@ -1,20 +1,14 @@
 -- How a call of `replay` or `run` ends: its report, and what its status tells. No induction.
-use Rattle.std.proofs.Common.{◌≡◌, ℕ, ◌<◌, ◌≤◌, ◌⊎◌, inl, true, false, IsTrue, IsSome, List, [], length, Option, None, Some, Result, Ok, Err, refl, sym, ◌∙◌, ap, subst, arith}
-use Rattle.std.specs.Prelude.{All, IfOk, IfErr, OnOk, is_some, unwrap_or}
+use Rattle.i2c_top.proofs.Cited.{◌≡◌, ℕ, ◌<◌, ◌≤◌, ◌⊎◌, inl, true, false, IsTrue, IsSome, List, [], length, Option, None, Some, Result, Ok}
+use Rattle.i2c_top.proofs.Cited.{Err, refl, sym, ◌∙◌, ap, subst, arith, IfOk, IfErr, OnOk, is_some, unwrap_or, PortCall, BoardView}
+use Rattle.i2c_top.proofs.Cited.{TargetState, Rose, counted, CameToSuccess, CameToRefusal, HasEndedAs, HasRead, HasReadSome, IsOrderIn}
+use Rattle.i2c_top.proofs.Cited.{IsFileRefusal, Files, Form, TellsItsFiles, KeepsShelf, KeepsSkipped, texts_in, Names, HasFiles}
+use Rattle.i2c_top.proofs.Cited.{IsReplayAnswer, replay_form, HasRun, cost_of_texts, MOST_COST, ShelfView, RigView, Outside, IsAtMostOnce}
+use Rattle.i2c_top.proofs.Cited.{Status}
+use Rattle.std.specs.Prelude.{All}
 use Rattle.std.proofs.lemmas.Bool.{false≢true}
-use Rattle.i2c_base.specs.declared.port.PortCall.{PortCall}
-use Rattle.i2c_base.specs.Board.{BoardView}
-use Rattle.i2c_spec.specs.Targets.{TargetState}
-use Rattle.ports.specs.Causes.{Rose, counted}
-use Rattle.i2c_top.specs.Endings.{CameToSuccess, CameToRefusal, HasEndedAs}
-use Rattle.i2c_top.specs.Readings.{AreNamed, HasRead, HasReadSome, IsOrderIn, IsFileRefusal}
-use Rattle.i2c_top.specs.Files.{Files}
-use Rattle.i2c_top.specs.Form.{Form, TellsItsFiles, KeepsShelf, KeepsSkipped}
-use Rattle.i2c_top.specs.Scripts.{texts_in}
-use Rattle.i2c_top.specs.forms.Replays.{Names, HasFiles, HasReport, HasReplayed, IsReplayAnswer, reading_form, replay_form}
-use Rattle.i2c_top.specs.Runs.{HasRun, cost_of_texts, MOST_COST}
-use Rattle.i2c_top.specs.Traces.{ShelfView, RigView, Outside, IsAtMostOnce}
-use Rattle.i2c_top.specs.declared.status.Status.{Status}
+use Rattle.i2c_top.specs.Readings.{AreNamed}
+use Rattle.i2c_top.specs.forms.Replays.{HasReport, HasReplayed, reading_form}
 use Rattle.i2c_top.specs.declared.status.Status.TheVariants as status
 use Rattle.i2c_top.proofs.EndingLemmas.{came_to_success, text_refused, file_unread, run_refused, memory_wanting}
 use Rattle.i2c_top.proofs.FileLemmas.{has_texts, cost_read, first_low}
@@ -60,10 +54,12 @@ read_order file None callers words some is = absurd (false≢true some)
 read_order file (Some name) callers words some is = ap (λ (ws : Option (List ℕ)). Some (unwrap_or ws [])) is.same ∙ sym is.same
 
 -- where there is a schedule its words are those that were read
-pub order_of_some : (names : Names) (b : BoardView) (texts : List (List ℕ)) (words : Option (List ℕ)) (some : HasReadSome names b texts words)
+pub order_of_some : (names : Names) (b : BoardView) (texts : List (List ℕ)) (words : Option (List ℕ))
+    (some : HasReadSome names b texts words)
     → IsSome names.schedule → Some (unwrap_or words []) ≡ words
 order_of_some names b texts words some scheduled =
-    read_order some.file some.called.schedule (length some.called.scripts) words (subst IsTrue (sym some.like.schedule) scheduled) some.so.order_in
+    read_order some.file some.called.schedule (length some.called.scripts) words (subst IsTrue
+    (sym some.like.schedule) scheduled) some.so.order_in
 
 none_like : {X : Type 0} (o p : Option X) → is_some o ≡ is_some p → p ≡ None → o ≡ None
 none_like None p same none = refl
@@ -87,7 +83,8 @@ module _ (names : Names) (answer : Files → Names → RigView → List ℕ → 
       → CameToRefusal form shelf shelf_now rig rig s
   files_refused status.Memory kept skipped h =
       memory_wanting form shelf shelf_now rig rig (inl (record { plugs = refl; unplugs = refl })) kept
-  files_refused (status.Read place) kept skipped h = file_unread form shelf shelf_now rig place (when names answer shelf h.1) h.0 skipped kept
+  files_refused (status.Read place) kept skipped h = file_unread form shelf shelf_now rig place
+      (when names answer shelf h.1) h.0 skipped kept
   files_refused (status.Board why) kept skipped h =
       text_refused form shelf shelf_now rig (status.Board why) refl (when names answer shelf h)
       (record {

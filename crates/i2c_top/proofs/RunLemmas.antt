@@ -1,47 +1,30 @@
 -- A run that is over: its journal is legal and complete, and the ports and the devices are what it tells. The induction goes
 -- over the entries.
-use Rattle.std.proofs.Common.{◌≡◌, ℕ, ◌<◌, ◌≤◌, ◌⊎◌, inl, inr, List, [], ◌∷◌, length, map, All, reverse, get_or, Option, Some, None, sym, ◌∙◌, ap, subst, arith, cond, zero-add}
-use Rattle.std.specs.Prelude.{slice_get}
-use Rattle.std.specs.List.{range_with_len}
-use Rattle.std.specs.Option.{option_map, option_map_or}
-use Rattle.std.proofs.lemmas.Bool.{cases_lt}
-use Rattle.std.proofs.lemmas.List.{same_lists, length-map}
-use Rattle.std.proofs.lemmas.List.FromFn.{length-map-range_with_len, get_or-map-range_with_len}
-use Rattle.std.proofs.lemmas.Option.{get_or_from_slice_get, slice_get_past, slice_get_cases, slice_get-map}
+use Rattle.i2c_top.proofs.Cited.{◌≡◌, ℕ, ◌<◌, ◌≤◌, ◌⊎◌, inl, inr, List, [], ◌∷◌, length, map, All, reverse, get_or, Option, Some, None, sym}
+use Rattle.i2c_top.proofs.Cited.{◌∙◌, ap, subst, arith, cond, zero-add, slice_get, range_with_len, option_map, option_map_or, cases_lt}
+use Rattle.i2c_top.proofs.Cited.{length-map, length-map-range_with_len, get_or-map-range_with_len, get_or_from_slice_get, slice_get_past}
+use Rattle.i2c_top.proofs.Cited.{slice_get-map, Entry, PortCall, Reply, BoardView, TransferView, IsTransfer, IsFairCaller, TargetState}
+use Rattle.i2c_top.proofs.Cited.{World, AreWorldsOf, devices_of, Asks, tree_of, Ends, now, world_at, calls_of, IsStepwise, IsComplete}
+use Rattle.i2c_top.proofs.Cited.{IsLegal, KeepsReplies, report_lines, report_of, text_of, AsksForMessages, AsksWithinLimits, asked_by}
+use Rattle.i2c_top.proofs.Cited.{script_on, IsEntry, asks_in, printed_in, scripts_in, IsOver, IsRunBy, AreCounted, asks_by}
+use Rattle.std.proofs.lemmas.List.{same_lists}
+use Rattle.std.proofs.lemmas.Option.{slice_get_cases}
 use Rattle.i2c_base.specs.declared.caller.Caller.{Ghosts as CallerGhosts}
-use Rattle.i2c_base.specs.declared.entry.Entry.{Entry}
 use Rattle.i2c_base.specs.declared.entry.Entry.TheVariants as entry
-use Rattle.i2c_base.specs.declared.port.PortCall.{PortCall}
-use Rattle.i2c_base.specs.declared.reply.Reply.{Reply}
-use Rattle.i2c_base.specs.Board.{BoardView}
-use Rattle.i2c_base.specs.Transfer.{TransferView, IsTransfer}
-use Rattle.i2c_spec.specs.Fair.{IsFairCaller}
-use Rattle.i2c_spec.specs.Targets.{TargetState}
-use Rattle.i2c_spec.specs.World.{World, AreWorldsOf, devices_of}
-use Rattle.i2c_spec.specs.History.{Asks, History}
-use Rattle.i2c_spec.proofs.AddressLemmas.{tree_of}
-use Rattle.bus_spec.specs.Walk.{Act, Take, Free, Send, Shift, Settle, Ends}
+use Rattle.i2c_spec.specs.History.{History}
+use Rattle.bus_spec.specs.Walk.{Act, Take, Free, Send, Shift, Settle}
 use Rattle.bus_spec.specs.Grammar.{seen, is_over, first_act}
 use Rattle.bus_spec.specs.Readings.{replies}
-use Rattle.bus_spec.specs.Past.{Now, begun, current, now, world_at, calls_of}
-use Rattle.bus_spec.specs.Stepwise.{May, IsStepwise}
-use Rattle.bus_spec.specs.Legal.{IsComplete, IsLegal, KeepsReplies}
+use Rattle.bus_spec.specs.Past.{Now, begun, current}
+use Rattle.bus_spec.specs.Stepwise.{May}
 use Rattle.bus_spec.specs.Ruled.{IsRuled, IsThrough}
 use Rattle.bus_spec.specs.Stand.{calls_by}
-use Rattle.bus_spec.specs.Report.{report_lines, report_of, text_of}
-use Rattle.bus_laws.specs.Reach.{AsksForMessages, AsksWithinLimits}
 use Rattle.bus_laws.proofs.Laws.{lines-locked, settled-told}
 use Rattle.flat_laws.specs.Ends.{IsDone}
 use Rattle.flat_laws.specs.Left.{LeavesDevices, worlds_of}
 use Rattle.flat_laws.proofs.Laws.{replies-kept, legal-with, devices-left, complete-then, strangers-end}
 use Rattle.flat_laws.proofs.walk.Ruled.{ruled, ruled-calls}
-use Rattle.caller_core.specs.Scripts.{asked_by}
-use Rattle.caller_core.specs.View.{script_on}
-use Rattle.bus_journal.specs.Ranges.{IsEntry}
-use Rattle.i2c_top.specs.Callers.{asks_in, printed_in, scripts_in, IsOver, IsRunBy}
 use Rattle.i2c_top.specs.Cores.{AreGivenBack}
-use Rattle.i2c_top.specs.Faults.{AreCounted}
-use Rattle.i2c_top.specs.Runs.{asks_by}
 
 -- two ways of asking that give the same are one
 pub same_asks : (f g : Asks) → ((c : ℕ) (rs : List Reply) → f c rs ≡ g c rs) → f ≡ g
@@ -111,7 +94,8 @@ pub of_asks : (b : BoardView) (texts : List (List ℕ)) (Q : TransferView → Ty
 of_asks b texts Q each = asks_hold (λ text. asked_by (script_on b text)) texts Q each
 
 module _ {C S : Type 0} (row : CallerGhosts C S) (b : BoardView) (callers : List C) (many : ℕ) (journal : List Entry) (worlds : List World)
-    (logs : List (List PortCall)) (fair : IsFairCaller row.asked row.left row.board) (over : IsOver row b callers many journal worlds logs) where
+    (logs : List (List PortCall)) (fair : IsFairCaller row.asked row.left row.board)
+    (over : IsOver row b callers many journal worlds logs) where
   abbrev scripts : List S
   scripts = scripts_in row callers
 
@@ -184,7 +168,8 @@ module _ {C S : Type 0} (row : CallerGhosts C S) (b : BoardView) (callers : List
   -- their report is that of the journal, whatever each prints
   module _ (printed : S → List Reply → List ℕ) where
     section_at : (c : ℕ) → c < count
-        → slice_get (map (λ (s : C). printed (row.script s) (row.taken s)) callers) c ≡ Some (text_of (printed_in printed scripts) journal c)
+        → slice_get (map (λ (s : C). printed (row.script s) (row.taken s)) callers) c ≡ Some
+        (text_of (printed_in printed scripts) journal c)
     section_at c known =
         let s = caller_at c known in
         slice_get-map (λ (x : C). printed (row.script x) (row.taken x)) callers c
@@ -196,7 +181,8 @@ module _ {C S : Type 0} (row : CallerGhosts C S) (b : BoardView) (callers : List
         ≡ map (text_of (printed_in printed scripts) journal) (range_with_len 0 count)
     sections_are =
         listed (text_of (printed_in printed scripts) journal) (map (λ (s : C). printed (row.script s) (row.taken s)) callers) count
-        (length-map callers (λ (s : C). printed (row.script s) (row.taken s)) ∙ sym (length-map callers (λ (s : C). row.script s))) section_at
+        (length-map callers (λ (s : C). printed (row.script s) (row.taken s)) ∙ sym (length-map callers (λ (s : C). row.script s)))
+        section_at
 
     -- their report is that of the journal
     pub report-over : (bytes : List ℕ) → bytes ≡ report_lines (map (λ (s : C). printed (row.script s) (row.taken s)) callers) journal
@@ -216,7 +202,8 @@ module _ {C S : Type 0} (row : CallerGhosts C S) (b : BoardView) (callers : List
 
   is_complete : IsThrough count asks past
   is_complete =
-      let whole : IsComplete b count asks past = complete-then b (tree_of b over.plain over.rules) over.plain (lines-locked b over.rules) asks
+      let whole : IsComplete b count asks past = complete-then b (tree_of b over.plain over.rules) over.plain
+      (lines-locked b over.rules) asks
       some count past stepwise is_done in
       record { asked = whole.asked; free = whole.free }
 
@@ -241,6 +228,7 @@ module _ {C S : Type 0} (row : CallerGhosts C S) (b : BoardView) (callers : List
         complete = is_complete;
         called = given.logged are_worlds ∙ logs_are
             ∙ ap (λ (calls : ℕ → List PortCall). map calls (range_with_len 0 (length b.roots))) same_calls;
-        faults = subst (λ (ls : List (List PortCall)). AreCounted b ls counts) (sym (given.logged are_worlds)) (given.counted over.logs_count);
+        faults = subst (λ (ls : List (List PortCall)). AreCounted b ls counts) (sym (given.logged are_worlds))
+            (given.counted over.logs_count);
         left = given.devices are_worlds ∙ ap (devices_of b) worlds_are ∙ left_by.states ∙ same_states;
       }

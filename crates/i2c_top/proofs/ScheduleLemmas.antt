@@ -1,14 +1,13 @@
 -- The words of a schedule, one after the other. The inductions go over its bytes.
-use Rattle.std.proofs.Common.{◌≡◌, ℕ, ◌+◌, ◌-◌, ◌<◌, ◌≤◌, Bool, true, false, List, [], ◌∷◌, ◌++◌, length, Some, None, Result, Ok, Err, refl, sym, ap, subst, ◌∙◌, arith, cond, ◌&&◌, append_assoc}
-use Rattle.std.proofs.lemmas.List.{length-append}
+use Rattle.i2c_top.proofs.Cited.{◌≡◌, ℕ, ◌+◌, ◌-◌, ◌<◌, ◌≤◌, Bool, true, false, List, [], ◌∷◌, ◌++◌, length, Some, None, Result, Ok, Err}
+use Rattle.i2c_top.proofs.Cited.{refl, sym, ap, subst, ◌∙◌, arith, cond, ◌&&◌, append_assoc, length-append, All-push, and_parts}
+use Rattle.i2c_top.proofs.Cited.{MOST_CALLERS, behind_callers, callers_from}
 use Rattle.std.specs.Prelude.{All, ◌↔◌, nat_le, nat_lt}
-use Rattle.std.proofs.lemmas.List.Elements.{All-push}
 use Rattle.std.specs.Fmt.{decimal}
-use Rattle.std.proofs.lemmas.Bool.{and_from, and_parts, leb-true, ltb-true, le-leb, lt-ltb}
+use Rattle.std.proofs.lemmas.Bool.{and_from, leb-true, ltb-true, le-leb, lt-ltb}
 use Rattle.std.proofs.lemmas.Fmt.{decimal_digit}
 use Rattle.std.proofs.lemmas.Option.{same_Some, none-some}
-use Rattle.i2c_base.specs.Limits.{MOST_CALLERS}
-use Rattle.i2c_top.specs.Schedules.{caller_named, caller_at, behind_callers, behind_entry, callers_from}
+use Rattle.i2c_top.specs.Schedules.{caller_named, caller_at, behind_entry}
 
 -- what stands in front of what is read
 behind_two : (cs : List ℕ) (c : ℕ) (r : Result (List ℕ) ℕ) → behind_callers cs (behind_callers (c ∷ []) r) ≡ behind_callers (cs ++ c ∷ []) r

@@ -1,23 +1,14 @@
 -- What a shelf gave, whatever it tells, as the files of other names: each file is called by the number of its place. The inductions go
 -- over the texts.
-use Rattle.std.proofs.Common.{◌≡◌, ℕ, suc, zero, ◌+◌, ◌<◌, List, [], ◌∷◌, length, map, All, Option, None, Some, Ok, refl, sym, ◌∙◌, ap, subst, unwrap_or, arith}
-use Rattle.std.specs.Prelude.{slice_get, is_some}
-use Rattle.std.specs.Option.{option_map}
-use Rattle.std.proofs.lemmas.List.{length-map}
-use Rattle.std.proofs.lemmas.List.Elements.{All-head, All-tail}
-use Rattle.addr_atr.specs.Maps.{MapView}
-use Rattle.caller_core.specs.View.{CallerView}
-use Rattle.i2c_base.specs.Board.{BoardView}
-use Rattle.i2c_top.specs.Boards.{IsSpelled}
-use Rattle.i2c_top.specs.Files.{Files, OfSomeFiles, IsAnyName}
+use Rattle.i2c_top.proofs.Cited.{◌≡◌, ℕ, suc, zero, ◌+◌, ◌<◌, List, [], ◌∷◌, length, map, All, Option, None, Some, Ok, refl, sym, ◌∙◌, ap}
+use Rattle.i2c_top.proofs.Cited.{subst, arith, slice_get, is_some, option_map, length-map, All-head, All-tail, MapView, CallerView}
+use Rattle.i2c_top.proofs.Cited.{BoardView, IsSpelled, Files, IsAnyName, IsAcceptedIn, IsOrderIn, HasReadSome, HasReadSomeJournal}
+use Rattle.i2c_top.proofs.Cited.{HasReadSomeMap, texts_of, schedule_read, script_name, texts_in, IsInGrammar, HasScript, HasScripts}
+use Rattle.i2c_top.proofs.Cited.{AtrNames, Names, names_of, VerifyNames}
+use Rattle.std.proofs.Common.{unwrap_or}
+use Rattle.i2c_top.specs.Files.{OfSomeFiles}
 use Rattle.i2c_top.specs.MapFiles.{IsMapSpelled}
-use Rattle.i2c_top.specs.Readings.{IsAcceptedIn, IsOrderIn, HasReadSome, HasReadSomeJournal, HasReadSomeMap}
-use Rattle.i2c_top.specs.Runs.{texts_of}
-use Rattle.i2c_top.specs.Schedules.{schedule_read}
-use Rattle.i2c_top.specs.Scripts.{script_name, texts_in, IsInGrammar, AreScheduled, AreOrdered, HasScript, HasScripts}
-use Rattle.i2c_top.specs.forms.Atrs.{AtrNames}
-use Rattle.i2c_top.specs.forms.Replays.{Names, names_of}
-use Rattle.i2c_top.specs.forms.Verifies.{VerifyNames}
+use Rattle.i2c_top.specs.Scripts.{AreScheduled, AreOrdered}
 
 -- the file of each place is one of these texts
 abbrev contents : List (List ℕ) → Files
@@ -52,7 +43,8 @@ texts-numbered all place (t ∷ ts) are =
     ∙ ap (λ (xs : List (List ℕ)). t ∷ xs) (texts-numbered all (suc place) ts (λ c at is. are (suc c) at (omega (arith, is))))
 
 -- texts in the grammar are scripts there
-text-at : (b : BoardView) (scripts : List CallerView) → All (λ s. IsInGrammar b s.script.text) scripts → (c : ℕ) → c < length (texts_of scripts)
+text-at : (b : BoardView) (scripts : List CallerView) → All (λ s. IsInGrammar b s.script.text) scripts → (c : ℕ)
+    → c < length (texts_of scripts)
     → (text : List ℕ) × (slice_get (texts_of scripts) c ≡ Some text) × IsInGrammar b text
 text-at b [] grammar c low = absurd (omega (arith, low))
 text-at b (s ∷ ss) grammar zero low = (s.script.text, refl, All-head (λ x. IsInGrammar b x.script.text) s ss grammar)
@@ -93,7 +85,8 @@ order-numbered board texts None callers words are = record { has = tt; same = ar
 order-numbered board texts (Some name) callers words are =
     record { has = record { text = are.2.text; words = are.0; there = refl; read = are.2.read }; same = are.1 }
 
-accepted-numbered : (b : BoardView) (spelled : IsSpelled b) (texts : List (List ℕ)) → IsAcceptedIn (contents (spelled.text ∷ texts)) (0 ∷ []) b
+accepted-numbered : (b : BoardView) (spelled : IsSpelled b) (texts : List (List ℕ)) → IsAcceptedIn (contents (spelled.text ∷ texts))
+    (0 ∷ []) b
 accepted-numbered b spelled texts =
     record { has = record { board = b; text = spelled.text; there = refl; is_accepted = spelled.is_accepted }; same = refl }
 

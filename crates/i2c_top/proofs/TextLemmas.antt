@@ -1,28 +1,13 @@
 -- Scripts that are opened with texts, as callers: they are ready, what is left of them is what their texts cost, and their run is that
 -- of their texts. The inductions go over the scripts.
-use Rattle.std.proofs.Common.{◌≡◌, ℕ, ◌+◌, ◌≤◌, List, [], ◌∷◌, length, map, Option, Some, None, refl, sym, ◌∙◌, ap, subst, sum_by, arith}
-use Rattle.std.specs.Prelude.{slice_get}
-use Rattle.std.specs.Option.{option_map, option_map_or}
-use Rattle.std.proofs.lemmas.List.{length-map}
-use Rattle.std.proofs.lemmas.List.Elements.{All-head, All-tail}
-use Rattle.std.proofs.lemmas.List.Sums.{sum_by-cons}
-use Rattle.std.proofs.lemmas.Option.{slice_get-map}
-use Rattle.i2c_base.specs.declared.entry.Entry.{Entry}
-use Rattle.i2c_base.specs.declared.port.PortCall.{PortCall}
-use Rattle.i2c_base.specs.declared.reply.Reply.{Reply}
-use Rattle.i2c_base.specs.Board.{BoardView}
-use Rattle.i2c_base.specs.Limits.{MOST_CALLERS}
+use Rattle.i2c_top.proofs.Cited.{◌≡◌, ℕ, ◌+◌, ◌≤◌, List, [], ◌∷◌, length, map, Option, Some, None, refl, sym, ◌∙◌, ap, subst, sum_by, arith}
+use Rattle.i2c_top.proofs.Cited.{slice_get, option_map, option_map_or, length-map, All-head, All-tail, sum_by-cons, slice_get-map, Entry}
+use Rattle.i2c_top.proofs.Cited.{PortCall, Reply, BoardView, MOST_CALLERS, Asks, TargetState, report_of, IsOpened, ScriptsAreFair, asked_by}
+use Rattle.i2c_top.proofs.Cited.{left_of, commands_of, section_text, CallerView, ScriptView, script_on, left_at_first, asks_in, printed_in}
+use Rattle.i2c_top.proofs.Cited.{scripts_in, AreReady, left_in, IsRunBy, AreFresh, MayRun, MOST_COST, asks_by, printed_by, script_row}
+use Rattle.i2c_top.proofs.Cited.{AreOpened, texts_of, cost_of_texts}
 use Rattle.ports.specs.declared.port.Port.{Ghosts as PortGhosts}
-use Rattle.i2c_spec.specs.History.{Asks}
-use Rattle.i2c_spec.specs.Targets.{TargetState}
-use Rattle.bus_spec.specs.Report.{report_of}
-use Rattle.caller_core.specs.Callers.{IsOpened, ScriptsAreFair}
-use Rattle.caller_core.specs.Scripts.{asked_by, left_of, commands_of, section_text}
-use Rattle.caller_core.specs.View.{CallerView, ScriptView, script_on}
-use Rattle.caller_core.proofs.FairLemmas.{left_at_first}
-use Rattle.i2c_top.specs.Callers.{asks_in, printed_in, scripts_in, AreReady, left_in, IsRunBy}
-use Rattle.i2c_top.specs.Cores.{AreFresh, MayRun}
-use Rattle.i2c_top.specs.Runs.{MOST_COST, asks_by, printed_by, report_by, script_row, AreOpened, texts_of, cost_of_texts, IsRunOf}
+use Rattle.i2c_top.specs.Runs.{report_by, IsRunOf}
 use Rattle.i2c_top.proofs.CostLemmas.{cost_of_opened, costs_are}
 
 pub opened-ready : (b : BoardView) (scripts : List CallerView) → AreOpened b scripts → AreReady script_row b scripts
@@ -59,8 +44,10 @@ pub opened-scripts : (b : BoardView) (scripts : List CallerView) → AreOpened b
     → scripts_in script_row scripts ≡ map (script_on b) (texts_of scripts)
 opened-scripts b [] opened = refl
 opened-scripts b (s ∷ ss) opened =
-    ap (λ (k : BoardView). script_on k s.script.text ∷ scripts_in script_row ss) (All-head (λ x. IsOpened b x.script.text x) s ss opened).board_is
-    ∙ ap (λ (ks : List ScriptView). script_on b s.script.text ∷ ks) (opened-scripts b ss (All-tail (λ x. IsOpened b x.script.text x) s ss opened))
+    ap (λ (k : BoardView). script_on k s.script.text ∷ scripts_in script_row ss)
+    (All-head (λ x. IsOpened b x.script.text x) s ss opened).board_is
+    ∙ ap (λ (ks : List ScriptView). script_on b s.script.text ∷ ks)
+    (opened-scripts b ss (All-tail (λ x. IsOpened b x.script.text x) s ss opened))
 
 -- what is told of each, by what it was opened with, and of nobody else
 abbrev pub told_in : {S V : Type 0} → (S → List Reply → V) → V → List S → ℕ → List Reply → V
@@ -100,7 +87,8 @@ module _ (b : BoardView) (texts : List (List ℕ)) where
     printed-of-texts = ap (printed_in section_by) are ∙ printed-mapped
 
     -- their report is that of the texts, and so is their run
-    pub report-of-texts : (journal : List Entry) → report_of (printed_in section_by scripts) (length scripts) journal ≡ report_by b texts journal
+    pub report-of-texts : (journal : List Entry) → report_of (printed_in section_by scripts)
+        (length scripts) journal ≡ report_by b texts journal
     report-of-texts journal =
         ap (λ (p : ℕ → List Reply → List ℕ). report_of p (length scripts) journal) printed-of-texts
         ∙ ap (λ (n : ℕ). report_of (printed_by b texts) n journal) count-of-texts

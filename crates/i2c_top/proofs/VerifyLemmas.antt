@@ -1,28 +1,16 @@
 -- How a call of `verify` ends: its files decide one status, and a success is the line of its journal. No induction.
-use Rattle.std.proofs.Common.{◌≡◌, ℕ, ◌+◌, ◌<◌, ◌≤◌, ◌⊎◌, inl, inr, Bool, IsTrue, List, length, Some, refl, sym, ◌∙◌, ap, subst, arith}
-use Rattle.std.proofs.lemmas.List.{take_all}
-use Rattle.caller_core.specs.Callers.{ScriptsAreFair}
-use Rattle.caller_core.specs.View.{CallerView}
-use Rattle.caller_core.specs.Sections.{SectionsHaveNoJournalLine}
-use Rattle.i2c_base.specs.Board.{BoardView}
-use Rattle.i2c_spec.specs.Plain.{IsPlainBoard}
-use Rattle.journal_check.specs.Faults.{CanBeChecked, Checked, IsFaultIn, IsVerified}
-use Rattle.journal_check.specs.declared.fault.CheckFault.{CheckFault}
+use Rattle.i2c_top.proofs.Cited.{◌≡◌, ℕ, ◌+◌, ◌<◌, ◌≤◌, ◌⊎◌, inl, inr, Bool, IsTrue, List, length, Some, refl, sym, ◌∙◌, ap, subst, arith}
+use Rattle.i2c_top.proofs.Cited.{take_all, ScriptsAreFair, CallerView, SectionsHaveNoJournalLine, BoardView, IsPlainBoard, CanBeChecked}
+use Rattle.i2c_top.proofs.Cited.{Checked, IsFaultIn, IsVerified, CheckFault, Rose, HasRejected, checked_on, CameToSuccess, CameToRefusal}
+use Rattle.i2c_top.proofs.Cited.{HasEndedAs, Files, DecidesOnce, TellsItsFiles, KeepsShelf, AreScriptsIn, HasReadSomeJournal, IsAcceptedIn}
+use Rattle.i2c_top.proofs.Cited.{IsRejectedIn, IsRefusedAt, IsRefusedScript, IsBadBoard, IsBadScript, IsTooDear, MOST_COST, cost_of_texts}
+use Rattle.i2c_top.proofs.Cited.{texts_of, script_name, HasBadScript, HasScripts, texts_in, ShelfView, RigView, Outside, KeepsBut}
+use Rattle.i2c_top.proofs.Cited.{IsUntouched, HasScriptsBefore, IsPlaceIn, IsSkipped, VerifyNames, as_replayed, verify_form, BoardRefusal}
+use Rattle.i2c_top.proofs.Cited.{Status}
 use Rattle.journal_check.specs.declared.fault.CheckFault.TheVariants as verdict-of
-use Rattle.ports.specs.Causes.{Rose}
-use Rattle.i2c_top.specs.Boards.{HasRejected}
-use Rattle.i2c_top.specs.Checked.{checked_on}
-use Rattle.i2c_top.specs.Endings.{CameToSuccess, CameToRefusal, HasEndedAs}
-use Rattle.i2c_top.specs.Files.{Files}
-use Rattle.i2c_top.specs.Form.{DecidesOnce, TellsItsFiles, KeepsShelf}
-use Rattle.i2c_top.specs.Readings.{AreScriptsIn, HasReadJournal, HasReadSomeJournal, IsAcceptedIn, IsRejectedIn, IsRefusedAt, IsRefusedScript, IsBadBoard, IsBadScript, IsTooDear}
-use Rattle.i2c_top.specs.Runs.{MOST_COST, cost_of_texts, texts_of}
-use Rattle.i2c_top.specs.Scripts.{script_name, HasBadScript, HasScripts, texts_in}
-use Rattle.i2c_top.specs.Traces.{ShelfView, RigView, Outside, KeepsBut, IsUntouched}
-use Rattle.i2c_top.specs.forms.Replays.{HasScriptsBefore, IsPlaceIn, IsSkipped}
-use Rattle.i2c_top.specs.forms.Verifies.{VerifyNames, AreVerifyLike, as_replayed, verify_cost, verify_form, verified_text, HasCheapJournal, HasDearJournal, HasFault, HasJournal, HasVerdict, HasVerdictLine, HasVerified, IsVerdict, IsVerifyCause, fault_status}
-use Rattle.i2c_top.specs.declared.status.BoardRefusal.{BoardRefusal}
-use Rattle.i2c_top.specs.declared.status.Status.{Status}
+use Rattle.i2c_top.specs.Readings.{HasReadJournal}
+use Rattle.i2c_top.specs.forms.Verifies.{AreVerifyLike, verify_cost, verified_text, HasCheapJournal, HasDearJournal, HasFault, HasJournal}
+use Rattle.i2c_top.specs.forms.Verifies.{HasVerdict, HasVerdictLine, HasVerified, IsVerdict, IsVerifyCause, fault_status}
 use Rattle.i2c_top.specs.declared.status.Status.TheVariants as status
 use Rattle.i2c_top.proofs.BoardLemmas.{no_board, one_why, one_board_in, one_text}
 use Rattle.i2c_top.proofs.CheckedLemmas.{can-be}
@@ -60,7 +48,8 @@ decided file names (status.Script caller line word) h =
 decided file names _ h = absurd h
 
 -- of one file the boards, the texts and the costs are one
-one_cost : (file : Files) (names : VerifyNames) (a b : HasJournal file names) → verify_cost file names a.board.board ≡ verify_cost file names b.board.board
+one_cost : (file : Files) (names : VerifyNames) (a b : HasJournal file names) → verify_cost file names a.board.board
+    ≡ verify_cost file names b.board.board
 one_cost file names a b = ap (verify_cost file names) (one_board_in file names.board a.board b.board)
 
 cheap_dear : (file : Files) (names : VerifyNames) (cost : ℕ) → HasCheapJournal file names → HasDearJournal file names cost → ⊥
@@ -105,13 +94,15 @@ module _ (fair : ScriptsAreFair) (none : SectionsHaveNoJournalLine)
   agree file names s r (inl a) (inl b) = one_journal file names s r a b
   agree file names s r (inl a) (inr (inl b)) = absurd (no_board file names.board b.why (journal_of file names s a).board b.board)
   agree file names s r (inl a) (inr (inr b)) =
-      absurd (all_earlier file (as_replayed names) b.caller b.line b.word (journal_of file names s a).board (journal_of file names s a).scripts b.earlier b.script)
+      absurd (all_earlier file (as_replayed names) b.caller b.line b.word (journal_of file names s a).board
+      (journal_of file names s a).scripts b.earlier b.script)
   agree file names s r (inr (inl a)) (inl b) = absurd (no_board file names.board a.why (journal_of file names r b).board a.board)
   agree file names s r (inr (inl a)) (inr (inl b)) =
       b.same ∙ ap (λ w. status.Board w) (one_why file names.board a.why b.why a.board b.board) ∙ sym a.same
   agree file names s r (inr (inl a)) (inr (inr b)) = absurd (no_board file names.board a.why b.earlier.board a.board)
   agree file names s r (inr (inr a)) (inl b) =
-      absurd (all_earlier file (as_replayed names) a.caller a.line a.word (journal_of file names r b).board (journal_of file names r b).scripts a.earlier a.script)
+      absurd (all_earlier file (as_replayed names) a.caller a.line a.word (journal_of file names r b).board
+      (journal_of file names r b).scripts a.earlier a.script)
   agree file names s r (inr (inr a)) (inr (inl b)) = absurd (no_board file names.board b.why a.earlier.board b.board)
   agree file names s r (inr (inr a)) (inr (inr b)) = agree_script file (as_replayed names) s r a b
 
@@ -119,7 +110,8 @@ module _ (fair : ScriptsAreFair) (none : SectionsHaveNoJournalLine)
   verify_decides names file s r h k = agree file names s r (decided file names s h) (decided file names r k)
 
 -- WHAT WAS READ is what the files have
-has_cheap : (file : Files) (names : VerifyNames) (b : BoardView) (texts : List (List ℕ)) (text : List ℕ) → HasReadJournal file names b texts text
+has_cheap : (file : Files) (names : VerifyNames) (b : BoardView) (texts : List (List ℕ)) (text : List ℕ)
+    → HasReadJournal file names b texts text
     → cost_of_texts b texts ≤ MOST_COST → IsPlainBoard b → HasCheapJournal file names
 has_cheap file names b texts text read cheap plain =
     record {
@@ -134,14 +126,16 @@ has_cheap file names b texts text read cheap plain =
           (subst (λ (ts : List (List ℕ)). cost_of_texts b ts ≤ MOST_COST) read.texts_are cheap);
     }
 
-on_files : (file : Files) (names : VerifyNames) (b : BoardView) (texts : List (List ℕ)) (text : List ℕ) (read : HasReadJournal file names b texts text)
+on_files : (file : Files) (names : VerifyNames) (b : BoardView) (texts : List (List ℕ)) (text : List ℕ)
+    (read : HasReadJournal file names b texts text)
     (P : Checked → Type 0) → P (checked_on b texts) → P (checked_on read.board_in.has.board (texts_in file names.scripts))
 on_files file names b texts text read P p =
     subst (λ (k : BoardView). P (checked_on k (texts_in file names.scripts))) read.board_in.same
     (subst (λ (ts : List (List ℕ)). P (checked_on b ts)) read.texts_are p)
 
 -- what was read after other files is what was there at first
-pub journal_read : (first second third : Files) (names : VerifyNames) (tells : Bool) (b : BoardView) (scripts : List CallerView) (text : List ℕ)
+pub journal_read : (first second third : Files) (names : VerifyNames) (tells : Bool) (b : BoardView) (scripts : List CallerView)
+    (text : List ℕ)
     → ((n : List ℕ) → second n ≡ first n) → ((n : List ℕ) → third n ≡ second n) → IsTrue tells → IsAcceptedIn first names.board b
     → length scripts ≡ length names.scripts → AreScriptsIn tells second names.scripts b scripts → third names.journal ≡ Some text
     → HasReadJournal first names b (texts_of scripts) text
@@ -167,13 +161,15 @@ module _ (names : VerifyNames) (shelf shelf_now : ShelfView) (rig : RigView) (ke
   pub verify_starved : CameToRefusal (verify_form names) shelf shelf_now rig rig status.Memory
   verify_starved = memory_wanting (verify_form names) shelf shelf_now rig rig (inl (untouched rig)) kept
 
-  module _ (b : BoardView) (texts : List (List ℕ)) (text : List ℕ) (read : IsTrue shelf.tells → HasReadJournal shelf.file names b texts text)
+  module _ (b : BoardView) (texts : List (List ℕ)) (text : List ℕ) (read : IsTrue shelf.tells
+      → HasReadJournal shelf.file names b texts text)
       (cheap : cost_of_texts b texts ≤ MOST_COST) (plain : IsPlainBoard b) where
     pub verify_done : HasReadSomeJournal names b texts text → (n : ℕ) (line : List ℕ) → IsVerified (checked_on b texts) text n
         → line ≡ verified_text n → CameToSuccess (verify_form names) shelf shelf_now rig rig line
     unfolding has_cheap
     verify_done some n line v is =
-        came_to_success (verify_form names) shelf shelf_now rig rig line (when names shelf (λ t. (n, (of-files shelf.file names (read t)).verdict)))
+        came_to_success (verify_form names) shelf shelf_now rig rig line
+        (when names shelf (λ t. (n, (of-files shelf.file names (read t)).verdict)))
         (untouched rig)
         (record {
           by_files = λ t. of-files shelf.file names (read t);
@@ -224,12 +220,15 @@ module _ (names : VerifyNames) (shelf shelf_now : ShelfView) (rig : RigView) (ke
         | inl h ↦ subst (CameToRefusal (verify_form names) shelf shelf_now rig rig) (sym h.0)
             (file_unread (verify_form names) shelf shelf_now rig 1 (when names shelf (λ t. inl refl))
             (record { named = record { first = omega arith; last = omega arith }; rose = h.1 })
-            (board_unreached (Some names.journal) (IsRejectedIn shelf.tells shelf.file names.board) shelf.faults shelf_now.faults (status.Read 1) others
+            (board_unreached (Some names.journal) (IsRejectedIn shelf.tells shelf.file names.board) shelf.faults shelf_now.faults
+            (status.Read 1) others
             (inl (refl, h.1))) kept)
-        | inr (inl m) ↦ subst (CameToRefusal (verify_form names) shelf shelf_now rig rig) (sym m) (verify_starved names shelf shelf_now rig kept)
+        | inr (inl m) ↦ subst (CameToRefusal (verify_form names) shelf shelf_now rig rig) (sym m)
+            (verify_starved names shelf shelf_now rig kept)
         | inr (inr b) ↦ subst (CameToRefusal (verify_form names) shelf shelf_now rig rig) (sym b.same)
             (text_refused (verify_form names) shelf shelf_now rig (status.Board b.why) refl (when names shelf b.is_bad) tt
-            (board_unreached (Some names.journal) (IsRejectedIn shelf.tells shelf.file names.board) shelf.faults shelf_now.faults (status.Board b.why) others
+            (board_unreached (Some names.journal) (IsRejectedIn shelf.tells shelf.file names.board) shelf.faults shelf_now.faults
+            (status.Board b.why) others
             (inr (inr (record { why = b.why; same = refl; is_bad = b.is_bad })))) kept)
       ]
 
@@ -247,16 +246,19 @@ module _ (names : VerifyNames) (shelf shelf_now : ShelfView) (rig : RigView) (ke
             (when names shelf (λ t. inr (inl (record { caller = r.caller; at = refl; earlier = earlier t }))))
             (record {
               named = record { first = omega arith; last = (let low = r.known in omega (arith, low)) };
-              rose = subst (λ (k : ℕ). Rose k (shelf_now.faults (3 + r.caller))) (others (3 + r.caller) (λ e. absurd (omega (arith, e)))) h.1;
+              rose = subst (λ (k : ℕ). Rose k (shelf_now.faults (3 + r.caller))) (others (3 + r.caller)
+                  (λ e. absurd (omega (arith, e)))) h.1;
             }) (rest (status.Read (3 + r.caller)) (inl (refl, h.1))) kept)
-        | inr (inl m) ↦ subst (CameToRefusal (verify_form names) shelf shelf_now rig rig) (sym m) (verify_starved names shelf shelf_now rig kept)
+        | inr (inl m) ↦ subst (CameToRefusal (verify_form names) shelf shelf_now rig rig) (sym m)
+            (verify_starved names shelf shelf_now rig kept)
         | inr (inr n) ↦ subst (CameToRefusal (verify_form names) shelf shelf_now rig rig) (sym n.same)
             (text_refused (verify_form names) shelf shelf_now rig (status.Script r.caller n.line n.word) refl
             (when names shelf (λ t. (
               earlier t,
               subst (λ k. HasBadScript shelf.file k (script_name names.scripts r.caller) n.line n.word) (board t).same
                   (same_bad shelf.file mid.file b (script_name names.scripts r.caller) n.line n.word same (n.is_bad t)),
-            ))) tt (rest (status.Script r.caller n.line n.word) (inr (inr (record { line = n.line; word = n.word; same = refl; is_bad = n.is_bad })))) kept)
+            ))) tt (rest (status.Script r.caller n.line n.word) (inr
+            (inr (record { line = n.line; word = n.word; same = refl; is_bad = n.is_bad })))) kept)
       ]
     where
       earlier : IsTrue shelf.tells → HasScriptsBefore shelf.file (as_replayed names) r.caller
@@ -272,11 +274,13 @@ module _ (names : VerifyNames) (shelf shelf_now : ShelfView) (rig : RigView) (ke
           (mid.faults (3 + r.caller)) (shelf_now.faults (3 + r.caller)) q
           → (other : ℕ) → IsSkipped (Some names.journal) q other → shelf_now.faults other ≡ shelf.faults other
       rest q refused =
-          scripts_unreached (Some names.journal) shelf.tells mid.file b names.scripts shelf.faults mid.faults shelf_now.faults q others behind
+          scripts_unreached (Some names.journal) shelf.tells mid.file b names.scripts shelf.faults mid.faults shelf_now.faults q others
+          behind
           (record { caller = r.caller; known = r.known; before = r.before; kept = r.kept; refused = refused })
 
   -- the journal
-  pub journal_told : (b : BoardView) (s : Status) (mid : ℕ) → mid ≡ shelf.faults 2 → (IsTrue shelf.tells → IsAcceptedIn shelf.file names.board b)
+  pub journal_told : (b : BoardView) (s : Status) (mid : ℕ) → mid ≡ shelf.faults 2 → (IsTrue shelf.tells
+      → IsAcceptedIn shelf.file names.board b)
       → (IsTrue shelf.tells → HasScripts shelf.file b names.scripts (length names.scripts))
       → ((s ≡ status.Read 2) × Rose mid (shelf_now.faults 2)) ⊎ (s ≡ status.Memory)
       → CameToRefusal (verify_form names) shelf shelf_now rig rig s
@@ -284,7 +288,12 @@ module _ (names : VerifyNames) (shelf shelf_now : ShelfView) (rig : RigView) (ke
       elim refused [
         | inl h ↦ subst (CameToRefusal (verify_form names) shelf shelf_now rig rig) (sym h.0)
             (file_unread (verify_form names) shelf shelf_now rig 2
-            (when names shelf (λ t. inr (inr (refl, (board t).has, subst (λ k. HasScripts shelf.file k names.scripts (length names.scripts)) (board t).same (scripts t)))))
+            (when names shelf (λ t. inr (inr (
+              refl,
+              (board t).has,
+              subst (λ k. HasScripts shelf.file k names.scripts (length names.scripts))
+                  (board t).same (scripts t),
+            ))))
             (record {
               named = record { first = omega arith; last = omega arith };
               rose = subst (λ (k : ℕ). Rose k (shelf_now.faults 2)) same h.1;
@@ -318,7 +327,8 @@ ended_verified names old new result h shelf sink ok =
     let s = h.said ok in record { text = s.text; verdict = s.answer.by_files shelf; written = s.written sink }
 
 -- what was read at these places was read of the form's files
-pub some_kept : (names : VerifyNames) (P : ℕ → Type 0) (a b : ShelfView) → ((p : ℕ) → P p → IsPlaceIn (as_replayed names) p) → KeepsBut P a b
+pub some_kept : (names : VerifyNames) (P : ℕ → Type 0) (a b : ShelfView) → ((p : ℕ) → P p → IsPlaceIn (as_replayed names) p)
+    → KeepsBut P a b
     → KeepsShelf (verify_form names) a b
 some_kept names P a b within k =
     record { words = k.words; files = k.files; others = λ p no. k.others p (λ at. no (within p at)) }

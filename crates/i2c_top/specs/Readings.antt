@@ -81,7 +81,7 @@ pub record IsMapIn (file : Files) (board : BoardView) (name : List ℕ) (map : M
   pub has : HasMap file board name
   pub same : map ≡ has.map
 
--- .. after a map of the board: its translators, the scripts' texts and the schedule's callers
+-- .. behind a map of the board: its translators, the scripts' texts and the schedule's callers
 pub record HasReadMap (file : Files) (names : AtrNames) (board : BoardView) (map : MapView) (texts : List (List ℕ)) (words : List ℕ) : Type 0 where
   pub board_in : IsAcceptedIn file names.board board
   pub scripts : HasScripts file board names.scripts (length names.scripts)

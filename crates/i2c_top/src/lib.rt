@@ -2,7 +2,7 @@
 //!
 //! `top` reads the words, and does what they ask for in one of the forms. `replay_call` reads the board, the scripts and the
 //! schedule, runs the scripts over a rig's ports, and writes the report; `run_call` does so without a schedule, each script on
-//! a thread of its own; `atr_call` reads a map too, and runs them after its address translators; `check_call` reads the board and
+//! a thread of its own; `atr_call` reads a map too, and runs them behind its address translators; `check_call` reads the board and
 //! writes what it has. Each writes the line of the first refusal. A `Status` tells how the call ended. What is written is made whole
 //! before its first byte is.
 //!

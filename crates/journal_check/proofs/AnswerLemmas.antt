@@ -1,33 +1,25 @@
 -- A text has one answer: a fault, or that it is verified. The inductions go over lines.
-use Rattle.std.proofs.Common.{◌≡◌, ◌⊎◌, ℕ, zero, suc, ◌+◌, Bool, true, false, List, [], ◌∷◌, ◌++◌, length, length-append, append_assoc, append-nil, All, drop, take, map, reverse, Some, refl, sym, ◌∙◌, ap, subst, arith, inl, inr}
-use Rattle.std.specs.Prelude.{codes, slice_get, MatchBool}
-use Rattle.std.specs.List.{flat_map, range_with_len}
-use Rattle.std.specs.Str.{bytes_eq}
+use Rattle.journal_check.proofs.Cited.{◌≡◌, ◌⊎◌, ℕ, zero, suc, ◌+◌, Bool, true, false, List, [], ◌∷◌, ◌++◌, length, length-append}
+use Rattle.journal_check.proofs.Cited.{append_assoc, append-nil, All, drop, take, map, reverse, Some, refl, sym, ◌∙◌, ap, subst, arith, inl}
+use Rattle.journal_check.proofs.Cited.{inr, codes, slice_get, MatchBool, flat_map, range_with_len, bytes_eq, bytes_eq-Decides, All-nil}
+use Rattle.journal_check.proofs.Cited.{All-cons, All-head, All-tail, reverse-append, take-append-le, take_all, Entry, IsLegal, IsComplete}
+use Rattle.journal_check.proofs.Cited.{entry_line, ended_line, IsEntry, IsLine, line_ended, IsSectionLine, entries_of, entry-line}
+use Rattle.journal_check.proofs.Cited.{entries_of-lines, IsFirstWrong, IsFirstLeft, Line, Stage, Sections, Entries, Over, FirstOffence}
+use Rattle.journal_check.proofs.Cited.{IsEntryLine, lines_of, AreLines, FirstOther, entries-text}
 use Rattle.std.proofs.lemmas.Bool.{cases_order}
-use Rattle.std.proofs.lemmas.Slice.Eq.{bytes_eq-Decides}
-use Rattle.std.proofs.lemmas.List.Elements.{All-nil, All-cons, All-head, All-tail}
-use Rattle.std.proofs.lemmas.List.{reverse-append, take-append-drop, take-append-le, take_all}
-use Rattle.i2c_base.specs.declared.entry.Entry.{Entry}
-use Rattle.bus_spec.specs.Legal.{IsLegal, IsComplete}
-use Rattle.bus_spec.specs.Lines.{entry_line}
-use Rattle.bus_spec.specs.Report.{ended_line, text_of}
+use Rattle.std.proofs.lemmas.List.{take-append-drop}
+use Rattle.bus_spec.specs.Report.{text_of}
 use Rattle.bus_laws.proofs.Laws.{settled-told}
 use Rattle.journal_laws.specs.Layers.{BelongsTo}
-use Rattle.bus_journal.specs.Ranges.{IsEntry}
-use Rattle.bus_journal.specs.Reports.{IsLine, line_ended, IsSectionLine, HasNoJournalLine}
-use Rattle.bus_journal.specs.Told.{entries_of}
-use Rattle.bus_journal.proofs.LineFeeds.{entry-line}
-use Rattle.bus_journal.proofs.Told.{entries_of-lines}
-use Rattle.check_laws.specs.Wrong.{IsFirstWrong, up_to}
-use Rattle.journal_check.specs.Faults.{CanBeChecked, Checked, IsFaultIn, IsFirstLeft, IsLegalIn, IsRead, IsVerified, sections_told}
-use Rattle.journal_check.specs.Forms.{Line, Stage, Sections, Entries, Over, FirstOffence, HasForm, IsEntryLine, lines_of}
-use Rattle.journal_check.specs.Steps.{AreLines}
-use Rattle.journal_check.specs.Texts.{FirstOther}
+use Rattle.bus_journal.specs.Reports.{HasNoJournalLine}
+use Rattle.check_laws.specs.Wrong.{up_to}
+use Rattle.journal_check.specs.Faults.{CanBeChecked, Checked, IsFaultIn, IsLegalIn, IsRead, IsVerified, sections_told}
+use Rattle.journal_check.specs.Forms.{HasForm}
 use Rattle.journal_check.specs.declared.fault.CheckFault.{CheckFault}
 use Rattle.journal_check.specs.declared.fault.CheckFault.TheVariants as fault
 use Rattle.journal_check.proofs.FormLemmas.{first-cut}
 use Rattle.journal_check.proofs.ReportLemmas.{not-the-end}
-use Rattle.bus_journal.proofs.ReportLemmas.{below_journal, sections-lines, lines-text, entries-text}
+use Rattle.bus_journal.proofs.ReportLemmas.{below_journal, sections-lines, lines-text}
 
 -- at a line of the journal that isn't `end`
 abbrev AtEntry : ℕ → Line → List Line → ℕ → Type 0
@@ -94,7 +86,8 @@ heading_passed n f rest offence =
 entry_passed : (n f : ℕ) (e : Entry) (more : List ℕ) → IsEntry e → FirstOffence Entries n (lines_of (entry_line e ++ 10 ∷ more)) f
     → FirstOffence Entries (n + 1) (lines_of more) f
 entry_passed n f e more is offence =
-    split (subst (λ (t : Bool). MatchBool t (FirstOffence Over (n + 1) (lines_of more) f) (AtEntry n (record { text = entry_line e; ended = true }) (lines_of more) f))
+    split (subst (λ (t : Bool). MatchBool t (FirstOffence Over (n + 1) (lines_of more) f) (AtEntry n
+    (record { text = entry_line e; ended = true }) (lines_of more) f))
     (not_equal (entry_line e) (codes "end") (not-the-end e)) (line_cut Entries n f (entry_line e) more (entry-line e) offence))
   where
     split : AtEntry n (record { text = entry_line e; ended = true }) (lines_of more) f → FirstOffence Entries (n + 1) (lines_of more) f
@@ -119,10 +112,12 @@ end_passed n f offence =
 
 no-offence : (text front lines : List ℕ) (f : ℕ) → HasForm text front lines → FirstOffence Sections 1 (lines_of text) f → ⊥
 no-offence text front lines f form offence =
-    let parts : text ≡ flat_map line_ended form.others.lines ++ (codes "journal\n" ++ (flat_map ended_line (entries_of lines) ++ codes "end\n")) =
+    let parts : text ≡ flat_map line_ended form.others.lines ++ (codes "journal\n" ++ (flat_map ended_line
+    (entries_of lines) ++ codes "end\n")) =
     form.parts ∙ ap (λ (xs : List ℕ). xs ++ (codes "journal\n" ++ (lines ++ codes "end\n"))) form.others.text_is
     ∙ ap (λ (xs : List ℕ). flat_map line_ended form.others.lines ++ (codes "journal\n" ++ (xs ++ codes "end\n"))) form.entries.lines in
-    let behind = sections_passed form.others.lines 1 f (codes "journal\n" ++ (flat_map ended_line (entries_of lines) ++ codes "end\n")) form.others.others
+    let behind = sections_passed form.others.lines 1 f (codes "journal\n" ++ (flat_map ended_line (entries_of lines) ++ codes "end\n"))
+    form.others.others
     (subst (λ (xs : List ℕ). FirstOffence Sections 1 (lines_of xs) f) parts offence) in
     let last = entries_passed (entries_of lines) (behind.0 + 1) f (codes "end\n") form.entries.in_range
     (heading_passed behind.0 f (flat_map ended_line (entries_of lines) ++ codes "end\n") behind.1) in
@@ -236,7 +231,8 @@ module _ (x : Checked) (can : CanBeChecked x)
 
   all_whole : (es : List Entry) (cs : List ℕ) → All HasNoJournalLine (map (text_of x.printed es) cs)
   all_whole es [] = All-nil HasNoJournalLine
-  all_whole es (c ∷ cs) = All-cons HasNoJournalLine (text_of x.printed es c) (map (text_of x.printed es) cs) (can.whole c _) (all_whole es cs)
+  all_whole es (c ∷ cs) = All-cons HasNoJournalLine (text_of x.printed es c) (map (text_of x.printed es) cs) (can.whole c _)
+      (all_whole es cs)
 
   good : (text : List ℕ) (n : ℕ) → IsVerified x text n → IsGood text n
   good text n v =
@@ -276,7 +272,8 @@ module _ (x : Checked) (can : CanBeChecked x)
       none-wrong (entries_of at.read.lines) i (over text p.read at.read (λ es. IsLegalIn x es) p.legal) at.first
   no-fault text n (fault.Open c) v at =
       let p = good text n v in
-      none-left (entries_of at.read.lines) c (over text p.read at.read (λ es. IsComplete x.board x.callers x.asks (reverse es)) p.complete) at.first
+      none-left (entries_of at.read.lines) c (over text p.read at.read (λ es. IsComplete x.board x.callers x.asks (reverse es)) p.complete)
+      at.first
   no-fault text n (fault.Text k) v at =
       let p = good text n v in
       let same : at.read.front ≡ sections_told x (entries_of at.read.lines) =
@@ -306,12 +303,14 @@ module _ (x : Checked) (can : CanBeChecked x)
       ap (λ n. fault.Open n) (one-left (entries_of b.read.lines) c d
       (over text a.read b.read (λ es. IsFirstLeft x.board x.callers x.asks es c) a.first) b.first)
   one-fault text (fault.Open c) (fault.Text l) a b =
-      absurd (none-left (entries_of a.read.lines) c (over text b.read a.read (λ es. IsComplete x.board x.callers x.asks (reverse es)) b.complete) a.first)
+      absurd (none-left (entries_of a.read.lines) c (over text b.read a.read (λ es. IsComplete x.board x.callers x.asks
+      (reverse es)) b.complete) a.first)
   one-fault text (fault.Text k) (fault.Form l) a b = absurd (no-offence text a.read.front a.read.lines l a.read.form b)
   one-fault text (fault.Text k) (fault.Entry i) a b =
       absurd (none-wrong (entries_of b.read.lines) i (over text a.read b.read (λ es. IsLegalIn x es) a.legal) b.first)
   one-fault text (fault.Text k) (fault.Open d) a b =
-      absurd (none-left (entries_of b.read.lines) d (over text a.read b.read (λ es. IsComplete x.board x.callers x.asks (reverse es)) a.complete) b.first)
+      absurd (none-left (entries_of b.read.lines) d (over text a.read b.read (λ es. IsComplete x.board x.callers x.asks
+      (reverse es)) a.complete) b.first)
   one-fault text (fault.Text k) (fault.Text l) a b =
       let es : List Entry = entries_of b.read.lines in
       ap (λ n. fault.Text n) (one-other 1 (lines_of b.read.front) (lines_of (sections_told x es)) k l

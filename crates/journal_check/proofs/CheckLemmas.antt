@@ -1,39 +1,22 @@
 -- Where a core parts from a journal the step that is told there is the first that isn't legal. No induction.
-use Rattle.std.proofs.Common.{◌≡◌, ℕ, ◌+◌, ◌-◌, ◌<◌, ◌≤◌, false, List, ◌∷◌, ◌++◌, length, length-append, All, drop, reverse, Option, Some, None, sym, ◌∙◌, ap, subst, arith, inl, inr}
-use Rattle.std.specs.Prelude.{slice_get}
-use Rattle.std.specs.List.{flat_map}
-use Rattle.std.proofs.lemmas.List.Prefix.{front_rest}
-use Rattle.std.proofs.lemmas.List.{reverse-append}
+use Rattle.journal_check.proofs.Cited.{◌≡◌, ℕ, ◌+◌, ◌-◌, ◌<◌, ◌≤◌, false, List, ◌∷◌, ◌++◌, length, length-append, All, drop, reverse}
+use Rattle.journal_check.proofs.Cited.{Option, Some, None, sym, ◌∙◌, ap, subst, arith, inl, inr, slice_get, flat_map, front_rest}
+use Rattle.journal_check.proofs.Cited.{reverse-append, Entry, PortCall, Reply, BoardView, MOST_CALLERS, TransferView, World, seen}
+use Rattle.journal_check.proofs.Cited.{first_act, caller_of, IsStepwise, WalkTree, IsStuck, callers-known, Opening, HasRoot, asks_of}
+use Rattle.journal_check.proofs.Cited.{CoreState, CoreTold, has_caller, roots_in, ended_line, IsEntry, FailedBy, gaps_told, IsFirstWrong}
+use Rattle.journal_check.proofs.Cited.{first_step, AreLines, asks_on, MadeAnother, Differs, JournalPlace}
 use Rattle.i2c_base.proofs.ListLemmas.{map_from, map_at, all_at}
-use Rattle.i2c_base.specs.declared.entry.Entry.{Entry}
-use Rattle.i2c_base.specs.declared.port.PortCall.{PortCall}
-use Rattle.i2c_base.specs.declared.reply.Reply.{Reply}
-use Rattle.i2c_base.specs.Board.{BoardView}
-use Rattle.i2c_base.specs.Limits.{MOST_CALLERS}
-use Rattle.i2c_base.specs.Transfer.{TransferView}
 use Rattle.i2c_spec.specs.History.{Asks}
-use Rattle.i2c_spec.specs.World.{World}
-use Rattle.bus_spec.specs.Grammar.{seen, first_act}
 use Rattle.bus_spec.specs.Past.{now, calls_of}
-use Rattle.bus_spec.specs.Readings.{caller_of}
 use Rattle.bus_spec.specs.Schedule.{past_after}
-use Rattle.bus_spec.specs.Stepwise.{IsStepwise}
-use Rattle.bus_spec.specs.Walk.{WalkTree}
-use Rattle.bus_laws.specs.Ready.{IsStuck}
-use Rattle.bus_laws.proofs.past.Known.{callers-known}
-use Rattle.bus_core.specs.Opening.{Opening, HasRoot}
-use Rattle.bus_core.specs.Places.{asks_of}
-use Rattle.bus_core.specs.State.{CoreState, CoreTold, has_caller, roots_in, worlds_of, logs_of}
-use Rattle.bus_spec.specs.Report.{ended_line}
-use Rattle.bus_journal.specs.Ranges.{IsEntry}
-use Rattle.check_laws.specs.Failed.{FailBy, FailedBy, gaps_told}
-use Rattle.check_laws.specs.Wrong.{CantBeTold, IsFirstWrong, first_step}
+use Rattle.bus_core.specs.State.{worlds_of, logs_of}
+use Rattle.check_laws.specs.Failed.{FailBy}
+use Rattle.check_laws.specs.Wrong.{CantBeTold}
 use Rattle.check_laws.specs.Wrong as wrong
-use Rattle.journal_check.specs.Steps.{AreLines, asks_on, MadeAnother, Differs}
 use Rattle.journal_check.proofs.LineLemmas.{lines-append, fewer-entries}
-use Rattle.journal_check.specs.declared.steps.JournalPlace.{JournalPlace}
 
-module _ {S : Type 0} (asked : S → List Reply → Option TransferView) (o : Opening S) (v : CoreState S) (es : List Entry) (named : ℕ → List ℕ)
+module _ {S : Type 0} (asked : S → List Reply → Option TransferView) (o : Opening S) (v : CoreState S) (es : List Entry)
+    (named : ℕ → List ℕ)
     (is_named : (r : ℕ) → named r ≡ gaps_told o.board es r)
     (fails_law : (past : List Entry) (gaps : ℕ → List ℕ) → IsStepwise o.board MOST_CALLERS (asks_on asked o) past
     → ((r : ℕ) → r < length o.board.roots → FailedBy (calls_of o.board (asks_on asked o) past r) (gaps r))
@@ -52,7 +35,8 @@ module _ {S : Type 0} (asked : S → List Reply → Option TransferView) (o : Op
   asks = asks_on asked o
 
   -- whoever has no script has finished
-  stranger-stuck : (past : List Entry) → IsStepwise b MOST_CALLERS asks past → (c : ℕ) → has_caller o.scripts c ≡ false → IsStuck b asks past c
+  stranger-stuck : (past : List Entry) → IsStepwise b MOST_CALLERS asks past → (c : ℕ) → has_caller o.scripts c ≡ false
+      → IsStuck b asks past c
   stranger-stuck past steps c nobody =
       inr (ap (λ (w : WalkTree). first_act (seen (now b asks past).slot w))
       ((callers-known b MOST_CALLERS count asks silent past steps).1 c (numbered c nobody)))
@@ -63,27 +47,34 @@ module _ {S : Type 0} (asked : S → List Reply → Option TransferView) (o : Op
       fails_law (reverse v.journal.entries) (gaps_told b es) steps (λ r low. by r (wired r low))
     where
       steps : IsStepwise b MOST_CALLERS asks (reverse v.journal.entries)
-      steps = subst (λ (x : Opening S). IsStepwise x.board MOST_CALLERS (asks_of asked x.scripts) (reverse v.journal.entries)) opened told.stepwise
+      steps = subst (λ (x : Opening S). IsStepwise x.board MOST_CALLERS (asks_of asked x.scripts)
+          (reverse v.journal.entries)) opened told.stepwise
 
       by : (r : ℕ) → HasRoot (roots_in v) r → FailedBy (calls_of b asks (reverse v.journal.entries) r) (gaps_told b es r)
       by r has =
           let w = map_from (λ (x : ℕ × World). x.0) v.worlds has.place r has.here in
-          let p = map_from (λ (x : ℕ × P). (x.0, world x.1)) ports has.place w.0 (ap (λ (xs : List (ℕ × World)). slice_get xs has.place) worlds ∙ w.1) in
+          let p = map_from (λ (x : ℕ × P). (x.0, world x.1)) ports has.place w.0
+          (ap (λ (xs : List (ℕ × World)). slice_get xs has.place) worlds ∙ w.1) in
           let root : p.0.0 ≡ r = ap (λ (x : ℕ × World). x.0) p.2 ∙ w.2 in
           let world_at : slice_get v.worlds has.place ≡ Some (p.0.0, world p.0.1) =
-          ap (λ (xs : List (ℕ × World)). slice_get xs has.place) (sym worlds) ∙ map_at (λ (x : ℕ × P). (x.0, world x.1)) ports has.place p.0 p.1 in
+          ap (λ (xs : List (ℕ × World)). slice_get xs has.place) (sym worlds)
+          ∙ map_at (λ (x : ℕ × P). (x.0, world x.1)) ports has.place p.0 p.1 in
           let log_at : slice_get v.logs has.place ≡ Some (p.0.0, log p.0.1) =
-          ap (λ (xs : List (ℕ × List PortCall)). slice_get xs has.place) (sym logs) ∙ map_at (λ (x : ℕ × P). (x.0, log x.1)) ports has.place p.0 p.1 in
+          ap (λ (xs : List (ℕ × List PortCall)). slice_get xs has.place) (sym logs) ∙ map_at
+          (λ (x : ℕ × P). (x.0, log x.1)) ports has.place p.0 p.1 in
           let world_is : world p.0.1 ≡ (now b asks (reverse v.journal.entries)).worlds p.0.0 =
           subst (λ (x : Opening S). world p.0.1 ≡ (now x.board (asks_of asked x.scripts) (reverse v.journal.entries)).worlds p.0.0) opened
           (told.worlds has.place p.0.0 (world p.0.1) world_at) in
           let log_is : log p.0.1 ≡ calls_of b asks (reverse v.journal.entries) p.0.0 =
           subst (λ (x : Opening S). log p.0.1 ≡ calls_of x.board (asks_of asked x.scripts) (reverse v.journal.entries) p.0.0) opened
           (told.logs has.place p.0.0 (log p.0.1) log_at) in
-          let own : (world p.0.1).root ≡ r = ap (λ (x : World). x.root) world_is ∙ root_law (reverse v.journal.entries) p.0.0 steps ∙ root in
-          let mine : FailedBy (log p.0.1) (named (world p.0.1).root) = all_at (λ x. FailedBy (log x.1) (named (world x.1).root)) ports has.place p.0 failed p.1 in
+          let own : (world p.0.1).root ≡ r = ap (λ (x : World). x.root) world_is ∙ root_law (reverse v.journal.entries) p.0.0 steps
+          ∙ root in
+          let mine : FailedBy (log p.0.1) (named (world p.0.1).root) =
+          all_at (λ x. FailedBy (log x.1) (named (world x.1).root)) ports has.place p.0 failed p.1 in
           subst (λ (gs : List ℕ). FailedBy (calls_of b asks (reverse v.journal.entries) r) gs) (ap named own ∙ is_named r)
-          (subst (λ (cs : List PortCall). FailedBy cs (named (world p.0.1).root)) (log_is ∙ ap (calls_of b asks (reverse v.journal.entries)) root) mine)
+          (subst (λ (cs : List PortCall). FailedBy cs (named (world p.0.1).root)) (log_is ∙ ap
+          (calls_of b asks (reverse v.journal.entries)) root) mine)
 
   -- so what is told can't come
   pub cant-be-told : v.opening ≡ o → (place : JournalPlace) → (d : Differs asked o v es place)
@@ -95,7 +86,8 @@ module _ {S : Type 0} (asked : S → List Reply → Option TransferView) (o : Op
       ]
     where
       another : MadeAnother asked o v d.front d.next d.rest
-          → wrong.MadeAnother b MOST_CALLERS asks (gaps_told b (d.front ++ d.next ∷ d.rest)) (reverse d.front) (caller_of d.next) (d.next ∷ d.rest)
+          → wrong.MadeAnother b MOST_CALLERS asks (gaps_told b (d.front ++ d.next ∷ d.rest)) (reverse d.front) (caller_of d.next)
+          (d.next ∷ d.rest)
       another made =
           let behind : reverse v.journal.entries ≡ past_after (reverse d.front) made.made.turn =
           ap reverse made.made.entries ∙ reverse-append d.front made.made.turn.entries in
@@ -105,21 +97,25 @@ module _ {S : Type 0} (asked : S → List Reply → Option TransferView) (o : Op
               own = made.made.own;
               comes = made.made.comes;
               rests = subst (λ (past : List Entry). (now b asks past).due ≡ None) behind
-                  (subst (λ (x : Opening S). (now x.board (asks_of asked x.scripts) (reverse v.journal.entries)).due ≡ None) opened made.told.rests);
+                  (subst (λ (x : Opening S). (now x.board (asks_of asked x.scripts) (reverse v.journal.entries)).due
+                  ≡ None) opened made.told.rests);
               fails = subst (λ (past : List Entry). FailBy b asks (gaps_told b (d.front ++ d.next ∷ d.rest)) past) behind
-                  (subst (λ (xs : List Entry). FailBy b asks (gaps_told b xs) (reverse v.journal.entries)) d.parts (logs-fail made.told opened));
+                  (subst (λ (xs : List Entry). FailBy b asks (gaps_told b xs) (reverse v.journal.entries)) d.parts
+                  (logs-fail made.told opened));
             };
             differs = made.differs;
           }
 
   -- the step that is told there ends with the first entry that isn't legal
   pub wrong-at : (lines : List ℕ) → AreLines lines es → v.opening ≡ o → (place : JournalPlace) → Differs asked o v es place
-      → ((front : List Entry) (next : Entry) (rest : List Entry) → IsStepwise b MOST_CALLERS asks (reverse front) → (now b asks (reverse front)).due ≡ None
+      → ((front : List Entry) (next : Entry) (rest : List Entry) → IsStepwise b MOST_CALLERS asks (reverse front)
+      → (now b asks (reverse front)).due ≡ None
       → CantBeTold b MOST_CALLERS asks (gaps_told b (front ++ next ∷ rest)) (reverse front) (caller_of next) (next ∷ rest)
       → IsFirstWrong b MOST_CALLERS asks (front ++ next ∷ rest) (length front + first_step (next ∷ rest) - 1))
       → ((i : ℕ) → IsFirstWrong b MOST_CALLERS asks es i → IsFirstWrong b count asks es i)
       → (text : List ℕ) → text ≡ drop place.at lines
-      → (k : ℕ) → ((e : Entry) (rest : List Entry) → All IsEntry (e ∷ rest) → text ≡ flat_map ended_line (e ∷ rest) → k ≡ first_step (e ∷ rest))
+      → (k : ℕ) → ((e : Entry) (rest : List Entry) → All IsEntry (e ∷ rest) → text ≡ flat_map ended_line (e ∷ rest)
+      → k ≡ first_step (e ∷ rest))
       → IsFirstWrong b count asks es (place.before + k - 1)
   wrong-at lines are opened place d law fewer text is k step =
       let all : lines ≡ flat_map ended_line d.front ++ flat_map ended_line (d.next ∷ d.rest) =
@@ -128,15 +124,19 @@ module _ {S : Type 0} (asked : S → List Reply → Option TransferView) (o : Op
       ∙ front_rest lines (flat_map ended_line d.front) (flat_map ended_line (d.next ∷ d.rest)) all in
       let steps : k ≡ first_step (d.next ∷ d.rest) = step d.next d.rest d.in_range behind in
       let first = law d.front d.next d.rest d.steady.stepwise d.steady.rests (cant-be-told opened place d) in
-      let number : length d.front + first_step (d.next ∷ d.rest) - 1 ≡ place.before + k - 1 = (let before = d.before in omega (arith, before, steps)) in
+      let number : length d.front + first_step (d.next ∷ d.rest) - 1 ≡ place.before + k - 1 =
+      (let before = d.before in omega (arith, before, steps)) in
       fewer (place.before + k - 1) (subst (λ (i : ℕ). IsFirstWrong b MOST_CALLERS asks es i) number
-      (subst (λ (xs : List Entry). IsFirstWrong b MOST_CALLERS asks xs (length d.front + first_step (d.next ∷ d.rest) - 1)) (sym d.parts) first))
+      (subst (λ (xs : List Entry). IsFirstWrong b MOST_CALLERS asks xs (length d.front + first_step (d.next ∷ d.rest) - 1))
+      (sym d.parts) first))
 
-pub before-fits : {S : Type 0} (asked : S → List Reply → Option TransferView) (o : Opening S) (v : CoreState S) (es : List Entry) (lines : List ℕ)
+pub before-fits : {S : Type 0} (asked : S → List Reply → Option TransferView) (o : Opening S) (v : CoreState S) (es : List Entry)
+    (lines : List ℕ)
     → AreLines lines es → (place : JournalPlace) → Differs asked o v es place → place.before < length lines
 before-fits asked o v es lines are place d =
     let counted : length lines ≡ length (flat_map ended_line es) = ap (λ (xs : List ℕ). length xs) are.lines in
     let few : length es ≤ length (flat_map ended_line es) = fewer-entries es in
-    let parts : length es ≡ length d.front + length (d.next ∷ d.rest) = ap (λ (xs : List Entry). length xs) d.parts ∙ length-append d.front (d.next ∷ d.rest) in
+    let parts : length es ≡ length d.front + length (d.next ∷ d.rest) = ap (λ (xs : List Entry). length xs) d.parts
+    ∙ length-append d.front (d.next ∷ d.rest) in
     let before = d.before in
     omega (arith, counted, few, parts, before)

@@ -1,35 +1,28 @@
 -- The lines of a text, and how far a reader has come in them without an offence. The inductions go over the bytes of a line.
-use Rattle.std.proofs.Common.{◌≡◌, ◌⊎◌, ℕ, zero, suc, ◌+◌, ◌-◌, ◌<◌, ◌≤◌, Bool, true, false, cond, List, [], ◌∷◌, ◌++◌, length, length-append, append_assoc, append-nil, All, drop, take, min, Some, None, refl, sym, ◌∙◌, ap, subst, arith, inl, inr}
-use Rattle.std.specs.Prelude.{◌==◌, codes, slice_index, MatchBool}
-use Rattle.std.specs.List.{flat_map, list_any}
-use Rattle.std.specs.Str.{bytes_eq}
-use Rattle.std.proofs.lemmas.Bool.{or_parts, or_from, eqb-true, false_from_ne_true}
-use Rattle.memchr.specs.Find.{IsFirstByte, is_byte}
-use Rattle.std.proofs.lemmas.Grind.{flat_map-append}
-use Rattle.std.proofs.lemmas.List.Elements.{All-nil, All-cons, All-append}
-use Rattle.std.proofs.lemmas.List.Prefix.{front_rest}
-use Rattle.std.proofs.lemmas.List.{take-append-le, take_all, length-take}
-use Rattle.i2c_base.specs.declared.entry.Entry.{Entry}
-use Rattle.bus_spec.specs.Lines.{entry_line}
-use Rattle.bus_spec.specs.Report.{ended_line}
-use Rattle.bus_journal.specs.Ranges.{IsEntry}
-use Rattle.bus_journal.specs.Reports.{IsLine, line_ended, IsSectionLine}
-use Rattle.bus_journal.specs.Told.{entries_of}
-use Rattle.bus_journal.proofs.Told.{entries_of-lines}
-use Rattle.journal_check.specs.Forms.{Line, lines_from, lines_of, last_line, Stage, Sections, Entries, Over, FirstOffence, IsEntryLine, HeadingAt, EndAt, HasAdded}
-use Rattle.journal_check.specs.Gaps.{AreGapsOf}
-use Rattle.journal_check.specs.declared.gaps.RootGaps.{RootGaps}
-use Rattle.i2c_base.specs.Board.{BoardView}
-use Rattle.journal_check.specs.Steps.{AreLines}
+use Rattle.journal_check.proofs.Cited.{◌≡◌, ◌⊎◌, ℕ, zero, suc, ◌+◌, ◌-◌, ◌<◌, ◌≤◌, Bool, true, false, cond, List, [], ◌∷◌, ◌++◌, length}
+use Rattle.journal_check.proofs.Cited.{length-append, append_assoc, append-nil, All, drop, take, Some, None, refl, sym, ◌∙◌, ap, subst}
+use Rattle.journal_check.proofs.Cited.{arith, inl, inr, ◌==◌, codes, MatchBool, flat_map, list_any, bytes_eq, or_parts, eqb-true}
+use Rattle.journal_check.proofs.Cited.{IsFirstByte, is_byte, flat_map-append, All-nil, All-cons, front_rest, take-append-le, take_all}
+use Rattle.journal_check.proofs.Cited.{Entry, entry_line, ended_line, IsEntry, IsLine, line_ended, IsSectionLine, entries_of}
+use Rattle.journal_check.proofs.Cited.{entries_of-lines, Line, lines_of, last_line, Stage, Sections, Entries, Over, FirstOffence}
+use Rattle.journal_check.proofs.Cited.{IsEntryLine, AreGapsOf, RootGaps, BoardView, AreLines, entries-text}
+use Rattle.std.proofs.Common.{min}
+use Rattle.std.specs.Prelude.{slice_index}
+use Rattle.std.proofs.lemmas.Bool.{or_from, false_from_ne_true}
+use Rattle.std.proofs.lemmas.List.Elements.{All-append}
+use Rattle.std.proofs.lemmas.List.{length-take}
+use Rattle.journal_check.specs.Forms.{lines_from, HeadingAt, EndAt, HasAdded}
 use Rattle.journal_check.proofs.LineLemmas.{lines-append}
-use Rattle.bus_journal.proofs.ReportLemmas.{entries-text}
 
 -- ONE LINE MORE
-lines-cut : (front line more : List ℕ) → IsLine line → lines_from front (line ++ 10 ∷ more) ≡ (record { text = front ++ line; ended = true }) ∷ lines_of more
-lines-cut front [] more is = ap (λ (xs : List ℕ). (let l : Line = record { text = xs; ended = true } in l) ∷ lines_of more) (sym (append-nil front))
+lines-cut : (front line more : List ℕ) → IsLine line → lines_from front (line ++ 10 ∷ more)
+    ≡ (record { text = front ++ line; ended = true }) ∷ lines_of more
+lines-cut front [] more is = ap (λ (xs : List ℕ). (let l : Line = record { text = xs; ended = true } in l) ∷ lines_of more)
+    (sym (append-nil front))
 lines-cut front (c ∷ line) more is =
     let parts = or_parts (c == 10) (list_any (λ x. x == 10) line) is in
-    ap (λ (t : Bool). cond t ((record { text = front; ended = true }) ∷ lines_from [] (line ++ 10 ∷ more)) (lines_from (front ++ c ∷ []) (line ++ 10 ∷ more))) parts.0
+    ap (λ (t : Bool). cond t ((record { text = front; ended = true }) ∷ lines_from [] (line ++ 10 ∷ more))
+    (lines_from (front ++ c ∷ []) (line ++ 10 ∷ more))) parts.0
     ∙ lines-cut (front ++ c ∷ []) line more parts.1
     ∙ ap (λ (xs : List ℕ). (let l : Line = record { text = xs; ended = true } in l) ∷ lines_of more) (append_assoc front (c ∷ []) line)
 
@@ -67,7 +60,8 @@ pub record IsReading (text rest : List ℕ) (number : ℕ) : Type 0 where
   pub goes : (f : ℕ) → FirstOffence Sections number (lines_of rest) f → FirstOffence Sections 1 (lines_of text) f
 
 pub counted_line : (line more : List ℕ) → length (line ++ 10 ∷ more) ≡ length line + (1 + length more)
-counted_line line more = (let e : length (line ++ 10 ∷ more) ≡ length line + length (10 ∷ more) = length-append line (10 ∷ more) in omega (arith, e))
+counted_line line more = (let e : length (line ++ 10 ∷ more) ≡ length line + length (10 ∷ more) = length-append line (10 ∷ more) in
+    omega (arith, e))
 
 module _ (text rest line : List ℕ) (number : ℕ) (reads : IsReading text rest number) (is : IsLine line)
     (cut : rest ≡ line ++ 10 ∷ drop (length line + 1) rest) where
@@ -78,9 +72,11 @@ module _ (text rest line : List ℕ) (number : ℕ) (reads : IsReading text rest
   cut_lines = ap lines_of cut ∙ first-cut line more is
 
   pub shorter : length (drop (length line + 1) rest) < length rest
-  shorter = (let e : length rest ≡ length line + (1 + length more) = ap (λ (xs : List ℕ). length xs) cut ∙ counted_line line more in omega (arith, e))
+  shorter = (let e : length rest ≡ length line + (1 + length more) = ap (λ (xs : List ℕ). length xs) cut ∙ counted_line line more in
+      omega (arith, e))
 
-  pub reads-other : bytes_eq line (codes "journal") ≡ false → (line ≡ codes "journal" → ⊥) → IsReading text (drop (length line + 1) rest) (number + 1)
+  pub reads-other : bytes_eq line (codes "journal") ≡ false → (line ≡ codes "journal" → ⊥) → IsReading text (drop (length line + 1) rest)
+      (number + 1)
   reads-other other apart =
       record {
         lines = reads.lines ++ line ∷ [];
@@ -88,16 +84,19 @@ module _ (text rest line : List ℕ) (number : ℕ) (reads : IsReading text rest
             ∙ sym (ap (λ (xs : List ℕ). xs ++ more) (flat_map-append line_ended reads.lines (line ∷ []))
             ∙ append_assoc (flat_map line_ended reads.lines) (flat_map line_ended (line ∷ [])) more
             ∙ ap (λ (xs : List ℕ). flat_map line_ended reads.lines ++ xs) one);
-        others = All-append IsSectionLine reads.lines (line ∷ []) reads.others (All-cons IsSectionLine line [] (record { one = is; other = apart }) (All-nil IsSectionLine));
+        others = All-append IsSectionLine reads.lines (line ∷ []) reads.others (All-cons IsSectionLine line []
+            (record { one = is; other = apart }) (All-nil IsSectionLine));
         few = (let low = shorter in let before = reads.few in omega (arith, low, before));
         goes = λ f first. reads.goes f (subst (λ (ls : List Line). FirstOffence Sections number ls f) (sym cut_lines)
-            (subst (λ (t : Bool). MatchBool t (FirstOffence Entries (number + 1) (lines_of more) f) (FirstOffence Sections (number + 1) (lines_of more) f)) (sym other) first));
+            (subst (λ (t : Bool). MatchBool t (FirstOffence Entries (number + 1) (lines_of more) f)
+            (FirstOffence Sections (number + 1) (lines_of more) f)) (sym other) first));
       }
     where
       one : flat_map line_ended (line ∷ []) ++ more ≡ line ++ 10 ∷ more
       one = simp append_assoc
 
-  pub heading-at : bytes_eq line (codes "journal") ≡ true → line ≡ codes "journal" → (at : ℕ) → at ≡ length text - length (drop (length line + 1) rest)
+  pub heading-at : bytes_eq line (codes "journal") ≡ true → line ≡ codes "journal" → (at : ℕ)
+      → at ≡ length text - length (drop (length line + 1) rest)
       → HeadingAt text at (number + 1)
   heading-at same heading at is_at =
       let front : List ℕ = flat_map line_ended reads.lines in
@@ -117,7 +116,8 @@ module _ (text rest line : List ℕ) (number : ℕ) (reads : IsReading text rest
         within = omega (arith, place, counted);
         few = (let low = shorter in let before = reads.few in omega (arith, low, before));
         goes = λ f first. reads.goes f (subst (λ (ls : List Line). FirstOffence Sections number ls f) (sym cut_lines)
-            (subst (λ (t : Bool). MatchBool t (FirstOffence Entries (number + 1) (lines_of more) f) (FirstOffence Sections (number + 1) (lines_of more) f)) (sym same)
+            (subst (λ (t : Bool). MatchBool t (FirstOffence Entries (number + 1) (lines_of more) f)
+            (FirstOffence Sections (number + 1) (lines_of more) f)) (sym same)
             (subst (λ (xs : List ℕ). FirstOffence Entries (number + 1) (lines_of xs) f) behind first)));
       }
 
@@ -140,14 +140,16 @@ over_on n [] xs d = over_last n xs d
 over_on n (e ∷ text) xs d = split (over_on n text (xs ++ d ∷ []) e) (e == 10)
   where
     split : (offends : FirstOffence Over n (lines_from ((xs ++ d ∷ []) ++ e ∷ []) text) n) → (t : Bool)
-        → FirstOffence Over n (cond t ((record { text = xs ++ d ∷ []; ended = true }) ∷ lines_from [] text) (lines_from ((xs ++ d ∷ []) ++ e ∷ []) text)) n
+        → FirstOffence Over n (cond t ((record { text = xs ++ d ∷ []; ended = true }) ∷ lines_from [] text)
+        (lines_from ((xs ++ d ∷ []) ++ e ∷ []) text)) n
     split offends true = refl
     split offends false = offends
 
 over_some : (c : ℕ) (text : List ℕ) (n : ℕ) → FirstOffence Over n (lines_from [] (c ∷ text)) n
 over_some c text n = split (c == 10)
   where
-    split : (t : Bool) → FirstOffence Over n (cond t ((record { text = []; ended = true }) ∷ lines_from [] text) (lines_from (c ∷ []) text)) n
+    split : (t : Bool) → FirstOffence Over n (cond t ((record { text = []; ended = true }) ∷ lines_from [] text)
+        (lines_from (c ∷ []) text)) n
     split true = refl
     split false = over_on n text [] c
 
@@ -159,7 +161,8 @@ no_text : (text : List ℕ) → (length text == 0) ≡ true → text ≡ []
 no_text [] none = refl
 no_text (c ∷ text) none = absurd (let zero : length (c ∷ text) ≡ 0 = eqb-true (length (c ∷ text)) 0 none in omega (arith, zero))
 
-module _ (b : BoardView) (text rest line : List ℕ) (first number : ℕ) (gaps : List RootGaps) (tells : IsTelling b text rest first number gaps) (is : IsLine line)
+module _ (b : BoardView) (text rest line : List ℕ) (first number : ℕ) (gaps : List RootGaps)
+    (tells : IsTelling b text rest first number gaps) (is : IsLine line)
     (cut : rest ≡ line ++ 10 ∷ drop (length line + 1) rest) where
   abbrev next : List ℕ
   next = drop (length line + 1) rest
@@ -168,7 +171,8 @@ module _ (b : BoardView) (text rest line : List ℕ) (first number : ℕ) (gaps 
   next_lines = ap lines_of cut ∙ first-cut line next is
 
   pub next-shorter : length (drop (length line + 1) rest) < length rest
-  next-shorter = (let e : length rest ≡ length line + (1 + length next) = ap (λ (xs : List ℕ). length xs) cut ∙ counted_line line next in omega (arith, e))
+  next-shorter = (let e : length rest ≡ length line + (1 + length next) = ap (λ (xs : List ℕ). length xs) cut ∙ counted_line line next in
+      omega (arith, e))
 
   abbrev AtLine : Bool → ℕ → Type 0
   AtLine t f = MatchBool t (FirstOffence Over (number + 1) (lines_of next) f)
@@ -176,12 +180,14 @@ module _ (b : BoardView) (text rest line : List ℕ) (first number : ℕ) (gaps 
 
   at_line : (t : Bool) (f : ℕ) → bytes_eq line (codes "end") ≡ t → AtLine t f → FirstOffence Entries first (lines_of text) f
   at_line t f test offence =
-      tells.goes f (subst (λ (ls : List Line). FirstOffence Entries number ls f) (sym next_lines) (subst (λ (x : Bool). AtLine x f) (sym test) offence))
+      tells.goes f (subst (λ (ls : List Line). FirstOffence Entries number ls f) (sym next_lines)
+      (subst (λ (x : Bool). AtLine x f) (sym test) offence))
 
   pub not-an-entry : bytes_eq line (codes "end") ≡ false → (IsEntryLine line → ⊥) → FirstOffence Entries first (lines_of text) number
   not-an-entry test none = at_line false number test (inr (none, refl))
 
-  pub behind-end : bytes_eq line (codes "end") ≡ true → (length (drop (length line + 1) rest) == 0) ≡ false → FirstOffence Entries first (lines_of text) (number + 1)
+  pub behind-end : bytes_eq line (codes "end") ≡ true → (length (drop (length line + 1) rest) == 0) ≡ false
+      → FirstOffence Entries first (lines_of text) (number + 1)
   behind-end test some = at_line true (number + 1) test (over_more next (number + 1) some)
 
   pub tells-more : (new : List RootGaps) → bytes_eq line (codes "end") ≡ false → HasAdded b line gaps new
@@ -189,8 +195,10 @@ module _ (b : BoardView) (text rest line : List ℕ) (first number : ℕ) (gaps 
   tells-more new test added =
       record {
         es = tells.es ++ added.entry ∷ [];
-        in_range = All-append IsEntry tells.es (added.entry ∷ []) tells.in_range (All-cons IsEntry added.entry [] added.in_range (All-nil IsEntry));
-        parts = tells.parts ∙ ap (λ (xs : List ℕ). flat_map ended_line tells.es ++ xs) (cut ∙ ap (λ (xs : List ℕ). xs ++ 10 ∷ next) (sym added.line_is) ∙ sym one)
+        in_range = All-append IsEntry tells.es (added.entry ∷ []) tells.in_range (All-cons IsEntry added.entry [] added.in_range
+            (All-nil IsEntry));
+        parts = tells.parts ∙ ap (λ (xs : List ℕ). flat_map ended_line tells.es ++ xs) (cut
+            ∙ ap (λ (xs : List ℕ). xs ++ 10 ∷ next) (sym added.line_is) ∙ sym one)
             ∙ sym (append_assoc (flat_map ended_line tells.es) (flat_map ended_line (added.entry ∷ [])) next)
             ∙ ap (λ (xs : List ℕ). xs ++ next) (sym (lines-append tells.es (added.entry ∷ [])));
         few = (let low = next-shorter in let before = tells.few in omega (arith, low, before));
@@ -218,13 +226,15 @@ module _ (b : BoardView) (text rest line : List ℕ) (first number : ℕ) (gaps 
         record {
           within = omega (arith, place, left);
           parts = all ∙ ap (λ (xs : List ℕ). xs ++ codes "end\n") (sym front);
-          entries = subst (λ (xs : List Entry). AreLines (take at text) xs) (sym same) (record { lines = front; in_range = tells.in_range });
+          entries = subst (λ (xs : List Entry). AreLines (take at text) xs) (sym same)
+              (record { lines = front; in_range = tells.in_range });
         },
         subst (λ (xs : List Entry). AreGapsOf b xs gaps) (sym same) tells.told,
       )
 
 -- THE FIRST LINE FEED
-parted : (text : List ℕ) (k : ℕ) → k < length text → ((i : ℕ) → i < k → (slice_index text i == 10) ≡ true → ⊥) → (slice_index text k == 10) ≡ true
+parted : (text : List ℕ) (k : ℕ) → k < length text → ((i : ℕ) → i < k → (slice_index text i == 10) ≡ true → ⊥)
+    → (slice_index text k == 10) ≡ true
     → IsLine (take k text) × (text ≡ take k text ++ 10 ∷ drop (suc k) text)
 parted [] k low before at = absurd (omega (arith, low))
 parted (c ∷ text) zero low before at = (refl, ap (λ (x : ℕ). x ∷ text) (eqb-true c 10 at))

@@ -10,3 +10,5 @@ pub mod ReportLemmas
 pub mod AnswerLemmas
 pub mod FormLemmas
 pub mod SectionLemmas
+-- What the proofs of this crate cite from elsewhere.
+mod Cited

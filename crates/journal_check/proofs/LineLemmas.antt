@@ -1,23 +1,14 @@
 -- The lines of entries: where those of some stand in front of those of others, the entries do. The induction goes over the entries.
-use Rattle.std.proofs.Common.{◌≡◌, ℕ, suc, ◌+◌, ◌<◌, ◌≤◌, ◌==◌, ◌&&◌, Bool, true, false, cond, List, [], ◌∷◌, ◌++◌, length, length-append, append_assoc, All, drop, refl, sym, ◌∙◌, ap, arith}
-use Rattle.std.specs.List.{flat_map}
-use Rattle.std.proofs.lemmas.Grind.{flat_map-append}
-use Rattle.std.proofs.lemmas.List.Elements.{All-head, All-tail}
-use Rattle.bus_spec.specs.Lines.{entry_line}
-use Rattle.bus_spec.specs.Report.{ended_line}
-use Rattle.bus_journal.specs.Ranges.{IsEntry}
-use Rattle.bus_journal.proofs.LineFeeds.{entry-line}
-use Rattle.bus_journal.proofs.ReportLemmas.{first_lines, entries-text}
-use Rattle.std.proofs.lemmas.Bool.{eqb-true}
+use Rattle.journal_check.proofs.Cited.{◌≡◌, ℕ, suc, ◌+◌, ◌<◌, ◌≤◌, Bool, true, false, cond, List, [], ◌∷◌, ◌++◌, length, length-append}
+use Rattle.journal_check.proofs.Cited.{append_assoc, All, drop, refl, sym, ◌∙◌, ap, arith, flat_map, flat_map-append, All-head, All-tail}
+use Rattle.journal_check.proofs.Cited.{entry_line, ended_line, IsEntry, entry-line, entries-text, eqb-true, caller_of, entry_of, IsLine}
+use Rattle.journal_check.proofs.Cited.{first_step, entry-read, Entry}
+use Rattle.std.proofs.Common.{◌==◌, ◌&&◌}
+use Rattle.bus_journal.proofs.ReportLemmas.{first_lines}
 use Rattle.bus_spec.specs.Legal.{is_stepping}
-use Rattle.bus_spec.specs.Readings.{caller_of}
 use Rattle.bus_spec.specs.Schedule.{is_settle}
-use Rattle.bus_journal.specs.Guess.{entry_of}
-use Rattle.bus_journal.specs.Reports.{IsLine}
 use Rattle.bus_journal.proofs.FrontLemmas.{drop_line}
-use Rattle.check_laws.specs.Wrong.{first_step}
-use Rattle.bus_journal.proofs.Whole.{entry-read, lines_are_distinct}
-use Rattle.i2c_base.specs.declared.entry.Entry.{Entry}
+use Rattle.bus_journal.proofs.Whole.{lines_are_distinct}
 
 pub entry-lines : (e : Entry) (es : List Entry) → flat_map ended_line (e ∷ es) ≡ entry_line e ++ 10 ∷ flat_map ended_line es
 entry-lines e es = simp append_assoc
@@ -41,7 +32,8 @@ pub stands-in : (front all : List Entry) (more : List ℕ) → All IsEntry front
 stands-in [] all more in_front in_all same = record { rest = all; parts = refl; lines = sym same; in_range = in_all }
 stands-in (t ∷ ts) [] more in_front in_all same = absurd (none_text t ts more same)
 stands-in (t ∷ ts) (u ∷ us) more in_front in_all same =
-    let lines = first_lines (entry_line u) (entry_line t) (flat_map ended_line us) (flat_map ended_line ts ++ more) (entry-line u) (entry-line t)
+    let lines = first_lines (entry_line u) (entry_line t) (flat_map ended_line us) (flat_map ended_line ts ++ more) (entry-line u)
+    (entry-line t)
     (sym (entry-lines u us) ∙ same ∙ entries-text t ts more) in
     let first : u ≡ t = lines_are_distinct u t (All-head IsEntry u us in_all) (All-head IsEntry t ts in_front) lines.0 in
     let behind = stands-in ts us more (All-tail IsEntry t ts in_front) (All-tail IsEntry u us in_all) lines.1 in
@@ -70,18 +62,22 @@ fewer-entries (e ∷ es) =
     omega (arith, counted, more)
 
 -- THE FIRST STEP, by the lines of its entries
-pub second-line : (e : Entry) (es : List Entry) (text : List ℕ) (count : ℕ) → text ≡ flat_map ended_line (e ∷ es) → count ≡ length (entry_line e) + 1
+pub second-line : (e : Entry) (es : List Entry) (text : List ℕ) (count : ℕ) → text ≡ flat_map ended_line (e ∷ es)
+    → count ≡ length (entry_line e) + 1
     → drop count text ≡ flat_map ended_line es
 second-line e es text count lines is =
     ap (λ (k : ℕ). drop k text) is ∙ ap (drop (length (entry_line e) + 1)) (lines ∙ entry-lines e es)
-    ∙ ap (λ (k : ℕ). drop k (entry_line e ++ 10 ∷ flat_map ended_line es)) (let f : length (entry_line e) + 1 ≡ suc (length (entry_line e)) = omega arith in f)
+    ∙ ap (λ (k : ℕ). drop k (entry_line e ++ 10 ∷ flat_map ended_line es)) (let f : length (entry_line e) + 1 ≡ suc
+    (length (entry_line e)) = omega arith in f)
     ∙ drop_line (entry_line e) (flat_map ended_line es)
 
-pub one-step : (e : Entry) (es : List Entry) (rest : List ℕ) → rest ≡ flat_map ended_line es → (length rest == 0) ≡ true → 1 ≡ first_step (e ∷ es)
+pub one-step : (e : Entry) (es : List Entry) (rest : List ℕ) → rest ≡ flat_map ended_line es → (length rest == 0) ≡ true
+    → 1 ≡ first_step (e ∷ es)
 one-step e [] rest is none = refl
 one-step e (s ∷ es) rest is none =
     let zero : length rest ≡ 0 = eqb-true (length rest) 0 none in
-    let counted : length rest ≡ length (entry_line s) + length (10 ∷ flat_map ended_line es) = ap (λ (xs : List ℕ). length xs) (is ∙ entry-lines s es)
+    let counted : length rest ≡ length (entry_line s) + length (10 ∷ flat_map ended_line es) =
+    ap (λ (xs : List ℕ). length xs) (is ∙ entry-lines s es)
     ∙ length-append (entry_line s) (10 ∷ flat_map ended_line es) in
     absurd (omega (arith, zero, counted))
 
@@ -89,11 +85,13 @@ abbrev pub joined : Entry → Entry → Bool
 joined e s = is_stepping e && (is_settle s && (caller_of e == caller_of s))
 
 -- two entries in a row, by whether the second belongs to the first
-pub step-by : (e : Entry) (es : List Entry) (rest : List ℕ) → All IsEntry (e ∷ es) → rest ≡ flat_map ended_line es → (length rest == 0) ≡ false
+pub step-by : (e : Entry) (es : List Entry) (rest : List ℕ) → All IsEntry (e ∷ es) → rest ≡ flat_map ended_line es
+    → (length rest == 0) ≡ false
     → (line second : List ℕ) → line ≡ entry_line e
     → ((l more : List ℕ) → IsLine l → rest ≡ l ++ 10 ∷ more → second ≡ l)
     → first_step (e ∷ es) ≡ cond (joined (entry_of line) (entry_of second)) 2 1
-step-by e [] rest all is some line second line_is reads = absurd (let f : true ≡ false = sym (ap (λ (xs : List ℕ). length xs == 0) is) ∙ some in cc)
+step-by e [] rest all is some line second line_is reads = absurd (let f : true ≡ false = sym (ap (λ (xs : List ℕ). length xs == 0) is)
+    ∙ some in cc)
 step-by e (s ∷ es) rest all is some line second line_is reads =
     let next : second ≡ entry_line s = reads (entry_line s) (flat_map ended_line es) (entry-line s) (is ∙ entry-lines s es) in
     let first_is : entry_of line ≡ e = ap entry_of line_is ∙ entry-read e (All-head IsEntry e (s ∷ es) all) in

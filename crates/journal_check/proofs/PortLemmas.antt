@@ -1,20 +1,14 @@
 -- Gaps that are used up call by call, the log of a port that fails by them, and the ports of all roots.
-use Rattle.std.proofs.Common.{◌≡◌, ℕ, zero, suc, ◌+◌, ◌-◌, ◌<◌, List, [], ◌∷◌, ◌++◌, length, length-append, append_assoc, append-nil, map, All, Some, refl, sym, ◌∙◌, ap, subst, arith}
-use Rattle.std.specs.Prelude.{slice_get}
-use Rattle.std.specs.List.{enumerate_from, range_with_len}
-use Rattle.std.proofs.lemmas.List.Elements.{All-nil, All-cons}
+use Rattle.journal_check.proofs.Cited.{◌≡◌, ℕ, zero, suc, ◌+◌, ◌-◌, ◌<◌, List, [], ◌∷◌, ◌++◌, length, length-append, append_assoc}
+use Rattle.journal_check.proofs.Cited.{append-nil, map, All, Some, refl, sym, ◌∙◌, ap, subst, arith, slice_get, range_with_len, All-nil}
+use Rattle.journal_check.proofs.Cited.{All-cons, Entry, BoardView, PortCall, World, PortView, gaps_told, IsGapsOf, RootGaps}
+use Rattle.std.specs.List.{enumerate_from}
 use Rattle.std.proofs.lemmas.List.FromFn.{length-enumerate_from, length-map-range_with_len}
-use Rattle.i2c_base.specs.declared.entry.Entry.{Entry}
 use Rattle.i2c_base.specs.declared.port.Phase.TheVariants.{Idle}
-use Rattle.i2c_base.specs.Board.{BoardView}
-use Rattle.i2c_base.specs.declared.port.PortCall.{PortCall}
 use Rattle.i2c_base.specs.declared.port.PortCall.TheVariants as call
-use Rattle.i2c_spec.specs.World.{World, opening_world}
-use Rattle.i2c_physics.specs.SimPorts.{PortView, opening_port}
-use Rattle.check_laws.specs.Failed.{gaps_told}
-use Rattle.journal_check.specs.Gaps.{IsGapsOf}
+use Rattle.i2c_spec.specs.World.{opening_world}
+use Rattle.i2c_physics.specs.SimPorts.{opening_port}
 use Rattle.journal_check.specs.Ports.{AreOpeningPorts, opening_ports}
-use Rattle.journal_check.specs.declared.gaps.RootGaps.{RootGaps}
 
 get_front : (log : List PortCall) (c : PortCall) (n : ℕ) → n < length log → slice_get (log ++ c ∷ []) n ≡ slice_get log n
 get_front [] c n low = absurd (omega (arith, low))
@@ -27,7 +21,8 @@ pub record AreOpened (b : BoardView) (all came rest : List RootGaps) (count : �
   pub goes : came ++ rest ≡ all
   pub counted : count ≡ length rest
 
-pub numbered-push : {X : Type 0} (n : ℕ) (xs : List X) (x : X) → enumerate_from n (xs ++ x ∷ []) ≡ enumerate_from n xs ++ (n + length xs, x) ∷ []
+pub numbered-push : {X : Type 0} (n : ℕ) (xs : List X) (x : X) → enumerate_from n (xs ++ x ∷ []) ≡ enumerate_from n xs
+    ++ (n + length xs, x) ∷ []
 numbered-push n [] x = ap (λ (k : ℕ). (k, x) ∷ []) (omega arith)
 numbered-push n (y ∷ xs) x = ap (λ (zs : List (ℕ × _)). (n, y) ∷ zs) (numbered-push (n + 1) xs x
     ∙ ap (λ (k : ℕ). enumerate_from (n + 1) xs ++ (k, x) ∷ []) (omega arith))
@@ -63,7 +58,8 @@ module _ (b : BoardView) (all : List RootGaps) where
 
     pub opened-count : length ports ≡ length came
     opened-count =
-        ap (λ (ps : List (ℕ × PortView)). length ps) opened.so_far ∙ length-enumerate_from 0 (opening_ports b (length came)) ∙ count-ports b (length came)
+        ap (λ (ps : List (ℕ × PortView)). length ps) opened.so_far ∙ length-enumerate_from 0 (opening_ports b (length came))
+        ∙ count-ports b (length came)
 
     pub opened-here : (rest : List RootGaps) (x : RootGaps) → items ≡ x ∷ rest → slice_get all (length came) ≡ Some x
     opened-here rest x steps =
@@ -74,7 +70,8 @@ module _ (b : BoardView) (all : List RootGaps) where
         → AreOpened b all (came ++ x ∷ []) rest less more
     opened-next rest x number less more steps one is pushed =
         let n : ℕ = length came in
-        let longer : length (came ++ x ∷ []) ≡ suc n = (let e : length (came ++ x ∷ []) ≡ n + 1 = length-append came (x ∷ []) in omega (arith, e)) in
+        let longer : length (came ++ x ∷ []) ≡ suc n = (let e : length (came ++ x ∷ []) ≡ n + 1 = length-append came (x ∷ []) in
+        omega (arith, e)) in
         let counted : count ≡ length (x ∷ rest) = opened.counted ∙ ap (λ (xs : List RootGaps). length xs) steps in
         record {
           so_far = pushed ∙ ap (λ (k : ℕ). ports ++ (k, opening_port b k) ∷ []) is

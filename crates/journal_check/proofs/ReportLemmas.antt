@@ -1,10 +1,7 @@
 -- The line `journal` of a report is the first of its kind, and the line `end` is no entry's. The inductions go over the lines above.
-use Rattle.std.proofs.Common.{◌≡◌, ℕ, ◌+◌, List, true, false, ◌++◌, ◌==◌, get_or, ap}
-use Rattle.std.specs.Prelude.{codes}
-use Rattle.std.specs.Fmt.{decimal}
-use Rattle.i2c_base.specs.declared.entry.Entry.{Entry}
+use Rattle.journal_check.proofs.Cited.{◌≡◌, ℕ, ◌+◌, List, true, false, ◌++◌, get_or, ap, codes, decimal, Entry, entry_line}
+use Rattle.std.proofs.Common.{◌==◌}
 use Rattle.i2c_base.specs.declared.entry.Entry.TheVariants as entry
-use Rattle.bus_spec.specs.Lines.{entry_line}
 
 -- sections of whole lines without a line `journal` are such themselves
 heading-other : (c : ℕ) → codes "caller " ++ decimal c ≡ codes "journal" → ⊥
@@ -16,5 +13,6 @@ not-the-end (entry.Take caller l) same = absurd (let first : true ≡ false = ap
 not-the-end (entry.Free caller l) same = absurd (let first : true ≡ false = ap (λ (xs : List ℕ). get_or xs 0 0 == 102) same in cc)
 not-the-end (entry.Message caller bus p part parts addr reading bytes h e) same =
     absurd (let first : true ≡ false = ap (λ (xs : List ℕ). get_or xs 0 0 == 109) same in cc)
-not-the-end (entry.Line caller mux level failed) same = absurd (let first : true ≡ false = ap (λ (xs : List ℕ). get_or xs 0 0 == 108) same in cc)
+not-the-end (entry.Line caller mux level failed) same = absurd (let first : true ≡ false = ap
+    (λ (xs : List ℕ). get_or xs 0 0 == 108) same in cc)
 not-the-end (entry.Settle caller r c) same = absurd (let first : true ≡ false = ap (λ (xs : List ℕ). get_or xs 0 0 == 115) same in cc)

@@ -1,14 +1,12 @@
 -- Two texts line by line. The inductions go over the bytes of a line.
-use Rattle.std.proofs.Common.{◌≡◌, ◌⊎◌, ℕ, ◌+◌, ◌<◌, ◌≤◌, Bool, true, false, ◌||◌, List, [], ◌∷◌, ◌++◌, length, length-append, append_assoc, append-nil, drop, take, refl, sym, ◌∙◌, ap, subst, arith, inl, inr}
-use Rattle.std.specs.Prelude.{◌==◌, codes, IfOk, IfErr, Result, Ok, Err}
-use Rattle.std.specs.Fmt.{decimal}
+use Rattle.journal_check.proofs.Cited.{◌≡◌, ◌⊎◌, ℕ, ◌+◌, ◌<◌, ◌≤◌, Bool, true, false, List, [], ◌∷◌, ◌++◌, length, length-append}
+use Rattle.journal_check.proofs.Cited.{append_assoc, append-nil, drop, take, refl, sym, ◌∙◌, ap, subst, arith, inl, inr, ◌==◌, codes}
+use Rattle.journal_check.proofs.Cited.{decimal, flat_map, list_any, or_parts, eqb-true, take-append-le, take_all, IsLine, line_ended, Line}
+use Rattle.journal_check.proofs.Cited.{lines_of, last_line, FirstOther, GoesOn, GoesOtherwise}
+use Rattle.std.proofs.Common.{◌||◌}
+use Rattle.std.specs.Prelude.{IfOk, IfErr, Result, Ok, Err}
 use Rattle.std.proofs.lemmas.Fmt.{decimal_digit}
-use Rattle.std.specs.List.{flat_map, list_any}
-use Rattle.std.proofs.lemmas.Bool.{or_parts, eqb-true}
-use Rattle.std.proofs.lemmas.List.{take-append-le, take_all}
-use Rattle.bus_journal.specs.Reports.{IsLine, line_ended}
-use Rattle.journal_check.specs.Forms.{Line, lines_of, last_line}
-use Rattle.journal_check.specs.Texts.{FirstOther, last_byte, IsWhole, GoesOn, GoesOtherwise}
+use Rattle.journal_check.specs.Texts.{last_byte, IsWhole}
 use Rattle.journal_check.proofs.FormLemmas.{first-cut, last-cut, counted_line}
 
 -- WHOLE LINES
@@ -48,7 +46,11 @@ first_other : (line text : List ℕ) (ls : List Line) (n : ℕ) → IsLine line 
     → FirstOther n (lines_of text) ((record { text = line; ended = true }) ∷ ls) n
 first_other line text ls n is other (inl (k, one, (r, cut))) =
     subst (λ (xs : List Line). FirstOther n xs ((record { text = line; ended = true }) ∷ ls) n) (sym (ap lines_of cut ∙ first-cut k r one))
-    (inr ((λ same. other r (cut ∙ ap (λ (xs : List ℕ). xs ++ 10 ∷ r) (ap (λ (l : Line). l.text) same) ∙ sym (append_assoc line (10 ∷ []) r))), refl))
+    (inr (
+      (λ same. other r (cut ∙ ap (λ (xs : List ℕ). xs ++ 10 ∷ r) (ap (λ (l : Line). l.text) same)
+          ∙ sym (append_assoc line (10 ∷ []) r))),
+      refl,
+    ))
 first_other line text ls n is other (inr one) =
     subst (λ (xs : List Line). FirstOther n xs ((record { text = line; ended = true }) ∷ ls) n) (sym (last-cut text one)) (unended text)
   where
@@ -68,7 +70,8 @@ line_or_none (c ∷ text) = split (c == 10) refl (line_or_none text)
         inl (c ∷ k, ap (λ (t : Bool). t || list_any (λ x. x == 10) k) is ∙ one, (r, ap (λ (xs : List ℕ). c ∷ xs) cut))
     split false is (inr one) = inr (ap (λ (t : Bool). t || list_any (λ x. x == 10) text) is ∙ one)
 
-module _ (due old : List ℕ) (before : ℕ) (rest more line : List ℕ) (number : ℕ) (beside : IsBeside due old before rest more number) (is : IsLine line)
+module _ (due old : List ℕ) (before : ℕ) (rest more line : List ℕ) (number : ℕ) (beside : IsBeside due old before rest more number)
+    (is : IsLine line)
     (cut : more ≡ line ++ 10 ∷ drop (length line + 1) more) where
   abbrev next : List ℕ
   next = drop (length line + 1) more
@@ -78,10 +81,12 @@ module _ (due old : List ℕ) (before : ℕ) (rest more line : List ℕ) (number
       ap lines_of (ap (λ (xs : List ℕ). xs ++ later) cut ∙ append_assoc line (10 ∷ next) later) ∙ first-cut line (next ++ later) is
 
   pub due-shorter : length (drop (length line + 1) more) < length more
-  due-shorter = (let e : length more ≡ length line + (1 + length next) = ap (λ (xs : List ℕ). length xs) cut ∙ counted_line line next in omega (arith, e))
+  due-shorter = (let e : length more ≡ length line + (1 + length next) = ap (λ (xs : List ℕ). length xs) cut ∙ counted_line line next in
+      omega (arith, e))
 
   pub due-within : length line + 1 ≤ length more
-  due-within = (let e : length more ≡ length line + (1 + length next) = ap (λ (xs : List ℕ). length xs) cut ∙ counted_line line next in omega (arith, e))
+  due-within = (let e : length more ≡ length line + (1 + length next) = ap (λ (xs : List ℕ). length xs) cut ∙ counted_line line next in
+      omega (arith, e))
 
   -- the next line is another
   pub differs-here : ((after : List ℕ) → rest ≡ (line ++ 10 ∷ []) ++ after → ⊥) → GoesOtherwise due old before number
@@ -90,7 +95,8 @@ module _ (due old : List ℕ) (before : ℕ) (rest more line : List ℕ) (number
       (first_other line rest (lines_of (next ++ later)) number is other (line_or_none rest)))
 
   -- it is the same
-  pub beside-next : (after : List ℕ) → rest ≡ (line ++ 10 ∷ []) ++ after → IsBeside due old before after (drop (length line + 1) more) (number + 1)
+  pub beside-next : (after : List ℕ) → rest ≡ (line ++ 10 ∷ []) ++ after → IsBeside due old before after (drop (length line + 1) more)
+      (number + 1)
   beside-next after same =
       let here : rest ≡ line ++ 10 ∷ after = same ∙ append_assoc line (10 ∷ []) after in
       record {
@@ -102,8 +108,10 @@ module _ (due old : List ℕ) (before : ℕ) (rest more line : List ℕ) (number
         few = (let e : length rest ≡ length line + (1 + length after) = ap (λ (xs : List ℕ). length xs) here ∙ counted_line line after in
             let low = beside.few in omega (arith, e, low));
         goes = λ later f other. beside.goes later f
-            (subst (λ (xs : List Line). FirstOther number xs (lines_of (more ++ later)) f) (sym (ap lines_of here ∙ first-cut line after is))
-            (subst (λ (xs : List Line). FirstOther number ((record { text = line; ended = true }) ∷ lines_of after) xs f) (sym (due_lines later))
+            (subst (λ (xs : List Line). FirstOther number xs (lines_of (more ++ later)) f) (sym
+            (ap lines_of here ∙ first-cut line after is))
+            (subst (λ (xs : List Line). FirstOther number ((record { text = line; ended = true }) ∷ lines_of after) xs f)
+            (sym (due_lines later))
             (inl (refl, other))));
       }
 
@@ -134,7 +142,8 @@ goes-on due old before rest more number beside is =
     record {
       parts = beside.old_is ∙ ap (λ (xs : List ℕ). xs ++ rest) (sym all);
       few = beside.few;
-      goes = λ later f other. beside.goes later f (subst (λ (xs : List ℕ). FirstOther number (lines_of rest) (lines_of (xs ++ later)) f) (sym none) other);
+      goes = λ later f other. beside.goes later f (subst (λ (xs : List ℕ). FirstOther number (lines_of rest) (lines_of (xs ++ later)) f)
+          (sym none) other);
     }
 
 -- A SECTION, its heading first
@@ -154,7 +163,8 @@ module _ (first second old : List ℕ) (n : ℕ) where
   otherwise-first f one later =
       subst (λ (xs : List ℕ). FirstOther n (lines_of old) (lines_of xs) f) (sym (append_assoc first second later)) (one (second ++ later))
 
-  pub otherwise-then : (mid : List ℕ) (m f : ℕ) → GoesOn first old n mid m → GoesOtherwise second mid m f → GoesOtherwise (first ++ second) old n f
+  pub otherwise-then : (mid : List ℕ) (m f : ℕ) → GoesOn first old n mid m → GoesOtherwise second mid m f
+      → GoesOtherwise (first ++ second) old n f
   otherwise-then mid m f one two later =
       subst (λ (xs : List ℕ). FirstOther n (lines_of old) (lines_of xs) f) (sym (append_assoc first second later))
       (one.goes (second ++ later) f (two later))
@@ -172,7 +182,8 @@ abbrev pub under : ℕ → List ℕ → List ℕ
 under caller text = codes "caller " ++ (decimal caller ++ (10 ∷ text))
 
 -- the heading of a caller whose number has one digit
-pub heading-is : (caller : ℕ) (text : List ℕ) → caller < 10 → (99 ∷ 97 ∷ 108 ∷ 108 ∷ 101 ∷ 114 ∷ 32 ∷ (48 + caller) ∷ 10 ∷ []) ++ text ≡ under caller text
+pub heading-is : (caller : ℕ) (text : List ℕ) → caller < 10 → (99 ∷ 97 ∷ 108 ∷ 108 ∷ 101 ∷ 114 ∷ 32 ∷ (48 + caller) ∷ 10 ∷ []) ++ text
+    ≡ under caller text
 heading-is caller text low =
     ap (λ (ds : List ℕ). codes "caller " ++ (ds ++ (10 ∷ text))) (sym (decimal_digit caller low))
 

@@ -1,24 +1,13 @@
 -- How far a core has followed the lines of a journal: what is left of them, and where they part.
-use Rattle.std.proofs.Common.{◌≡◌, ◌⊎◌, ℕ, ◌+◌, ◌-◌, ◌==◌, true, false, List, [], ◌∷◌, ◌++◌, length, length-append, append_assoc, append-nil, All, drop, reverse, Option, refl, sym, ◌∙◌, ap, subst, arith, inl, inr}
-use Rattle.std.specs.List.{flat_map}
-use Rattle.std.proofs.lemmas.Bool.{eqb-true, eqb-false}
-use Rattle.std.proofs.lemmas.List.Elements.{All-head}
-use Rattle.std.proofs.lemmas.List.Prefix.{front_rest}
-use Rattle.bus_spec.specs.Lines.{entry_line}
+use Rattle.journal_check.proofs.Cited.{◌≡◌, ◌⊎◌, ℕ, ◌+◌, ◌-◌, true, false, List, [], ◌∷◌, ◌++◌, length, length-append, append_assoc}
+use Rattle.journal_check.proofs.Cited.{append-nil, All, drop, reverse, Option, refl, sym, ◌∙◌, ap, subst, arith, inl, inr, flat_map}
+use Rattle.journal_check.proofs.Cited.{eqb-true, All-head, front_rest, entry_line, Entry, Reply, MOST_CALLERS, TransferView, caller_of}
+use Rattle.journal_check.proofs.Cited.{ended_line, IsStuck, IsEntry, Opening, asks_of, CoreState, CoreTold, asks_in_state, has_caller}
+use Rattle.journal_check.proofs.Cited.{AreLines, asks_on, IsSteady, MadeAnother, Differs, JournalPlace}
+use Rattle.std.proofs.Common.{◌==◌}
+use Rattle.std.proofs.lemmas.Bool.{eqb-false}
 use Rattle.bus_laws.specs.Coming.{IsTurn}
-use Rattle.i2c_base.specs.declared.entry.Entry.{Entry}
-use Rattle.i2c_base.specs.declared.reply.Reply.{Reply}
-use Rattle.i2c_base.specs.Limits.{MOST_CALLERS}
-use Rattle.i2c_base.specs.Transfer.{TransferView}
-use Rattle.bus_spec.specs.Readings.{caller_of}
-use Rattle.bus_spec.specs.Report.{ended_line}
-use Rattle.bus_laws.specs.Ready.{IsStuck}
-use Rattle.bus_journal.specs.Ranges.{IsEntry}
-use Rattle.bus_core.specs.Opening.{Opening}
-use Rattle.bus_core.specs.Places.{asks_of}
-use Rattle.bus_core.specs.State.{CoreState, CoreTold, asks_in_state, has_caller}
-use Rattle.journal_check.specs.Steps.{AreLines, HasMadeTold, HasMadeOther, HasMadeElse, asks_on, IsSteady, MadeAnother, Differs}
-use Rattle.journal_check.specs.declared.steps.JournalPlace.{JournalPlace}
+use Rattle.journal_check.specs.Steps.{HasMadeTold, HasMadeOther, HasMadeElse}
 use Rattle.journal_check.proofs.LineLemmas.{entry-lines, stands-in, some-entry, lines-append}
 
 module _ {S : Type 0} (asked : S → List Reply → Option TransferView) (o : Opening S) (lines : List ℕ) (es : List Entry) where
@@ -49,7 +38,8 @@ module _ {S : Type 0} (asked : S → List Reply → Option TransferView) (o : Op
       by (e ∷ more) is =
           let text : rest ≡ flat_map ended_line (e ∷ more) = follows.stands.lines ∙ ap (flat_map ended_line) is in
           let zero : length rest ≡ 0 = eqb-true (length rest) 0 none in
-          let counted : length rest ≡ length (entry_line e) + length (10 ∷ flat_map ended_line more) = ap (λ (xs : List ℕ). length xs) (text ∙ entry-lines e more)
+          let counted : length rest ≡ length (entry_line e) + length (10 ∷ flat_map ended_line more) =
+          ap (λ (xs : List ℕ). length xs) (text ∙ entry-lines e more)
           ∙ length-append (entry_line e) (10 ∷ flat_map ended_line more) in
           absurd (omega (arith, zero, counted))
 
@@ -93,10 +83,12 @@ module _ {S : Type 0} (asked : S → List Reply → Option TransferView) (o : Op
       ∙ length-append (flat_map ended_line v.journal.entries) rest in
       omega (arith, whole)
 
-  differs-at : AreLines lines es → (v new : CoreState S) (rest : List ℕ) (follows : IsFollowing v rest) (n : HasNext v rest) (place : JournalPlace)
+  differs-at : AreLines lines es → (v new : CoreState S) (rest : List ℕ) (follows : IsFollowing v rest) (n : HasNext v rest)
+      (place : JournalPlace)
       → place.before ≡ length v.journal.entries → place.at ≡ length lines - length rest
       → ((has_caller o.scripts (caller_of n.next) ≡ false)
-      ⊎ (IsStuck o.board (asks_on asked o) (reverse v.journal.entries) (caller_of n.next) ⊎ MadeAnother asked o new v.journal.entries n.next n.more))
+      ⊎ (IsStuck o.board (asks_on asked o) (reverse v.journal.entries) (caller_of n.next)
+      ⊎ MadeAnother asked o new v.journal.entries n.next n.more))
       → Differs asked o new es place
   differs-at are v new rest follows n place before at came =
       record {
@@ -128,7 +120,8 @@ module _ {S : Type 0} (asked : S → List Reply → Option TransferView) (o : Op
       let own : caller ≡ caller_of n.next = read-next v rest n caller read in
       differs-at are v new rest follows n place before at
       (elim came [
-        | inl stuck ↦ inr (inl (subst (λ (x : Opening S). IsStuck x.board (asks_of asked x.scripts) (reverse v.journal.entries) (caller_of n.next)) follows.opening
+        | inl stuck ↦ inr (inl (subst (λ (x : Opening S). IsStuck x.board (asks_of asked x.scripts) (reverse v.journal.entries)
+            (caller_of n.next)) follows.opening
             (subst (λ (k : ℕ). IsStuck v.opening.board (asks_in_state asked v) (reverse v.journal.entries) k) own stuck)))
         | inr made ↦ inr (inr (another n own made))
       ])
@@ -140,7 +133,8 @@ module _ {S : Type 0} (asked : S → List Reply → Option TransferView) (o : Op
             made = record {
               turn = made.made.turn;
               own = made.made.own ∙ own;
-              comes = subst (λ (x : Opening S). IsTurn x.board MOST_CALLERS (asks_of asked x.scripts) (reverse v.journal.entries) made.made.turn) follows.opening made.made.comes;
+              comes = subst (λ (x : Opening S). IsTurn x.board MOST_CALLERS (asks_of asked x.scripts)
+                  (reverse v.journal.entries) made.made.turn) follows.opening made.made.comes;
               entries = made.made.entries;
             };
             told = told;
@@ -149,7 +143,8 @@ module _ {S : Type 0} (asked : S → List Reply → Option TransferView) (o : Op
           }
 
   -- .. and where they go on together
-  pub goes-on : (v new : CoreState S) (rest : List ℕ) → IsFollowing v rest → (caller count : ℕ) → new.opening ≡ v.opening → CoreTold asked new
+  pub goes-on : (v new : CoreState S) (rest : List ℕ) → IsFollowing v rest → (caller count : ℕ) → new.opening ≡ v.opening
+      → CoreTold asked new
       → HasMadeTold asked caller v new rest count → IsFollowing new (drop count rest)
   goes-on v new rest follows caller count same told made =
       let ts : List Entry = made.made.turn.entries in
@@ -162,7 +157,8 @@ module _ {S : Type 0} (asked : S → List Reply → Option TransferView) (o : Op
             ∙ sym (append_assoc v.journal.entries made.made.turn.entries stands.rest)
             ∙ ap (λ (xs : List Entry). xs ++ stands.rest) (sym made.made.entries);
         stands = record { lines = stands.lines; in_range = stands.in_range };
-        steady = subst (λ (x : Opening S). IsSteady asked x new.journal.entries) opened (record { stepwise = told.stepwise; rests = told.rests });
+        steady = subst (λ (x : Opening S). IsSteady asked x new.journal.entries) opened
+            (record { stepwise = told.stepwise; rests = told.rests });
         opening = opened;
       }
 
@@ -170,7 +166,8 @@ module _ {S : Type 0} (asked : S → List Reply → Option TransferView) (o : Op
 pub lines-behind : (old added new : List Entry) (text made : List ℕ) (at : ℕ) → new ≡ old ++ added → text ≡ flat_map ended_line new
     → at ≡ length (flat_map ended_line old) → made ≡ drop at text → made ≡ flat_map ended_line added
 lines-behind old added new text made at entries lines counted is =
-    is ∙ ap (λ (k : ℕ). drop k text) counted ∙ ap (drop (length (flat_map ended_line old))) (lines ∙ ap (flat_map ended_line) entries ∙ lines-append old added)
+    is ∙ ap (λ (k : ℕ). drop k text) counted ∙ ap (drop (length (flat_map ended_line old)))
+    (lines ∙ ap (flat_map ended_line) entries ∙ lines-append old added)
     ∙ drop-append (flat_map ended_line old) (flat_map ended_line added)
   where
     drop-append : (xs ys : List ℕ) → drop (length xs) (xs ++ ys) ≡ ys

@@ -4,3 +4,5 @@ pub mod past
 pub mod schedule
 -- Worked examples.
 pub mod worked
+-- What the proofs of this crate cite from elsewhere.
+mod Cited

@@ -7,3 +7,5 @@ pub mod MuxUpdates
 pub mod MarksTold
 pub mod OpensFit
 mod StackLemmas
+-- What the proofs of this crate cite from elsewhere.
+mod Cited

@@ -1,14 +1,7 @@
 -- A step that is neither a message nor a line changes no mark.
-use Rattle.std.proofs.Common.{◌≡◌, ℕ, List, [], ◌∷◌, drop, refl, sym, subst}
-use Rattle.i2c_spec.specs.Tree.{Hop, locks_of}
-use Rattle.bus_spec.specs.Walk.{ActOutcome, JobOutcome}
-use Rattle.bus_spec.specs.Grammar.{first_act, first_note, locked, inner}
-use Rattle.mux_plan.specs.declared.task.Work.{Work}
-use Rattle.mux_plan.specs.declared.task.Task.{Task}
-use Rattle.mux_plan.specs.declared.task.Task.TheVariants.{Enter, Lock, Free, Rest, Line, Settle, AwaitClose, Pass, AwaitSelect, AwaitWork, AwaitDeselect}
-use Rattle.mux_plan.specs.Plans.{RouteView, job_of, note_of, tree_of}
-use Rattle.mux_plan.specs.Marks.{updates_after}
-use Rattle.mux_plan.specs.Rooms.{IsStep}
+use Rattle.mux_plan.proofs.Cited.{◌≡◌, ℕ, List, [], ◌∷◌, drop, refl, sym, subst, Hop, locks_of, ActOutcome, JobOutcome, first_act}
+use Rattle.mux_plan.proofs.Cited.{first_note, locked, inner, Work, Task, Enter, Lock, Free, Rest, Line, Settle, AwaitClose, Pass}
+use Rattle.mux_plan.proofs.Cited.{AwaitSelect, AwaitWork, AwaitDeselect, RouteView, job_of, note_of, tree_of, updates_after, IsStep}
 
 module _ (c : RouteView) (out : JobOutcome) (o : ActOutcome) where
   updates-lock : (m n : ℕ) (w : Work) (ts : List Task)

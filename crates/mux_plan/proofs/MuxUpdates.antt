@@ -1,17 +1,19 @@
 -- The marks that a step changes tell what is known of the buses behind it, and are of buses that are held.
-use Rattle.std.proofs.Common.{◌≡◌, ℕ, List, [], ◌∷◌, ◌++◌, length, set, Option, Some, None, zero, suc, ◌==◌, Bool, true, false, if◌then◌else◌, refl, sym, ◌∙◌, subst, arith, inl, inr}
+use Rattle.mux_plan.proofs.Cited.{◌≡◌, ℕ, List, [], ◌∷◌, length, Option, Some, None, zero, suc, ◌==◌, Bool, true, false, refl, sym, ◌∙◌}
+use Rattle.mux_plan.proofs.Cited.{subst, arith, inl, inr, Hop, Job, ActOutcome, Note, Slots, mark_in, updates_after}
+use Rattle.std.proofs.Common.{◌++◌, set, if◌then◌else◌}
 use Rattle.std.specs.List.{AllByRecursion}
 use Rattle.std.proofs.lemmas.Bool.Decides.{eqb_tells}
 use Rattle.std.proofs.lemmas.List.{length-set, get_or-set_other}
 use Rattle.std.proofs.lemmas.Grind.{get_or-set_at}
 use Rattle.i2c_base.specs.declared.entry.End.TheVariants as end
-use Rattle.i2c_spec.specs.Tree.{Hop}
 use Rattle.i2c_spec.specs.History.{changed_at}
-use Rattle.bus_spec.specs.Walk.{Mark, Job, Call, Select, SwitchOff, off_bus, off_mux, Act, ActOutcome, Passed, Sent, Lined, Note, first_byte}
+use Rattle.bus_spec.specs.Walk.{Mark, Call, Select, SwitchOff, off_bus, off_mux, Act, Passed, Sent, Lined, first_byte}
 use Rattle.bus_spec.specs.Walk as walk
-use Rattle.bus_spec.specs.Slots.{MuxSlot, Clean, Marked, Polled, Found, At, Slots, mark_in, turned_at, turned, set_marks, polled_slot, select_told, after_select, after_off, after_job}
+use Rattle.bus_spec.specs.Slots.{MuxSlot, Clean, Marked, Polled, Found, At, turned_at, turned, set_marks, polled_slot, select_told}
+use Rattle.bus_spec.specs.Slots.{after_select, after_off, after_job}
 use Rattle.mux_plan.specs.declared.marks.MuxUpdate.{MuxUpdate}
-use Rattle.mux_plan.specs.Marks.{marked, all_marked, left_open, updates_on, updates_of_job, updates_after, applied, IsSwitchedOn, MayMark, AreOn}
+use Rattle.mux_plan.specs.Marks.{marked, all_marked, left_open, updates_on, updates_of_job, applied, IsSwitchedOn, MayMark, AreOn}
 use Rattle.mux_plan.specs.Plans.{TellsMarks, slots_after}
 
 applied-push : (ds : List MuxUpdate) (d : MuxUpdate) (marks : List (Option ℕ))

@@ -1,20 +1,19 @@
 -- Opening a task changes the stack and not its tree: both sides compute to the same, but for the path and the lock mode.
-use Rattle.std.proofs.Common.{◌≡◌, ℕ, zero, suc, ◌+◌, ◌==◌, ◌&&◌, Bool, true, false, cond, not, List, [], ◌∷◌, drop, Option, Some, None, refl, sym, ◌∙◌, ap, ◌⊎◌, inl, inr}
+use Rattle.mux_plan.proofs.Cited.{◌≡◌, ℕ, zero, suc, ◌+◌, ◌==◌, Bool, true, false, cond, not, List, [], ◌∷◌, drop, Option, Some, None, refl}
+use Rattle.mux_plan.proofs.Cited.{sym, ◌∙◌, ap, inl, inr, list_any, Hop, locks_of, Job, ActOutcome, JobOutcome, Note, WalkTree, Then}
+use Rattle.mux_plan.proofs.Cited.{is_line, more_of, Slots, mark_in, over, locked, part, messages, at_bus, keeps, behind, inner, seen}
+use Rattle.mux_plan.proofs.Cited.{first_act, rest_of, Work, Task, Enter, Lock, Free, Rest, Line, Settle, AwaitClose, Pass, AwaitSelect}
+use Rattle.mux_plan.proofs.Cited.{AwaitWork, AwaitDeselect, RouteView, hop_at, job_of, note_of, tree_of, part_task, SeenView, mark_on}
+use Rattle.mux_plan.proofs.Cited.{kept_of, select_tasks, wait_tasks, is_deselect, slots_of, crossed_tasks, IsStep, IsReady}
+use Rattle.std.proofs.Common.{◌&&◌, ◌⊎◌}
 use Rattle.std.proofs.lemmas.List.{drop-drop}
 use Rattle.std.proofs.Math.Path.{fun_ext}
-use Rattle.std.specs.List.{list_any}
 use Rattle.i2c_base.specs.declared.errno.Errno.{Errno}
-use Rattle.i2c_spec.specs.Tree.{Hop, locks_of}
-use Rattle.bus_spec.specs.Walk.{Job, ActOutcome, JobOutcome, Good, Note, WalkTree, Look, Then, KeptOf, is_line, more_of}
+use Rattle.bus_spec.specs.Walk.{Good, Look, KeptOf}
 use Rattle.bus_spec.specs.Walk as walk
-use Rattle.bus_spec.specs.Slots.{Slots, mark_in}
-use Rattle.bus_spec.specs.Grammar.{Doer, plain, over, locked, part, messages, at_bus, closing, left_behind, opened, chosen, keeps, crossed, behind, inner, seen, first_act, rest_of}
-use Rattle.mux_plan.specs.declared.task.Work.{Work}
+use Rattle.bus_spec.specs.Grammar.{Doer, plain, closing, left_behind, opened, chosen, crossed}
 use Rattle.mux_plan.specs.declared.task.Work.TheVariants as work
-use Rattle.mux_plan.specs.declared.task.Task.{Task}
-use Rattle.mux_plan.specs.declared.task.Task.TheVariants.{Enter, Lock, Free, Rest, Line, Settle, AwaitClose, Pass, AwaitSelect, AwaitWork, AwaitDeselect}
-use Rattle.mux_plan.specs.Plans.{RouteView, hop_at, job_of, note_of, on_bus, tree_of, part_task, SeenView, mark_on, kept_of, choice_of, switch_of, select_tasks, wait_tasks, work_tasks, first_lock, locks_on, is_deselect, slot_of, slots_of, crossed_tasks}
-use Rattle.mux_plan.specs.Rooms.{IsStep, IsReady}
+use Rattle.mux_plan.specs.Plans.{on_bus, choice_of, switch_of, work_tasks, first_lock, locks_on, slot_of}
 
 -- the mark that is told is the one that is seen
 pub mark_slot : (x : Option ℕ) → mark_in (slot_of x) ≡ x
@@ -45,7 +44,7 @@ module _ (c : RouteView) where
   part_tree true n w ts out = refl
   part_tree false n w ts out = refl
 
-  -- after the work of a mux that stays as it is nothing is left to do
+  -- behind a mux that stays as it is nothing is left to do
   left_nothing : (h : Hop) (on : Doer) (k : JobOutcome → WalkTree) → left_behind true h on k ≡ k
   left_nothing h on k = fun_ext (λ out. refl)
 
@@ -143,7 +142,8 @@ module _ (c : RouteView) where
       → inner c.board c.root hs job note k ≡ at_bus job note k
   inner_bus [] job note k at_end = refl
   inner_bus (h ∷ hs) job note k (inl line) = ap
-      (λ (x : Bool). cond x (at_bus job note k) (behind c.board h (part h.parent (locks_of c.root hs) (inner c.board c.root hs)) job note k)) line
+      (λ (x : Bool). cond x (at_bus job note k) (behind c.board h (part h.parent (locks_of c.root hs)
+      (inner c.board c.root hs)) job note k)) line
   inner_bus (h ∷ hs) job note k (inr none) = absurd (let f : h ∷ hs ≡ [] = none in cc)
 
   pub tree_of-bus : (s : SeenView) (n : ℕ) (w : Work) (ts : List Task) (out : JobOutcome)

@@ -1,14 +1,10 @@
 -- The muxes over a bus of an accepted board: each on one of the first eight channels.
-use Rattle.std.proofs.Common.{ℕ, ◌<◌, List, [], ◌∷◌, refl, arith, inl, inr}
-use Rattle.std.specs.List.{All}
+use Rattle.mux_plan.proofs.Cited.{ℕ, ◌<◌, List, [], ◌∷◌, refl, arith, inl, inr, All, BoardView, Hop, hops, IsPlainBoard, IsNarrow}
 use Rattle.std.proofs.lemmas.List.Elements.{All-nil, All-cons}
-use Rattle.i2c_base.specs.Board.{BoardView}
-use Rattle.i2c_spec.specs.Tree.{Hop, hops, buses, IsAmongHops}
-use Rattle.i2c_spec.specs.Plain.{IsPlainBoard}
+use Rattle.i2c_spec.specs.Tree.{buses, IsAmongHops}
 use Rattle.i2c_spec.specs.Rules.{MeetsRules}
 use Rattle.i2c_spec.proofs.AddressLemmas.{tree_of}
 use Rattle.i2c_spec.proofs.PlainLemmas.{channels_of_mux_le}
-use Rattle.mux_plan.specs.Rooms.{IsNarrow}
 
 all_among : (P : Hop → Type 0) (hs : List Hop) → ((h : Hop) → IsAmongHops h hs → P h) → All P hs
 all_among P [] f = All-nil P

@@ -1,11 +1,9 @@
 -- A stack has room: below each task lie so many tasks for each mux that was crossed.
-use Rattle.std.proofs.Common.{◌≡◌, ℕ, ◌+◌, ◌*◌, ◌<◌, ◌≤◌, Bool, true, false, cond, sym, ◌∙◌, ap, subst, List, ◌∷◌, drop, length, Option, Some, None, arith}
-use Rattle.bus_spec.specs.Walk.{JobOutcome}
-use Rattle.mux_plan.specs.declared.task.Work.{Work}
-use Rattle.mux_plan.specs.declared.task.Task.{Task}
-use Rattle.mux_plan.specs.declared.task.Task.TheVariants.{Enter, Lock, Pass}
-use Rattle.mux_plan.specs.Plans.{RouteView, tree_of, part_task, select_tasks, wait_tasks, crossed_tasks}
-use Rattle.mux_plan.specs.Rooms.{IsPlacedWork, IsPlaced, IsPlanned}
+use Rattle.mux_plan.proofs.Cited.{◌≡◌, ℕ, ◌+◌, ◌<◌, ◌≤◌, Bool, true, false, cond, sym, ◌∙◌, ap, subst, List, ◌∷◌, drop, length, Option}
+use Rattle.mux_plan.proofs.Cited.{Some, None, arith, JobOutcome, Work, Task, Enter, Lock, Pass, RouteView, tree_of, part_task, select_tasks}
+use Rattle.mux_plan.proofs.Cited.{wait_tasks, crossed_tasks, IsPlanned}
+use Rattle.std.proofs.Common.{◌*◌}
+use Rattle.mux_plan.specs.Rooms.{IsPlacedWork, IsPlaced}
 
 -- a mux is crossed: the job that comes first there stands over what waits
 select_placed : (d : ℕ) (keep : Bool) (k : ℕ) (w : Work) (ts : List Task) → IsPlacedWork d w → k < d

@@ -1,5 +1,6 @@
 -- A list whose last element is left out, read from its end. No induction.
-use Rattle.std.proofs.Common.{◌≡◌, ℕ, ◌-◌, List, [], ◌∷◌, length, reverse, take, drop, get_or, refl, sym, ap, ◌∙◌, arith}
+use Rattle.mux_plan.proofs.Cited.{◌≡◌, ℕ, ◌-◌, List, [], ◌∷◌, length, reverse, drop, refl, sym, ap, ◌∙◌, arith}
+use Rattle.std.proofs.Common.{take, get_or}
 use Rattle.std.proofs.lemmas.List.{take_all}
 use Rattle.i2c_spec.proofs.HopLemmas.{reverse_back}
 

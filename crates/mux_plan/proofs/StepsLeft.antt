@@ -1,13 +1,10 @@
 -- A walk with a task that doesn't wait has a step to come: its tree doesn't end.
-use Rattle.std.proofs.Common.{◌≡◌, ℕ, zero, suc, Bool, true, false, cond, List, [], ◌∷◌, length, drop, ◌<◌, refl, sym, ◌∙◌, arith}
-use Rattle.i2c_spec.specs.Tree.{Hop, locks_of}
-use Rattle.bus_spec.specs.Walk.{Job, JobOutcome, Note, WalkTree, Then, is_line, more_of}
+use Rattle.mux_plan.proofs.Cited.{◌≡◌, ℕ, zero, suc, Bool, true, false, cond, List, [], ◌∷◌, length, drop, ◌<◌, refl, sym, ◌∙◌, arith, Hop}
+use Rattle.mux_plan.proofs.Cited.{locks_of, Job, JobOutcome, Note, WalkTree, Then, is_line, more_of, over, locked, part, messages, at_bus}
+use Rattle.mux_plan.proofs.Cited.{behind, inner, is_over, Task, Enter, Lock, Free, Rest, Line, Settle, AwaitClose, Pass, AwaitSelect}
+use Rattle.mux_plan.proofs.Cited.{AwaitWork, AwaitDeselect, RouteView, job_of, note_of, tree_of, IsReady}
 use Rattle.bus_spec.specs.Walk as walk
-use Rattle.bus_spec.specs.Grammar.{over, locked, part, messages, at_bus, behind, inner, is_over}
-use Rattle.mux_plan.specs.declared.task.Task.{Task}
-use Rattle.mux_plan.specs.declared.task.Task.TheVariants.{Enter, Lock, Free, Rest, Line, Settle, AwaitClose, Pass, AwaitSelect, AwaitWork, AwaitDeselect}
-use Rattle.mux_plan.specs.Plans.{RouteView, job_of, note_of, tree_of}
-use Rattle.mux_plan.specs.Rooms.{IsReady, IsWalk}
+use Rattle.mux_plan.specs.Rooms.{IsWalk}
 
 module _ (c : RouteView) where
   goes_on-messages : (left : ℕ) (job : Job) (note : Note) (k : JobOutcome → WalkTree) → is_over (messages left job note k) ≡ false
@@ -21,7 +18,8 @@ module _ (c : RouteView) where
       by true = refl
       by false = goes_on-messages (more_of job) job note k
 
-  goes_on-inner : (hs : List Hop) (job : Job) (note : Note) (k : JobOutcome → WalkTree) → is_over (inner c.board c.root hs job note k) ≡ false
+  goes_on-inner : (hs : List Hop) (job : Job) (note : Note) (k : JobOutcome → WalkTree) → is_over
+      (inner c.board c.root hs job note k) ≡ false
   goes_on-inner [] job note k = goes_on-bus job note k
   goes_on-inner (h ∷ hs) job note k = by (is_line job)
     where

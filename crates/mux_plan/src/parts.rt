@@ -362,7 +362,7 @@ impl WalkState {
         self.stack.push(Task::Pass { hop, work });
     }
 
-    // The mux waits for the work after it, but where it stays as it is.
+    // The mux waits for the work behind it, but where it stays as it is.
     fn wait_work(&mut self, hop: u8)
         requires room { length self.old.stack < STACK_ROOM }
         requires there { hop < length self.old.route.path }

@@ -1,21 +1,18 @@
 -- A hit and what follows it, of scripts that are fair.
-use Rattle.std.proofs.Common.{◌≡◌, ℕ, ◌<◌, Bool, true, false, cond, eqb, map, List, [], ◌∷◌, ◌++◌, length, Option, Some, None, arith, refl, sym, ◌∙◌, ap, subst}
-use Rattle.std.specs.Prelude.{is_some}
-use Rattle.std.specs.Option.{option_map, option_and_then}
-use Rattle.i2c_base.specs.Board.{BoardView}
-use Rattle.i2c_base.specs.declared.reply.Reply.{Reply}
-use Rattle.i2c_base.specs.Transfer.{TransferView}
-use Rattle.i2c_base.specs.Need.{Need, Covers}
-use Rattle.caller_core.specs.Callers.{ScriptsAreFair, board_of, owed_by}
-use Rattle.caller_core.specs.Scripts.{asked_by, left_of}
-use Rattle.caller_core.specs.View.{ScriptView}
-use Rattle.cache_laws.specs.declared.registers.Kept.{Kept}
+use Rattle.reg_cache.proofs.Cited.{◌≡◌, ℕ, ◌<◌, Bool, true, false, cond, eqb, map, List, [], ◌∷◌, ◌++◌, length, Option, Some, None, arith}
+use Rattle.reg_cache.proofs.Cited.{refl, sym, ◌∙◌, ap, subst, is_some, option_and_then, BoardView, Reply, TransferView, Covers, owed_by}
+use Rattle.reg_cache.proofs.Cited.{asked_by, left_of, ScriptView, Kept, pair_at, unknown, hit, known, all_of, with_hits, answered}
+use Rattle.reg_cache.proofs.Cited.{CachedScript, CachedView, cached_asked, cached_on, cached, taken_of, IsCached, HasAnswered}
+use Rattle.reg_cache.proofs.Cited.{HasAnsweredAll}
+use Rattle.std.specs.Option.{option_map}
+use Rattle.i2c_base.specs.Need.{Need}
+use Rattle.caller_core.specs.Callers.{ScriptsAreFair, board_of}
 use Rattle.cache_laws.specs.declared.registers.Access.{Access}
 use Rattle.cache_laws.specs.declared.registers.Pair.{Pair}
-use Rattle.cache_laws.specs.Cache.{Filled, access_of, is_at, pair_at, reply_of, unknown, hit_by, hit, known, learned, learned_by, all_of, with_hits, answered}
+use Rattle.cache_laws.specs.Cache.{Filled, access_of, is_at, reply_of, hit_by, learned, learned_by}
 use Rattle.cache_laws.proofs.Law.{known-more, filled-more}
 use Rattle.cache_laws.proofs.Fair.{hit-falls, hits-one, hits-over, stripped-answered, cached-fair}
-use Rattle.reg_cache.specs.Cached.{CachedScript, CachedView, cached_asked, cached_owed, cached_on, cached, kept_of, taken_of, IsCached, HasAnswered, HasAnsweredAll, CachedScriptsAreFair}
+use Rattle.reg_cache.specs.Cached.{cached_owed, kept_of, CachedScriptsAreFair}
 
 -- what is left of the script falls
 pub answered-falls : ScriptsAreFair → (s : ScriptView) (before after : List Reply) (kept new : List Kept)
@@ -50,9 +47,11 @@ pub record IsTaken (s : CachedScript) (full new : List Reply) (reply : Reply) (k
   pub cached : IsCached s new kept
   pub taken : taken_of s new ≡ taken_of s full ++ reply ∷ []
 
-pub take-all : ScriptsAreFair → (s : CachedScript) (full new : List Reply) (reply : Reply) (kept learns after : List Kept) (t : TransferView)
+pub take-all : ScriptsAreFair → (s : CachedScript) (full new : List Reply) (reply : Reply) (kept learns after : List Kept)
+    (t : TransferView)
     → IsCached s full kept → asked_by s.script full ≡ Some t → learns ≡ learned kept (Some t) reply
-    → ((ks : List Kept) → learns ≡ known (asked_by s.script) ks (full ++ reply ∷ []) → HasAnsweredAll s.script ks (full ++ reply ∷ []) new after)
+    → ((ks : List Kept) → learns ≡ known (asked_by s.script) ks (full ++ reply ∷ []) → HasAnsweredAll s.script ks
+    (full ++ reply ∷ []) new after)
     → IsTaken s full new reply after
 take-all fair s full new reply kept learns after t is asks learns_is all =
     record {

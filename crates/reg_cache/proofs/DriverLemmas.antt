@@ -1,15 +1,11 @@
 -- The transfers of a sensor's driver are the accesses of its registers.
-use Rattle.std.proofs.Common.{◌≡◌, ◌⊎◌, inl, inr, ℕ, zero, suc, ◌*◌, ◌<◌, ◌≤◌, ◌/◌, ◌%◌, refl, sym, subst, ◌∙◌, arith}
+use Rattle.reg_cache.proofs.Cited.{◌≡◌, ◌⊎◌, inl, inr, ℕ, zero, suc, ◌<◌, ◌≤◌, ◌/◌, ◌%◌, refl, sym, subst, ◌∙◌, arith, IsLowByte}
+use Rattle.reg_cache.proofs.Cited.{DeviceView, messages_of_call, RegName, Temp, Hyst, Max, raw_of, swapped, read_call, write_call}
+use Rattle.std.proofs.Common.{◌*◌}
 use Rattle.std.specs.Prelude.{ℤ, pos, negsuc, neg_ℤ, ◌*ℤ◌}
 use Rattle.std.specs.Int.{cast_unsigned, w16}
 use Rattle.std.proofs.Math.IntN.{negsuc-*ℤ-pos}
 use Rattle.std.proofs.lemmas.Bool.{cases_lt}
-use Rattle.cache_laws.specs.Order.{IsLowByte}
-use Rattle.i2c_base.specs.Board.{DeviceView}
-use Rattle.smb_emul.specs.Calls.{messages_of_call}
-use Rattle.tools.specs.declared.command.driver.lm75.RegName.{RegName}
-use Rattle.tools.specs.declared.command.driver.lm75.RegName.TheVariants.{Temp, Hyst, Max}
-use Rattle.i2c_drivers.specs.Lm75.{raw_of, swapped, read_call, write_call}
 use Rattle.cache_laws.specs.Order.{SensorRegister, Temperature, Hysteresis, Limit, register_read, register_write}
 
 abbrev pub register_named : RegName → SensorRegister

@@ -5,3 +5,4 @@ pub mod TextLemmas
 pub mod LineLemmas
 pub mod ScriptLemmas
 pub mod ReachLemmas
+mod Cited

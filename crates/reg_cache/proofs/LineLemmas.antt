@@ -1,12 +1,13 @@
 -- The transfers of a text, line by line: its handles reach by force only what stands in a `force` line, and each command asks only for
 -- what the rule tells. The inductions go over handles, lines and replies.
-use Rattle.std.proofs.Common.{◌≡◌, ◌⊎◌, ℕ, zero, suc, Bool, true, false, cond, inl, inr, List, [], ◌∷◌, ◌++◌, Option, Some, None, refl, sym, ◌∙◌, ap}
-use Rattle.std.specs.Prelude.{⊤, slice_set, nat_lt}
-use Rattle.std.specs.List.{AllByRecursion}
-use Rattle.i2c_base.specs.Board.{BoardView}
+use Rattle.reg_cache.proofs.Cited.{◌≡◌, ◌⊎◌, ℕ, zero, suc, Bool, true, false, cond, inl, inr, List, [], ◌∷◌, ◌++◌, Option, Some, None, refl}
+use Rattle.reg_cache.proofs.Cited.{sym, ◌∙◌, ap, slice_set, AllByRecursion, BoardView, HandlesView, Desc, DescOp, is_forced_in, addrs_of}
+use Rattle.reg_cache.proofs.Cited.{Touches, Unforced}
+use Rattle.std.specs.Prelude.{⊤, nat_lt}
 use Rattle.i2c_spec.specs.Tree.{buses}
 use Rattle.i2c_spec.specs.Grant.{grant_of, is_busy}
-use Rattle.dev_handle.specs.Handles.{HandlesView, handle_at, if_open, answer_by_handle, changed, changed_if, fresh, slaved, with_pec, target_at, target_of, bus_and_force}
+use Rattle.dev_handle.specs.Handles.{handle_at, if_open, answer_by_handle, changed, changed_if, fresh, slaved, with_pec, target_at}
+use Rattle.dev_handle.specs.Handles.{target_of, bus_and_force}
 use Rattle.dev_handle.specs.declared.handle.OpenHandle.{OpenHandle}
 use Rattle.tools.specs.Dialogues.{Dialogue}
 use Rattle.tools.specs.Gets as gets
@@ -23,16 +24,14 @@ use Rattle.tools.specs.declared.command.handle.HandleCmd.{HandleCmd}
 use Rattle.tools.specs.declared.command.handle.HandleCmd.TheVariants as handle
 use Rattle.tools.specs.declared.run.call.HeldOp.{HeldOp}
 use Rattle.tools.specs.declared.run.call.HeldOp.TheVariants as held
-use Rattle.tools.specs.declared.lists.Desc.{Desc}
-use Rattle.tools.specs.declared.lists.DescOp.{DescOp}
 use Rattle.tools.specs.declared.lists.DescOp.TheVariants as op
 use Rattle.tools.specs.Commands as tools
 use Rattle.tools.specs.Calls.{held_call}
 use Rattle.tools.specs.Chains.{chained}
 use Rattle.tools.specs.DumpTables.{dump_call}
-use Rattle.caller_core.specs.HandleRuns.{callee_of, run_by_answer, handle_run, handles_after, message_by_handle, messages_at, call_by_handle}
-use Rattle.caller_core.specs.Reach.{is_forced_in, addrs_of, forced_if, forced_by_tool, forced_by_handle}
-use Rattle.reg_cache.specs.Cacheable.{Touches, Unforced}
+use Rattle.caller_core.specs.HandleRuns.{callee_of, run_by_answer, handle_run, handles_after, message_by_handle, messages_at}
+use Rattle.caller_core.specs.HandleRuns.{call_by_handle}
+use Rattle.caller_core.specs.Reach.{forced_if, forced_by_tool, forced_by_handle}
 use Rattle.reg_cache.proofs.TextLemmas.{MayForce, touch-call, touch-transfer}
 
 module _ (b : BoardView) (text : List ℕ) where
@@ -58,7 +57,8 @@ module _ (b : BoardView) (text : List ℕ) where
   register_touch g reg mode.Word may k = touch-call b text (held_call (record { to = gets.get_callee g; op = held.ReadWord reg })) may
   register_touch g reg mode.SendReceive may k = touch-call b text (chained (record { to = gets.get_callee g; sent = reg }) k) may
   register_touch g reg mode.Block may k = touch-call b text (held_call (record { to = gets.get_callee g; op = held.BlockRead reg })) may
-  register_touch g reg mode.I2cBlock may k = touch-call b text (held_call (record { to = gets.get_callee g; op = held.I2cBlockRead reg (len_of g) })) may
+  register_touch g reg mode.I2cBlock may k = touch-call b text (held_call
+      (record { to = gets.get_callee g; op = held.I2cBlockRead reg (len_of g) })) may
 
   get_touch : (g : Get) (o : Option ℕ) → MayForce b text g.force g.addr → SaysTouch (forms.dialogue_of (run_by g o))
   get_touch g None may k = touch-call b text (held_call (record { to = gets.get_callee g; op = held.ReceiveByte })) may
@@ -98,7 +98,8 @@ module _ (b : BoardView) (text : List ℕ) where
   entries_more [] o ok one = (one, tt)
   entries_more (x ∷ v) o ok one = (ok.0, entries_more v o ok.1 one)
 
-  changed_ok : (v : HandlesView) (n : ℕ) (f : OpenHandle → Option OpenHandle) → HandlesOk v → ((h : OpenHandle) → HandleOk h → EntryOk (f h))
+  changed_ok : (v : HandlesView) (n : ℕ) (f : OpenHandle → Option OpenHandle) → HandlesOk v
+      → ((h : OpenHandle) → HandleOk h → EntryOk (f h))
       → HandlesOk (changed v n f)
   changed_ok v n f ok each = by (handle_at v n) (entry_at v n ok)
     where
@@ -106,7 +107,8 @@ module _ (b : BoardView) (text : List ℕ) where
       by None one = ok
       by (Some h) one = entries_set v n (f h) ok (each h one)
 
-  slaved_ok : (addr : ℕ) (force : Bool) → AllForced (forced_if force (addr ∷ [])) → (h : OpenHandle) → HandleOk h → EntryOk (slaved b addr force h)
+  slaved_ok : (addr : ℕ) (force : Bool) → AllForced (forced_if force (addr ∷ [])) → (h : OpenHandle) → HandleOk h
+      → EntryOk (slaved b addr force h)
   slaved_ok addr force all h ok = by (is_busy (grant_of b h.bus addr force)) force all
     where
       by : (z f : Bool) → AllForced (forced_if f (addr ∷ [])) → HandleOk (cond z h (record h { addr = Some addr; force = f }))
@@ -138,7 +140,12 @@ module _ (b : BoardView) (text : List ℕ) where
       at : (h : OpenHandle) (a : Option ℕ) → h.addr ≡ a → HandleOk h
           → Touches b text ((forms.dialogue_of (run_by_answer (message_by_handle o) (target_at h a))).at k)
       at h None e one = Unforced refl
-      at h (Some a) e (inl plain) = touch-transfer b text (record { force = h.force; bus = h.bus; messages = record { addr = a; op = o } ∷ [] }) (inl plain)
+      at h (Some a) e (inl plain) = touch-transfer b text (record {
+        force = h.force;
+        bus = h.bus;
+        messages =
+            record { addr = a; op = o } ∷ [];
+      }) (inl plain)
       at h (Some a) e (inr r) =
           touch-transfer b text (record { force = h.force; bus = h.bus; messages = record { addr = a; op = o } ∷ [] }) (inr (
             (let f : Some r.0 ≡ Some a = sym r.1 ∙ e in
@@ -146,7 +153,8 @@ module _ (b : BoardView) (text : List ℕ) where
             tt,
           ))
 
-      by : (x : Option OpenHandle) → EntryOk x → Touches b text ((forms.dialogue_of (run_by_answer (message_by_handle o) (if_open x target_of))).at k)
+      by : (x : Option OpenHandle) → EntryOk x → Touches b text ((forms.dialogue_of (run_by_answer (message_by_handle o)
+          (if_open x target_of))).at k)
       by None one = Unforced refl
       by (Some h) one = at h h.addr refl one
 
@@ -157,12 +165,15 @@ module _ (b : BoardView) (text : List ℕ) where
       at : (h : OpenHandle) (a : Option ℕ) → h.addr ≡ a → HandleOk h
           → Touches b text ((forms.dialogue_of (run_by_answer (call_by_handle o) (target_at h a))).at k)
       at h None e one = Unforced refl
-      at h (Some a) e (inl plain) = touch-call b text (held_call (record { to = callee_of (record { bus = h.bus; addr = a; force = h.force; pec = h.pec }); op = o })) (inl plain)
+      at h (Some a) e (inl plain) = touch-call b text (held_call
+          (record { to = callee_of (record { bus = h.bus; addr = a; force = h.force; pec = h.pec }); op = o })) (inl plain)
       at h (Some a) e (inr r) =
-          touch-call b text (held_call (record { to = callee_of (record { bus = h.bus; addr = a; force = h.force; pec = h.pec }); op = o })) (inr (let f : Some r.0 ≡ Some a = sym r.1 ∙ e in
+          touch-call b text (held_call (record { to = callee_of (record { bus = h.bus; addr = a; force = h.force; pec = h.pec }); op = o }))
+          (inr (let f : Some r.0 ≡ Some a = sym r.1 ∙ e in
           let same : r.0 ≡ a = cc in ap (λ (i : ℕ). is_forced_in b i text) (sym same) ∙ r.2))
 
-      by : (x : Option OpenHandle) → EntryOk x → Touches b text ((forms.dialogue_of (run_by_answer (call_by_handle o) (if_open x target_of))).at k)
+      by : (x : Option OpenHandle) → EntryOk x → Touches b text ((forms.dialogue_of (run_by_answer (call_by_handle o)
+          (if_open x target_of))).at k)
       by None one = Unforced refl
       by (Some h) one = at h h.addr refl one
 

@@ -1,15 +1,12 @@
 -- What is told of the reaches of scripts is what the rule reads off their texts. The inductions go over texts and numbers.
-use Rattle.std.proofs.Common.{◌≡◌, ℕ, zero, suc, ◌+◌, ◌≤◌, Bool, true, false, cond, not, ◌&&◌, ◌||◌, ◌==◌, List, [], ◌∷◌, ◌++◌, length, drop, Some, None, refl, sym, ◌∙◌, ap, subst, arith}
-use Rattle.std.specs.Prelude.{slice_get}
-use Rattle.std.specs.List.{list_any, filter, range_with_len, AllZip}
-use Rattle.std.proofs.lemmas.Bool.{eq-eqb, eqb-true}
+use Rattle.reg_cache.proofs.Cited.{◌≡◌, ℕ, zero, suc, ◌+◌, ◌≤◌, Bool, true, false, cond, not, ◌&&◌, ◌||◌, ◌==◌, List, [], ◌∷◌, ◌++◌, length}
+use Rattle.reg_cache.proofs.Cited.{drop, Some, None, refl, sym, ◌∙◌, ap, subst, arith, slice_get, list_any, filter, range_with_len, eq-eqb}
+use Rattle.reg_cache.proofs.Cited.{eqb-true, BoardView, DeviceView, Cmd, is_forced_in, is_write_to, script_on, Texts, AreReaches}
+use Rattle.reg_cache.proofs.Cited.{another_writes}
+use Rattle.std.specs.List.{AllZip}
 use Rattle.std.proofs.lemmas.List.Elements.{filter-append}
-use Rattle.i2c_base.specs.Board.{BoardView, DeviceView}
-use Rattle.tools.specs.declared.command.Cmd.{Cmd}
-use Rattle.caller_core.specs.Reach.{HasReach, IsReachOf, is_forced_by, is_forced_in, is_write_to}
+use Rattle.caller_core.specs.Reach.{HasReach, IsReachOf, is_forced_by}
 use Rattle.caller_core.specs.declared.reach.Reach.{Reach}
-use Rattle.caller_core.specs.View.{script_on}
-use Rattle.reg_cache.specs.Cacheable.{Texts, AreReaches, another_writes}
 
 -- what stands behind so many of a list, at one of the other
 pub record IsRest {X Y : Type 0} (R : X → Y → Type 0) (xs : List X) (i : ℕ) (y : Y) : Type 0 where
@@ -61,7 +58,8 @@ module _ (b : BoardView) (texts : Texts) (reaches : List Reach) (are : AreReache
         let r = rest_there IsReach texts reaches i reach are at in
         let next : suc i ≡ i + 1 = omega arith in
         ap (another_writes b v.bus v.addr c i) r.rest
-        ∙ ap (λ (z : Bool). (not (i == c) && z) || another_writes b v.bus v.addr c (i + 1) (drop (suc i) texts)) (sym (is b _ v r.holds there))
+        ∙ ap (λ (z : Bool). (not (i == c) && z) || another_writes b v.bus v.addr c (i + 1) (drop (suc i) texts))
+        (sym (is b _ v r.holds there))
         ∙ ap (λ (n : ℕ). (not (i == c) && told) || another_writes b v.bus v.addr c (i + 1) (drop n texts)) next
 
   -- of none
@@ -95,5 +93,6 @@ pub one-kept : (q : ℕ → Bool) (n : ℕ) (z : Bool) → z ≡ q n
     → filter q (range_with_len 0 (n + 1)) ≡ filter q (range_with_len 0 n) ++ cond z (n ∷ []) []
 one-kept q n z is =
     let next : n + 1 ≡ suc n = omega arith in
-    ap (λ (k : ℕ). filter q (range_with_len 0 k)) next ∙ ap (filter q) (range_more 0 n n (omega arith)) ∙ filter-append q (range_with_len 0 n) (n ∷ [])
+    ap (λ (k : ℕ). filter q (range_with_len 0 k)) next ∙ ap (filter q) (range_more 0 n n (omega arith))
+    ∙ filter-append q (range_with_len 0 n) (n ∷ [])
     ∙ ap (λ (y : Bool). filter q (range_with_len 0 n) ++ cond y (n ∷ []) []) (sym is)

@@ -1,30 +1,23 @@
 -- All transfers of a script are ones that its text may ask for. The inductions go over lines and replies.
-use Rattle.std.proofs.Common.{◌≡◌, ℕ, zero, suc, ◌+◌, ◌/◌, ◌%◌, Bool, true, false, cond, ◌&&◌, ◌||◌, List, [], ◌∷◌, ◌++◌, length, drop, Option, Some, None, Result, Ok, Err, eqb, refl, sym, ◌∙◌, ap, subst}
-use Rattle.std.proofs.lemmas.Bool.{eq-eqb}
-use Rattle.std.proofs.Math.Bool.{or-true}
-use Rattle.std.specs.Prelude.{filter_map, nat_le}
-use Rattle.std.specs.List.{list_any, AllByRecursion, fold, cons_option}
-use Rattle.i2c_base.specs.Board.{BoardView}
-use Rattle.i2c_base.specs.Transfer.{TransferView}
-use Rattle.i2c_base.specs.declared.board.Size.{Size}
-use Rattle.i2c_base.specs.declared.reply.Reply.{Reply}
+use Rattle.reg_cache.proofs.Cited.{◌≡◌, ℕ, zero, suc, ◌+◌, ◌/◌, ◌%◌, Bool, true, false, cond, ◌&&◌, ◌||◌, List, [], ◌∷◌, ◌++◌, length, drop}
+use Rattle.reg_cache.proofs.Cited.{Option, Some, None, eqb, refl, sym, ◌∙◌, ap, subst, eq-eqb, or-true, filter_map, list_any}
+use Rattle.reg_cache.proofs.Cited.{AllByRecursion, cons_option, BoardView, TransferView, Size, Reply, HandlesView, messages_of_call, Cmd}
+use Rattle.reg_cache.proofs.Cited.{RegName, Temp, Hyst, Max, eeprom_at, is_sensor, sensor_at, write_call, raw_of, swapped, asked_by}
+use Rattle.reg_cache.proofs.Cited.{script_on, IsLowByte, is_forced_in, is_write_to, writes_in, Touches, Unforced, SensorWrite, AsksTouch}
+use Rattle.std.proofs.Common.{Result, Ok, Err}
+use Rattle.std.specs.Prelude.{nat_le}
+use Rattle.std.specs.List.{fold}
 use Rattle.i2c_spec.specs.Flat.{block_limit}
-use Rattle.dev_handle.specs.Handles.{HandlesView}
-use Rattle.smb_emul.specs.Calls.{messages_of_call}
 use Rattle.tools.specs.Dialogues.{place_after, is_over}
 use Rattle.tools.specs.Lines.{line_read}
 use Rattle.tools.specs.Splits.{lines_of}
 use Rattle.tools.specs.Lm75Lines.{IsWritten, IsRegWriteInRange}
-use Rattle.tools.specs.declared.command.Cmd.{Cmd}
 use Rattle.tools.specs.declared.command.Cmd.TheVariants as cmd
 use Rattle.tools.specs.declared.command.driver.DriverCmd.{DriverCmd}
 use Rattle.tools.specs.declared.command.driver.DriverCmd.TheVariants as driver
 use Rattle.tools.specs.declared.command.driver.lm75.Lm75Write.{Lm75Write}
-use Rattle.tools.specs.declared.command.driver.lm75.RegName.{RegName}
-use Rattle.tools.specs.declared.command.driver.lm75.RegName.TheVariants.{Temp, Hyst, Max}
 use Rattle.i2c_drivers.specs.At24.{at24_dialogue, eeprom_read_by, write_by, read_piece, write_piece}
-use Rattle.i2c_drivers.specs.Bound.{eeprom_at, is_sensor, sensor_at}
-use Rattle.i2c_drivers.specs.Lm75.{lm75_dialogue, write_call, pointer_of, raw_of, swapped}
+use Rattle.i2c_drivers.specs.Lm75.{lm75_dialogue, pointer_of}
 use Rattle.i2c_drivers.specs.Pages.{fits_in}
 use Rattle.i2c_drivers.specs.Runs as drivers
 use Rattle.i2c_drivers.specs.Runs.{driver_run}
@@ -32,15 +25,15 @@ use Rattle.i2c_drivers.specs.declared.lm75.Lm75Run.TheVariants as lm75
 use Rattle.i2c_drivers.specs.declared.at24.At24Run.TheVariants as at24
 use Rattle.i2c_base.specs.declared.errno.Errno.TheVariants as errno
 use Rattle.caller_core.specs.Runs.{command_dialogue, command_run, handles_behind}
-use Rattle.caller_core.specs.Scripts.{Place, command_of, at_most, behind_commands, lines_read, behind_line_read, text_read, commands_or_none, commands_of, asked_by}
+use Rattle.caller_core.specs.Scripts.{Place, command_of, at_most, behind_commands, lines_read, behind_line_read, text_read}
+use Rattle.caller_core.specs.Scripts.{commands_or_none, commands_of}
 use Rattle.caller_core.specs.Turns.{Progress, command_talk, quiet_front, turn_to, over_with, replied_to, replied, progress, next_of}
-use Rattle.caller_core.specs.View.{CommandView, script_on}
+use Rattle.caller_core.specs.View.{CommandView}
 use Rattle.caller_core.proofs.CommandLemmas.{read_in_range}
 use Rattle.i2c_drivers.proofs.DriverLemmas.{raw_small}
 use Rattle.cache_laws.specs.Cache.{is_kept}
-use Rattle.cache_laws.specs.Order.{number_of, IsLowByte}
-use Rattle.caller_core.specs.Reach.{commands_in, command_in, forced_by, is_forced_in, is_write_to, writes_in}
-use Rattle.reg_cache.specs.Cacheable.{Touches, Unforced, SensorWrite, AsksTouch}
+use Rattle.cache_laws.specs.Order.{number_of}
+use Rattle.caller_core.specs.Reach.{commands_in, command_in, forced_by}
 use Rattle.reg_cache.proofs.DriverLemmas.{register_named, writes-are, raw-whole, low-byte}
 use Rattle.reg_cache.proofs.TextLemmas.{IsBound, sensor_there, touch-eeprom, touch-sensor-read, touch-sensors}
 use Rattle.reg_cache.proofs.LineLemmas.{SaysTouch, HandlesOk, after-ok, tool-touch, handle-touch}
@@ -65,7 +58,8 @@ written_kept Temp is = absurd is
 written_kept Hyst is = refl
 written_kept Max is = refl
 
-pub writes-whole : (b : BoardView) (line : List ℕ) (w : Lm75Write) → line_read (block_limit b) line ≡ Ok (Some (cmd.Driver (driver.Lm75Write w)))
+pub writes-whole : (b : BoardView) (line : List ℕ) (w : Lm75Write) → line_read (block_limit b) line ≡ Ok
+    (Some (cmd.Driver (driver.Lm75Write w)))
     → WritesWhole w
 writes-whole b line w e =
     let range : IsRegWriteInRange w =
@@ -80,13 +74,17 @@ module _ (b : BoardView) (text : List ℕ) where
     pub lines : (w : Lm75Write) → c ≡ cmd.Driver (driver.Lm75Write w) → WritesWhole w
 
   -- ---- drivers
-  at24_read : (bus addr offset count : ℕ) (o : Option Size) → eeprom_at b bus addr ≡ o → SaysTouch b text (at24_dialogue (eeprom_read_by o bus addr offset count))
+  at24_read : (bus addr offset count : ℕ) (o : Option Size) → eeprom_at b bus addr ≡ o → SaysTouch b text
+      (at24_dialogue (eeprom_read_by o bus addr offset count))
   at24_read bus addr offset count None e k = Unforced refl
   at24_read bus addr offset count (Some size) e k = by (fits_in size offset count)
     where
-      by : (z : Bool) → Touches b text ((at24_dialogue (cond z (at24.Reads (record { of = record { bus = bus; addr = addr; size = size }; offset = offset; count = count })) (at24.Refused errno.Einval))).at k)
+      by : (z : Bool) → Touches b text ((at24_dialogue (cond z (at24.Reads
+          (record { of = record { bus = bus; addr = addr; size = size }; offset = offset; count = count })) (at24.Refused errno.Einval))).at
+          k)
       by true = touch-eeprom b text bus addr size e
-          (read_piece (record { of = record { bus = bus; addr = addr; size = size }; offset = offset; count = count }) (k / 8)) refl refl (refl, (refl, tt))
+          (read_piece (record { of = record { bus = bus; addr = addr; size = size }; offset = offset; count = count }) (k / 8)) refl refl
+          (refl, (refl, tt))
       by false = Unforced refl
 
   at24_write : (bus addr offset : ℕ) (bytes : List ℕ) (o : Option Size) → eeprom_at b bus addr ≡ o
@@ -94,9 +92,12 @@ module _ (b : BoardView) (text : List ℕ) where
   at24_write bus addr offset bytes None e k = Unforced refl
   at24_write bus addr offset bytes (Some size) e k = by (fits_in size offset (length bytes))
     where
-      by : (z : Bool) → Touches b text ((at24_dialogue (cond z (at24.Writes (record { of = record { bus = bus; addr = addr; size = size }; offset = offset; bytes = bytes })) (at24.Refused errno.Einval))).at k)
+      by : (z : Bool) → Touches b text ((at24_dialogue (cond z (at24.Writes
+          (record { of = record { bus = bus; addr = addr; size = size }; offset = offset; bytes = bytes })) (at24.Refused errno.Einval))).at
+          k)
       by true = touch-eeprom b text bus addr size e
-          (write_piece (record { of = record { bus = bus; addr = addr; size = size }; offset = offset; bytes = bytes }) (k / 8)) refl refl (refl, tt)
+          (write_piece (record { of = record { bus = bus; addr = addr; size = size }; offset = offset; bytes = bytes }) (k / 8)) refl refl
+          (refl, tt)
       by false = Unforced refl
 
   driver_touch : (d : DriverCmd) → CommandOk (cmd.Driver d) → SaysTouch b text (drivers.driver_dialogue (driver_run b d))
@@ -105,7 +106,8 @@ module _ (b : BoardView) (text : List ℕ) where
   driver_touch (driver.Lm75Read r) ok k = by (sensor_at b r.bus r.addr) refl
     where
       by : (z : Bool) → sensor_at b r.bus r.addr ≡ z
-          → Touches b text ((lm75_dialogue (cond z (lm75.Reads (record { bus = r.bus; addr = r.addr }) r.which) (lm75.Refused errno.Enodev))).at k)
+          → Touches b text ((lm75_dialogue (cond z (lm75.Reads (record { bus = r.bus; addr = r.addr }) r.which)
+          (lm75.Refused errno.Enodev))).at k)
       by true e = touch-sensor-read b text r.bus r.addr r.which e
       by false e = Unforced refl
   driver_touch (driver.Lm75Write w) ok k = by (sensor_at b w.bus w.addr) refl
@@ -117,8 +119,10 @@ module _ (b : BoardView) (text : List ℕ) where
           → Touches b text (messages_of_call (write_call (record { bus = w.bus; addr = w.addr }) w.which (swapped (raw_of w.milli))))
       write d =
           SensorWrite d.e d.v (register_named w.which) (swapped (raw_of w.milli) % 256) (swapped (raw_of w.milli) / 256) d.at
-          (ap (λ (i : ℕ). messages_of_call (write_call (record { bus = i; addr = w.addr }) w.which (swapped (raw_of w.milli)))) (sym d.bus_is)
-          ∙ ap (λ (a : ℕ). messages_of_call (write_call (record { bus = d.v.bus; addr = a }) w.which (swapped (raw_of w.milli)))) (sym d.addr_is)
+          (ap (λ (i : ℕ). messages_of_call (write_call (record { bus = i; addr = w.addr }) w.which (swapped (raw_of w.milli))))
+          (sym d.bus_is)
+          ∙ ap (λ (a : ℕ). messages_of_call (write_call (record { bus = d.v.bus; addr = a }) w.which (swapped (raw_of w.milli))))
+          (sym d.addr_is)
           ∙ writes-are d.v w.which (swapped (raw_of w.milli)))
           (kept_number w.which told.kept) told.low
           (ap (λ (i : ℕ). writes_in b i d.v.addr text) d.bus_is ∙ ap (λ (a : ℕ). writes_in b w.bus a text) d.addr_is
@@ -130,7 +134,8 @@ module _ (b : BoardView) (text : List ℕ) where
           kept_number Max is = is
 
       by : (z : Bool) → sensor_at b w.bus w.addr ≡ z
-          → Touches b text ((lm75_dialogue (cond z (lm75.Writes (record { bus = w.bus; addr = w.addr }) w.which (swapped (raw_of w.milli))) (lm75.Refused errno.Enodev))).at k)
+          → Touches b text ((lm75_dialogue (cond z (lm75.Writes (record { bus = w.bus; addr = w.addr }) w.which (swapped (raw_of w.milli)))
+          (lm75.Refused errno.Enodev))).at k)
       by true e = write (sensor_there b text w.bus w.addr e)
       by false e = Unforced refl
   driver_touch driver.Sensors ok k = touch-sensors b text k
@@ -162,7 +167,8 @@ module _ (b : BoardView) (text : List ℕ) where
       (λ c ok ds f. lines_touch ls (number + 1) (count + 1) (handles_behind b v c) (behind_ok v handles c ok) all.1 ds f)
     where
       one_more : (c : Cmd) → CommandOk c
-          → ((ds : List CommandView) → lines_read b (number + 1) (count + 1) ls (handles_behind b v c) ≡ Ok ds → AllByRecursion CommandTouches ds)
+          → ((ds : List CommandView) → lines_read b (number + 1) (count + 1) ls (handles_behind b v c) ≡ Ok ds
+          → AllByRecursion CommandTouches ds)
           → (r : Result (List CommandView) Place) → lines_read b (number + 1) (count + 1) ls (handles_behind b v c) ≡ r
           → behind_commands (command_of b v l c ∷ []) r ≡ Ok cs → AllByRecursion CommandTouches cs
       one_more c ok rest (Ok ds) f g =
@@ -192,7 +198,8 @@ module _ (b : BoardView) (text : List ℕ) where
           bad false word g = absurd (let h : Err (record { line = number; word = word }) ≡ Ok cs = g in cc)
 
           at : (x : Result (Option Cmd) ℕ) → line_read (block_limit b) l ≡ x
-              → behind_line_read b v number l (at_most count x) (lines_read b (number + 1) count ls v) (lines_read b (number + 1) (count + 1) ls) ≡ Ok cs
+              → behind_line_read b v number l (at_most count x) (lines_read b (number + 1) count ls v)
+              (lines_read b (number + 1) (count + 1) ls) ≡ Ok cs
               → AllByRecursion CommandTouches cs
           at (Ok None) k g = same g
           at (Ok (Some c)) k g = few (nat_le 1000 count) c (all.0 c k) g
@@ -204,7 +211,8 @@ module _ (b : BoardView) (text : List ℕ) where
       → list_any test (filter_map (λ (x : List ℕ). command_in (line_read (block_limit b) x)) ls) ≡ true) ls
   found test [] = tt
   found test (l ∷ ls) = (
-    (λ c e is. ap (λ (r : Result (Option Cmd) ℕ). list_any test (cons_option (command_in r) (filter_map (λ (x : List ℕ). command_in (line_read (block_limit b) x)) ls))) e
+    (λ c e is. ap (λ (r : Result (Option Cmd) ℕ). list_any test (cons_option (command_in r)
+        (filter_map (λ (x : List ℕ). command_in (line_read (block_limit b) x)) ls))) e
         ∙ ap (λ (z : Bool). z || list_any test (filter_map (λ (x : List ℕ). command_in (line_read (block_limit b) x)) ls)) is),
     all_map (λ (y : List ℕ). (c : Cmd) → line_read (block_limit b) y ≡ Ok (Some c) → test c ≡ true
         → list_any test (filter_map (λ (x : List ℕ). command_in (line_read (block_limit b) x)) ls) ≡ true)
@@ -257,11 +265,13 @@ module _ (b : BoardView) (text : List ℕ) where
       by [] e h = all
       by (c ∷ cs) e h = at (is_over (command_talk c) (place_after (command_talk c) (p.own ++ r ∷ [])))
         where
-          at : (z : Bool) → AllByRecursion CommandTouches (cond z (turn_to (over_with p c (p.own ++ r ∷ [])) cs) (record p { own = p.own ++ r ∷ [] })).left
+          at : (z : Bool) → AllByRecursion CommandTouches (cond z (turn_to (over_with p c (p.own ++ r ∷ [])) cs)
+              (record p { own = p.own ++ r ∷ [] })).left
           at true = all_drop CommandTouches (quiet_front cs) cs h.1
           at false = all
 
-  progress_touch : (p : Progress) (rs : List Reply) → AllByRecursion CommandTouches p.left → AllByRecursion CommandTouches (fold replied p rs).left
+  progress_touch : (p : Progress) (rs : List Reply) → AllByRecursion CommandTouches p.left → AllByRecursion CommandTouches
+      (fold replied p rs).left
   progress_touch p [] all = all
   progress_touch p (r ∷ rs) all = progress_touch (replied p r) rs (replied_touch p r all)
 
@@ -278,7 +288,8 @@ module _ (b : BoardView) (text : List ℕ) where
           at : (z : Bool) → cond z None (Some ((command_talk c).at (place_after (command_talk c) own))) ≡ Some t → Touches b text t
           at true g = absurd (let h : None ≡ Some t = g in cc)
           at false g =
-              let is : (command_talk c).at (place_after (command_talk c) own) ≡ t = (let h : Some ((command_talk c).at (place_after (command_talk c) own)) ≡ Some t = g in cc) in
+              let is : (command_talk c).at (place_after (command_talk c) own) ≡ t =
+              (let h : Some ((command_talk c).at (place_after (command_talk c) own)) ≡ Some t = g in cc) in
               subst (λ (x : TransferView). Touches b text x) is (all.0 (place_after (command_talk c) own))
 
 -- ALL SCRIPTS

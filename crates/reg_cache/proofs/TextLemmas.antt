@@ -1,35 +1,23 @@
 -- What the transfers of a script may be, by its text: one lemma for each form of a command. The inductions go over lines, handles and
 -- devices.
-use Rattle.std.proofs.Common.{◌≡◌, ◌⊎◌, ℕ, zero, suc, Bool, true, false, cond, ◌&&◌, inl, inr, List, [], ◌∷◌, ◌++◌, map, Option, Some, None, eqb, refl, sym, ◌∙◌, ap, subst}
-use Rattle.std.proofs.lemmas.Bool.{eqb-true}
-use Rattle.std.specs.Prelude.{slice_get, is_some, find, filter_map}
-use Rattle.std.specs.List.{AllByRecursion, cons_option}
-use Rattle.std.specs.Option.{option_and_then}
-use Rattle.i2c_base.specs.declared.board.DeviceKind.{DeviceKind}
+use Rattle.reg_cache.proofs.Cited.{◌≡◌, ◌⊎◌, ℕ, zero, suc, Bool, true, false, cond, ◌&&◌, inl, inr, List, [], ◌∷◌, ◌++◌, map, Option, Some}
+use Rattle.reg_cache.proofs.Cited.{None, eqb, refl, sym, ◌∙◌, ap, subst, eqb-true, slice_get, is_some, filter_map, AllByRecursion}
+use Rattle.reg_cache.proofs.Cited.{cons_option, option_and_then, DeviceKind, Size, Msg, BoardView, DeviceView, TransferView}
+use Rattle.reg_cache.proofs.Cited.{messages_of_call, Desc, DescOp, eeprom_at, is_sensor, sensor_at, read_call, RegName, Temp, is_forced_in}
+use Rattle.reg_cache.proofs.Cited.{addrs_of, Touches, Unforced, Forced, SensorRead, OtherDriver, and_first, and_last}
+use Rattle.std.specs.Prelude.{find}
 use Rattle.i2c_base.specs.declared.board.DeviceKind.TheVariants as kind
-use Rattle.i2c_base.specs.declared.board.Size.{Size}
-use Rattle.i2c_base.specs.declared.transfer.Msg.{Msg}
-use Rattle.i2c_base.specs.Board.{BoardView, DeviceView}
-use Rattle.i2c_base.specs.Transfer.{TransferView}
 use Rattle.i2c_spec.specs.declared.smbus_row.ReadShape.{ReadShape}
 use Rattle.i2c_spec.specs.declared.smbus_row.ReadShape.TheVariants as read
-use Rattle.smb_emul.specs.Calls.{call_row, is_coded, write_messages, read_messages, messages_of_call}
+use Rattle.smb_emul.specs.Calls.{call_row, is_coded, write_messages, read_messages}
 use Rattle.smb_emul.specs.declared.call.SmbCall.{SmbCall}
-use Rattle.tools.specs.declared.lists.Desc.{Desc}
-use Rattle.tools.specs.declared.lists.DescOp.{DescOp}
 use Rattle.tools.specs.declared.lists.DescOp.TheVariants as op
 use Rattle.tools.specs.declared.command.transfer.Combined.{Combined}
 use Rattle.tools.specs.Transfers.{message_to, desc_message, transfer_of}
-use Rattle.i2c_drivers.specs.Bound.{is_bound_at, bound_at, eeprom_at, is_eeprom, is_sensor, size_of_device, sensor_at, sensor_in, sensors_of}
+use Rattle.i2c_drivers.specs.Bound.{is_bound_at, bound_at, is_eeprom, size_of_device, sensor_in, sensors_of}
 use Rattle.i2c_drivers.specs.Sensors.{sensor_transfer}
-use Rattle.i2c_drivers.specs.Lm75.{read_call}
 use Rattle.i2c_drivers.specs.declared.bound.Sensor.{Sensor}
-use Rattle.tools.specs.declared.command.driver.lm75.RegName.{RegName}
-use Rattle.tools.specs.declared.command.driver.lm75.RegName.TheVariants.{Temp}
-use Rattle.caller_core.specs.Reach.{is_forced_in, addrs_of}
-use Rattle.reg_cache.specs.Cacheable.{Touches, Unforced, Forced, SensorRead, OtherDriver}
 use Rattle.reg_cache.proofs.DriverLemmas.{register_named, reads-are}
-use Rattle.i2c_base.proofs.Booleans.{and_first, and_last}
 
 -- ---- SMBus calls: all messages go to the address of the call
 read_all : (addr : ℕ) (coded : Bool) (r : ReadShape) → AllByRecursion (λ (m : Msg). m.addr ≡ addr) (read_messages addr coded r)
@@ -123,15 +111,14 @@ module _ (b : BoardView) (text : List ℕ) where
   eeprom_there : (bus addr : ℕ) (size : Size) → eeprom_at b bus addr ≡ Some size → IsBound is_eeprom bus addr
   eeprom_there bus addr size e = by (bound_at b is_eeprom bus addr) refl e
     where
-      by : (o : Option DeviceView) → bound_at b is_eeprom bus addr ≡ o → option_and_then size_of_device o ≡ Some size → IsBound is_eeprom bus addr
+      by : (o : Option DeviceView) → bound_at b is_eeprom bus addr ≡ o → option_and_then size_of_device o ≡ Some size
+          → IsBound is_eeprom bus addr
       by None f g = absurd (let h : None ≡ Some size = g in cc)
       by (Some v) f g = (bound_there is_eeprom bus addr v f).0
 
   not_sensor : (k : DeviceKind) → is_eeprom k ≡ true → is_sensor k ≡ false
   not_sensor (kind.Eeprom size fill busy wp) e = refl
-  not_sensor (kind.Lm75 raw) e = absurd (let f : false ≡ true = e in cc)
-  not_sensor (kind.Regs hold) e = absurd (let f : false ≡ true = e in cc)
-  not_sensor (kind.Smbus width flip) e = absurd (let f : false ≡ true = e in cc)
+  not_sensor _ e = absurd (let f : false ≡ true = e in cc)
 
   -- at24: forced messages to an EEPROM
   pub touch-eeprom : (bus addr : ℕ) (size : Size) → eeprom_at b bus addr ≡ Some size → (t : TransferView) → t.force ≡ true → t.bus ≡ bus

@@ -1,30 +1,21 @@
 -- Who may touch: where each transfer is one that a text may ask for, all are harmless for what the rule lets callers keep. The
 -- inductions go over the texts and the devices.
-use Rattle.std.proofs.Common.{◌≡◌, ℕ, zero, suc, ◌+◌, ◌<◌, Bool, true, false, cond, not, ◌&&◌, ◌||◌, List, [], ◌∷◌, length, map, Option, Some, None, eqb, refl, sym, ◌∙◌, ap, subst, arith, zero-add}
-use Rattle.std.proofs.lemmas.Bool.{eqb-true, not-true}
-use Rattle.std.proofs.Math.Bool.{or-true}
+use Rattle.reg_cache.proofs.Cited.{◌≡◌, ℕ, zero, suc, ◌+◌, ◌<◌, Bool, true, false, cond, not, ◌&&◌, ◌||◌, List, [], ◌∷◌, length, map}
+use Rattle.reg_cache.proofs.Cited.{Option, Some, None, eqb, refl, sym, ◌∙◌, ap, subst, arith, eqb-true, or-true, slice_get-get_or}
+use Rattle.reg_cache.proofs.Cited.{slice_get, list_any, filter, range_with_len, AllByRecursion, DeviceKind, Reply, Msg, BoardView}
+use Rattle.reg_cache.proofs.Cited.{DeviceView, TransferView, is_sensor, script_on, Kept, unknown, cached_on, is_forced_in, writes_in}
+use Rattle.reg_cache.proofs.Cited.{Touches, Unforced, Forced, SensorRead, SensorWrite, OtherDriver, AsksTouch, another_writes, is_cacheable}
+use Rattle.reg_cache.proofs.Cited.{and_first, and_last}
+use Rattle.std.proofs.Common.{zero-add}
+use Rattle.std.proofs.lemmas.Bool.{not-true}
 use Rattle.std.proofs.lemmas.List.FromFn.{length-range_with_len, get_or-range_with_len}
-use Rattle.std.proofs.lemmas.Option.{slice_get-get_or, slice_get_within}
-use Rattle.std.specs.Prelude.{slice_get}
-use Rattle.std.specs.List.{list_any, filter, range_with_len, AllByRecursion}
+use Rattle.std.proofs.lemmas.Option.{slice_get_within}
 use Rattle.std.specs.Option.{option_map_or}
-use Rattle.i2c_base.specs.declared.board.DeviceKind.{DeviceKind}
 use Rattle.i2c_base.specs.declared.board.DeviceKind.TheVariants as kind
-use Rattle.i2c_base.specs.declared.reply.Reply.{Reply}
-use Rattle.i2c_base.specs.declared.transfer.Msg.{Msg}
-use Rattle.i2c_base.specs.Board.{BoardView, DeviceView}
-use Rattle.i2c_base.specs.Transfer.{TransferView}
 use Rattle.i2c_spec.specs.TreeFacts.{IsTree}
-use Rattle.i2c_drivers.specs.Bound.{is_sensor}
-use Rattle.caller_core.specs.View.{script_on}
-use Rattle.cache_laws.specs.declared.registers.Kept.{Kept}
-use Rattle.cache_laws.specs.Cache.{unknown}
 use Rattle.cache_laws.specs.Order.{is_kept_by, IsHarmless, Leaves, Reads, Writes, MayBeCached}
 use Rattle.cache_laws.proofs.Touch.{leaves-unforced, leaves-apart, leaves-other}
-use Rattle.reg_cache.specs.Cached.{cached_on}
-use Rattle.caller_core.specs.Reach.{is_forced_in, writes_in}
-use Rattle.reg_cache.specs.Cacheable.{Touches, Unforced, Forced, SensorRead, SensorWrite, OtherDriver, AsksTouch, another_writes, is_cacheable_device, is_cacheable, cacheable_devices, cached_texts, is_kept_by_some}
-use Rattle.i2c_base.proofs.Booleans.{and_first, and_last}
+use Rattle.reg_cache.specs.Cacheable.{is_cacheable_device, cacheable_devices, cached_texts, is_kept_by_some}
 use Rattle.std.proofs.lemmas.Map.Keys.{any_passes_from_place}
 use Rattle.i2c_base.proofs.ListLemmas.{any_found}
 
@@ -45,7 +36,8 @@ pub record IsFree (b : BoardView) (texts : List (List ℕ)) (c d : ℕ) : Type 0
 is_free : (b : BoardView) (texts : List (List ℕ)) (c d : ℕ) → is_cacheable b texts c d ≡ true → IsFree b texts c d
 is_free b texts c d e = by (slice_get b.devices d) refl e
   where
-    by : (o : Option DeviceView) → slice_get b.devices d ≡ o → option_map_or (is_cacheable_device b texts c) o false ≡ true → IsFree b texts c d
+    by : (o : Option DeviceView) → slice_get b.devices d ≡ o → option_map_or (is_cacheable_device b texts c) o false ≡ true
+        → IsFree b texts c d
     by None at f = absurd (let g : false ≡ true = f in cc)
     by (Some v) at f =
         let first = and_first (v.bound && is_sensor v.kind)
@@ -69,10 +61,8 @@ kept_free b texts d e =
     (r.1, is_free b texts r.1 d r.3)
 
 sensor_kind : (k : DeviceKind) → is_sensor k ≡ true → (raw : ℕ) × (k ≡ kind.Lm75 raw)
-sensor_kind (kind.Eeprom size fill busy wp) e = absurd (let f : false ≡ true = e in cc)
 sensor_kind (kind.Lm75 raw) e = (raw, refl)
-sensor_kind (kind.Regs hold) e = absurd (let f : false ≡ true = e in cc)
-sensor_kind (kind.Smbus width flip) e = absurd (let f : false ≡ true = e in cc)
+sensor_kind _ e = absurd (let f : false ≡ true = e in cc)
 
 -- ---- who keeps it
 kept_from : (b : BoardView) (q : ℕ → Bool) (ds : List ℕ) (d : ℕ)
@@ -108,7 +98,8 @@ another_is b bus addr e text writes (x ∷ xs) n (suc i) at ne =
 
 -- nobody but the writer keeps what he writes
 only_writer : (b : BoardView) (texts : List (List ℕ)) (c e d : ℕ) (v : DeviceView) (text : List ℕ) → slice_get texts c ≡ Some text
-    → slice_get b.devices d ≡ Some v → writes_in b v.bus v.addr text ≡ true → (e ≡ c → ⊥) → is_kept_by (cached_texts b texts e).kept d ≡ false
+    → slice_get b.devices d ≡ Some v → writes_in b v.bus v.addr text ≡ true → (e ≡ c → ⊥) → is_kept_by
+    (cached_texts b texts e).kept d ≡ false
 only_writer b texts c e d v text there at writes ne = by (slice_get texts e)
   where
     unkept : (z : Bool) → list_any (λ (k : Kept). eqb k.device d) (map (unknown b) (cacheable_devices b texts e)) ≡ z → z ≡ false
@@ -129,7 +120,8 @@ only_writer b texts c e d v text there at writes ne = by (slice_get texts e)
     by (Some x) = unkept (list_any (λ (k : Kept). eqb k.device d) (map (unknown b) (cacheable_devices b texts e))) refl
 
 -- ---- a transfer
-module _ (b : BoardView) (tree : IsTree b) (texts : List (List ℕ)) (c : ℕ) (text : List ℕ) (there : slice_get texts c ≡ Some text) (t : TransferView) where
+module _ (b : BoardView) (tree : IsTree b) (texts : List (List ℕ)) (c : ℕ) (text : List ℕ) (there : slice_get texts c ≡ Some text)
+    (t : TransferView) where
   abbrev Harmless : Type 0
   Harmless = IsHarmless b (cached_texts b texts) (is_kept_by_some b texts) c t
 
@@ -151,7 +143,8 @@ module _ (b : BoardView) (tree : IsTree b) (texts : List (List ℕ)) (c : ℕ) (
   harmless-of (Unforced plain) =
       Leaves (λ d is. (let free = (kept_free b texts d is).1 in leaves-unforced b t d free.v plain free.at free.bound))
   harmless-of (Forced all) =
-      Leaves (λ d is. (let free = (kept_free b texts d is).1 in leaves-apart b t d free.v free.at (apart_all free.v.addr free.free t.msgs all)))
+      Leaves (λ d is. (let free = (kept_free b texts d is).1 in leaves-apart b t d free.v free.at
+      (apart_all free.v.addr free.free t.msgs all)))
   harmless-of (SensorRead e v r at same) = by (is_kept_by_some b texts e) refl
     where
       by : (z : Bool) → is_kept_by_some b texts e ≡ z → Harmless
@@ -197,7 +190,8 @@ may-be-cached b tree texts touch =
             → AllByRecursion (λ (x : ℕ). is_kept_by_some b texts x ≡ true)
             (cond z (d ∷ filter (is_cacheable b texts c) ds) (filter (is_cacheable b texts c) ds))
         by true is more = (
-          any_passes_from_place (λ (k : ℕ). is_cacheable b texts k d) (range_with_len 0 (length texts)) c c (number_there (length texts) c low) is,
+          any_passes_from_place (λ (k : ℕ). is_cacheable b texts k d) (range_with_len 0 (length texts)) c c
+              (number_there (length texts) c low) is,
           more,
         )
         by false is more = more

@@ -1,26 +1,19 @@
 -- Where no port counted a call that failed, none did, and so no entry failed. The inductions go over the calls and over the entries.
-use Rattle.std.proofs.Common.{◌≡◌, ℕ, zero, suc, ◌+◌, ◌<◌, ◌≤◌, Bool, true, false, ◌&&◌, List, [], ◌∷◌, length, map, reverse, Some, None, refl, sym, ◌∙◌, ap, subst, arith}
-use Rattle.std.specs.Prelude.{All, slice_get}
-use Rattle.std.specs.List.{range_with_len}
+use Rattle.run_laws.proofs.Cited.{◌≡◌, ℕ, suc, ◌<◌, ◌≤◌, Bool, true, false, ◌&&◌, List, [], ◌∷◌, length, map, reverse, Some, None, refl}
+use Rattle.run_laws.proofs.Cited.{sym, ◌∙◌, ap, subst, arith, All, slice_get, range_with_len, length-map-range_with_len, slice_get-get_or}
+use Rattle.run_laws.proofs.Cited.{Entry, PortCall, BoardView, root_of, home_of_mux, faults_in, failures, Asks, TargetState, IsRunBy}
+use Rattle.run_laws.proofs.Cited.{FaultAt, FaultsAlike}
+use Rattle.std.proofs.Common.{zero, ◌+◌}
 use Rattle.std.proofs.lemmas.Bool.{eq-eqb}
 use Rattle.std.proofs.lemmas.List.Elements.{All-get_or}
-use Rattle.std.proofs.lemmas.List.FromFn.{length-map-range_with_len}
-use Rattle.std.proofs.lemmas.Option.{slice_get-get_or, slice_get_within}
-use Rattle.i2c_base.specs.declared.entry.Entry.{Entry}
+use Rattle.std.proofs.lemmas.Option.{slice_get_within}
 use Rattle.i2c_base.specs.declared.entry.Entry.TheVariants as entry
-use Rattle.i2c_base.specs.declared.port.PortCall.{PortCall}
 use Rattle.i2c_base.specs.declared.port.PortCall.TheVariants as call
-use Rattle.i2c_base.specs.Board.{BoardView}
-use Rattle.i2c_spec.specs.Tree.{root_of, home_of_mux}
 use Rattle.bus_spec.specs.Readings.{is_on_root}
-use Rattle.bus_spec.specs.Faults.{count_if, is_fault, faults_in}
-use Rattle.journal_laws.specs.Counts.{is_failed, failed_on, failures}
+use Rattle.bus_spec.specs.Faults.{count_if, is_fault}
+use Rattle.journal_laws.specs.Counts.{is_failed, failed_on}
 use Rattle.bus_spec.specs.Stand.{calls_by}
-use Rattle.i2c_spec.specs.History.{Asks}
-use Rattle.i2c_spec.specs.Targets.{TargetState}
-use Rattle.i2c_top.specs.Callers.{IsRunBy}
-use Rattle.i2c_top.specs.Faults.{FaultAt, AreCounted}
-use Rattle.run_laws.specs.Alike.{FaultsAlike}
+use Rattle.i2c_top.specs.Faults.{AreCounted}
 
 -- CALLS: of which none is a fault
 not_fault : (c : PortCall) → (c ≡ call.Fault → ⊥) → is_fault c ≡ false

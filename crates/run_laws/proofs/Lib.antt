@@ -7,3 +7,4 @@ pub mod Ruled
 pub mod Same
 pub mod Steps
 pub mod Told
+mod Cited

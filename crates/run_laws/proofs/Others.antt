@@ -1,14 +1,12 @@
 -- Callers behind translators leave each device that none of them names the bus of. The induction goes over the transfers, the newest first.
-use Rattle.std.proofs.Common.{◌≡◌, ℕ, List, [], ◌∷◌, Option, Some, None, refl, sym, ◌∙◌, ap, map}
-use Rattle.std.specs.Prelude.{slice_get}
+use Rattle.run_laws.proofs.Cited.{◌≡◌, ℕ, List, [], ◌∷◌, Option, Some, None, refl, sym, ◌∙◌, ap, map, slice_get, Reply, BoardView, Asks}
+use Rattle.run_laws.proofs.Cited.{History, history, TargetState}
 use Rattle.std.specs.Option.{option_map, option_and_then}
 use Rattle.i2c_base.specs.declared.reply.Cut.{Cut}
-use Rattle.i2c_base.specs.declared.reply.Reply.{Reply}
-use Rattle.i2c_base.specs.Board.{BoardView}
 use Rattle.i2c_base.specs.Transfer.{TransferView}
 use Rattle.i2c_spec.specs.Flat.{flat}
-use Rattle.i2c_spec.specs.History.{Asks, History, with_told, one_more, history}
-use Rattle.i2c_spec.specs.Targets.{TargetState, opening_state}
+use Rattle.i2c_spec.specs.History.{with_told, one_more}
+use Rattle.i2c_spec.specs.Targets.{opening_state}
 use Rattle.i2c_spec.specs.Tree.{of_device}
 use Rattle.addr_atr.specs.Lowering.{lowered, translated, IsPaired}
 use Rattle.addr_atr.specs.Maps.{TranslatorView, Route, route_of}

@@ -1,18 +1,17 @@
 -- What a plan makes: scripts that are read whole, with a command for each line, and a schedule of its callers; and that the words of a
 -- call name a plan within the limits alone. No induction.
-use Rattle.std.proofs.Common.{◌≡◌, ℕ, suc, ◌-◌, ◌*◌, ◌/◌, ◌^◌, ◌<◌, ◌≤◌, ◌&&◌, ◌==◌, nat_le, Bool, true, false, if◌then◌else◌, List, [], length, get_or, map, Option, Some, None, Result, Ok, refl, sym, ◌∙◌, ap, subst, arith, mod-lt, leb-true, codes}
-use Rattle.std.specs.Prelude.{All}
-use Rattle.std.specs.List.{range_with_len}
+use Rattle.run_laws.proofs.Cited.{◌≡◌, ℕ, suc, ◌<◌, ◌≤◌, ◌&&◌, Bool, true, false, List, [], length, map, Option, Some, None, refl, sym, ◌∙◌}
+use Rattle.run_laws.proofs.Cited.{ap, subst, arith, All, range_with_len, length-map-range_with_len, commands_of, script_on, made_board}
+use Rattle.run_laws.proofs.Cited.{schedule_of, scripts_of}
+use Rattle.std.proofs.Common.{◌-◌, ◌*◌, ◌/◌, ◌^◌, ◌==◌, nat_le, if◌then◌else◌, get_or, Result, Ok, mod-lt, leb-true, codes}
 use Rattle.std.specs.Str.{bytes_eq}
 use Rattle.std.specs.Str.Parse.{digits_value}
 use Rattle.std.proofs.lemmas.List.Elements.{All-map}
-use Rattle.std.proofs.lemmas.List.FromFn.{length-map-range_with_len}
-use Rattle.caller_core.specs.Scripts.{Place, commands_of, commands_or_none, script_read}
-use Rattle.caller_core.specs.View.{CommandView, ScriptView, script_on}
+use Rattle.caller_core.specs.Scripts.{Place, commands_or_none, script_read}
+use Rattle.caller_core.specs.View.{CommandView, ScriptView}
 use Rattle.i2c_base.specs.Limits.{MOST_CALLERS, MOST_ROOTS}
-use Rattle.i2c_gen.specs.Boards.{made_board}
 use Rattle.i2c_gen.specs.Draws.{draw, number_behind}
-use Rattle.i2c_gen.specs.Scripts.{IsPlan, MOST_LINES, lines_in, schedule_of, script_of, scripts_of}
+use Rattle.i2c_gen.specs.Scripts.{IsPlan, MOST_LINES, lines_in, script_of}
 use Rattle.i2c_gen.specs.declared.plan.Plan.{Plan}
 use Rattle.i2c_gen.proofs.ScriptLemmas.{command_at, lines_from, script_is_read}
 use Rattle.i2c_top.specs.Numbers.{is_numeral, number_named}
@@ -89,4 +88,5 @@ module _ (p : Plan) where
 
 pub plan-named : (words : List (List ℕ)) (p : Plan) → plan_in words ≡ Some p → IsPlan p
 plan-named words p named =
-    by_words p ((length words == 4) && bytes_eq (get_or words 0 []) (codes "gen")) (get_or words 1 []) (get_or words 2 []) (get_or words 3 []) named
+    by_words p ((length words == 4) && bytes_eq (get_or words 0 []) (codes "gen")) (get_or words 1 []) (get_or words 2 [])
+    (get_or words 3 []) named

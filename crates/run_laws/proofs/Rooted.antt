@@ -1,33 +1,24 @@
 -- The calls of a journal are all on the roots of its board, so that the logs of these roots tell every call that failed. The
 -- induction goes over the entries.
-use Rattle.std.proofs.Common.{◌≡◌, ℕ, ◌<◌, ◌≤◌, List, [], ◌∷◌, ◌++◌, length, map, reverse, Option, Some, None, refl, sym, ◌∙◌, ap, subst, inl, inr, arith, zero-add}
-use Rattle.std.specs.Prelude.{slice_get}
-use Rattle.std.specs.List.{range_with_len}
+use Rattle.run_laws.proofs.Cited.{◌≡◌, ℕ, ◌<◌, ◌≤◌, List, [], ◌∷◌, length, map, reverse, Option, Some, None, refl, sym, ◌∙◌, ap, subst}
+use Rattle.run_laws.proofs.Cited.{arith, slice_get, range_with_len, length-map-range_with_len, slice_get-get_or, Entry, PortCall, BoardView}
+use Rattle.run_laws.proofs.Cited.{root_of, home_of_mux, IsTree, IsPlainBoard, Asks, now, calls_of, IsStepwise, LinesAreLocked}
+use Rattle.run_laws.proofs.Cited.{AsksForMessages, FaultAt, FaultsAlike}
+use Rattle.std.proofs.Common.{◌++◌, inl, inr, zero-add}
 use Rattle.std.proofs.lemmas.Bool.{cases_lt}
-use Rattle.std.proofs.lemmas.List.FromFn.{length-map-range_with_len, get_or-map-range_with_len}
-use Rattle.std.proofs.lemmas.Option.{slice_get-get_or, slice_get_past}
-use Rattle.i2c_base.specs.declared.entry.Entry.{Entry}
+use Rattle.std.proofs.lemmas.List.FromFn.{get_or-map-range_with_len}
+use Rattle.std.proofs.lemmas.Option.{slice_get_past}
 use Rattle.i2c_base.specs.declared.entry.Entry.TheVariants as entry
-use Rattle.i2c_base.specs.declared.port.PortCall.{PortCall}
 use Rattle.i2c_base.specs.declared.port.PortCall.TheVariants as call
-use Rattle.i2c_base.specs.Board.{BoardView}
-use Rattle.i2c_spec.specs.Tree.{root_of, home_of_mux}
-use Rattle.i2c_spec.specs.TreeFacts.{IsTree}
-use Rattle.i2c_spec.specs.Plain.{IsPlainBoard}
-use Rattle.i2c_spec.specs.History.{Asks, changed_at}
+use Rattle.i2c_spec.specs.History.{changed_at}
 use Rattle.bus_spec.specs.Walk.{Act, Job, job_bus, line_mux}
 use Rattle.bus_spec.specs.Grammar.{first_note}
-use Rattle.bus_spec.specs.Past.{Now, now, current, calls_of, talk_of, sent_by, lined_by, line_call}
+use Rattle.bus_spec.specs.Past.{Now, current, talk_of, sent_by, lined_by, line_call}
 use Rattle.bus_spec.specs.Failures.{HasFailed, FailAlike}
-use Rattle.bus_spec.specs.Stepwise.{IsStepwise}
-use Rattle.bus_laws.specs.Lines.{LinesAreLocked}
-use Rattle.bus_laws.specs.Reach.{AsksForMessages}
 use Rattle.bus_laws.proofs.past.Marks.{home_there}
 use Rattle.bus_laws.proofs.past.StandsStep.{at_other}
 use Rattle.bus_laws.proofs.past.Whole.{line_root}
 use Rattle.journal_laws.proofs.past.Remotes.{job_there}
-use Rattle.i2c_top.specs.Faults.{FaultAt}
-use Rattle.run_laws.specs.Alike.{FaultsAlike}
 
 -- what a function gives at each number, listed from 0 on
 listed_at : {X : Type 0} (f : ℕ → X) (n r : ℕ) → r < n → slice_get (map f (range_with_len 0 n)) r ≡ Some (f r)
@@ -92,7 +83,8 @@ module _ (b : BoardView) (tree : IsTree b) (plain : IsPlainBoard b) (lines : Lin
   fault_failed past logs called r n at =
       ap (λ (cs : List PortCall). slice_get cs n) (sym (log-told b asks past logs called r at.log at.here)) ∙ at.fault
 
-  pub failed-fault : (past : List Entry) → IsStepwise b callers asks past → (logs : List (List PortCall)) → AreItsLogs b asks past logs → (r n : ℕ)
+  pub failed-fault : (past : List Entry) → IsStepwise b callers asks past → (logs : List (List PortCall)) → AreItsLogs b asks past logs
+      → (r n : ℕ)
       → HasFailed b asks past r n → FaultAt logs r n
   failed-fault past steps logs called r n failed =
       elim (cases_lt r (length b.roots)) [

@@ -1,25 +1,14 @@
 -- A run's journal keeps the rules, so it is legal, complete, and its ports' logs are its calls, also as the walk tree tells them; and its
 -- scripts ask for messages within the limits, so each entry of it might come where it did: what is so of all such journals is so of it.
 -- No induction.
-use Rattle.std.proofs.Common.{◌≡◌, ℕ, List, Option, length, map, reverse, sym, ◌∙◌, ap}
-use Rattle.std.specs.List.{range_with_len}
-use Rattle.i2c_base.specs.declared.entry.Entry.{Entry}
-use Rattle.i2c_base.specs.declared.port.PortCall.{PortCall}
-use Rattle.i2c_base.specs.Board.{BoardView}
-use Rattle.i2c_spec.specs.Plain.{IsPlainBoard}
+use Rattle.run_laws.proofs.Cited.{◌≡◌, ℕ, List, Option, length, map, reverse, sym, ◌∙◌, ap, range_with_len, Entry, PortCall, BoardView}
+use Rattle.run_laws.proofs.Cited.{IsPlainBoard, TargetState, Asks, IsLegal, calls_of, lines-locked, IsStepwise, AsksForMessages}
+use Rattle.run_laws.proofs.Cited.{AsksWithinLimits, IsRunBy, asks_by, HasRunTold}
 use Rattle.i2c_spec.specs.Rules.{MeetsRules}
-use Rattle.i2c_spec.specs.Targets.{TargetState}
-use Rattle.i2c_spec.specs.History.{Asks}
-use Rattle.bus_spec.specs.Legal.{IsComplete, IsLegal}
-use Rattle.bus_spec.specs.Past.{calls_of}
-use Rattle.bus_laws.proofs.world.LineFacts.{lines-locked}
+use Rattle.bus_spec.specs.Legal.{IsComplete}
 use Rattle.i2c_spec.proofs.AddressLemmas.{tree_of}
-use Rattle.bus_spec.specs.Stepwise.{IsStepwise}
-use Rattle.bus_laws.specs.Reach.{AsksForMessages, AsksWithinLimits}
 use Rattle.journal_laws.proofs.past.Complete.{complete-ruled}
 use Rattle.journal_laws.proofs.past.RuledLegal.{calls-so, legal-of}
-use Rattle.i2c_top.specs.Callers.{IsRunBy}
-use Rattle.i2c_top.specs.Runs.{asks_by, HasRunTold}
 
 module _ (b : BoardView) (callers : ℕ) (asks : Asks) (logs : List (List PortCall)) (states : List TargetState) (counts : List ℕ)
     (journal : List Entry) (run : IsRunBy b callers asks logs states counts journal) where

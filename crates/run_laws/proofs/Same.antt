@@ -1,19 +1,12 @@
 -- Two runs with one journal come to the same; and two reports of the same files are runs of one board, scripts and schedule.
 -- No induction.
-use Rattle.std.proofs.Common.{◌≡◌, ℕ, List, length, map, reverse, Option, Some, None, refl, sym, ◌∙◌, ap, subst}
-use Rattle.std.specs.List.{range_with_len}
-use Rattle.i2c_base.specs.declared.entry.Entry.{Entry}
-use Rattle.i2c_base.specs.declared.port.PortCall.{PortCall}
-use Rattle.i2c_base.specs.Board.{BoardView}
-use Rattle.i2c_spec.specs.Targets.{TargetState}
-use Rattle.i2c_spec.specs.History.{History, history}
-use Rattle.bus_spec.specs.Readings.{order}
-use Rattle.bus_spec.specs.Past.{calls_of}
+use Rattle.run_laws.proofs.Cited.{◌≡◌, ℕ, List, length, map, reverse, Option, Some, None, refl, sym, ◌∙◌, ap, subst, range_with_len, Entry}
+use Rattle.run_laws.proofs.Cited.{PortCall, BoardView, TargetState, History, history, order, calls_of, asks_by, HasRun, texts_in}
 use Rattle.i2c_top.specs.Boards.{HasAccepted}
 use Rattle.i2c_top.specs.Files.{Files}
-use Rattle.i2c_top.specs.Runs.{asks_by, IsRunOf, HasRun}
+use Rattle.i2c_top.specs.Runs.{IsRunOf}
 use Rattle.i2c_top.specs.Schedules.{schedule_read}
-use Rattle.i2c_top.specs.Scripts.{HasSchedule, HasOrder, words_in, texts_in}
+use Rattle.i2c_top.specs.Scripts.{HasSchedule, HasOrder, words_in}
 use Rattle.i2c_top.specs.forms.Replays.{Names, HasReport}
 use Rattle.i2c_top.proofs.BoardLemmas.{one_board_in, one_text}
 use Rattle.run_laws.specs.Alike.{ComesToTheSame}

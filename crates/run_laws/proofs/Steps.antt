@@ -1,23 +1,12 @@
 -- A journal follows the schedule that names its own steps. The induction goes over the steps.
-use Rattle.std.proofs.Common.{◌≡◌, ℕ, ◌<◌, List, [], ◌∷◌, map, reverse, None, refl, ◌∙◌, subst}
-use Rattle.std.specs.Prelude.{All}
-use Rattle.std.proofs.lemmas.List.{reverse-reverse}
-use Rattle.std.proofs.lemmas.List.Elements.{All-nil, All-cons}
-use Rattle.i2c_base.specs.declared.entry.Entry.{Entry}
-use Rattle.i2c_base.specs.Board.{BoardView}
-use Rattle.i2c_spec.specs.TreeFacts.{IsTree}
-use Rattle.i2c_spec.specs.Plain.{IsPlainBoard}
-use Rattle.i2c_spec.specs.History.{Asks}
-use Rattle.bus_spec.specs.Past.{now}
-use Rattle.bus_spec.specs.Stepwise.{IsStepwise}
-use Rattle.bus_spec.specs.Schedule.{Turn, turns, past_after, FollowsWords, Follows}
-use Rattle.bus_laws.specs.Lines.{LinesAreLocked}
-use Rattle.bus_laws.specs.Reach.{AsksForMessages}
+use Rattle.run_laws.proofs.Cited.{◌≡◌, ℕ, ◌<◌, List, [], ◌∷◌, map, reverse, None, refl, ◌∙◌, subst, All, reverse-reverse, All-nil, All-cons}
+use Rattle.run_laws.proofs.Cited.{Entry, BoardView, IsTree, IsPlainBoard, Asks, now, IsStepwise, Follows, LinesAreLocked, AsksForMessages}
+use Rattle.run_laws.proofs.Cited.{steps_of}
+use Rattle.bus_spec.specs.Schedule.{Turn, turns, past_after, FollowsWords}
 use Rattle.bus_laws.proofs.past.Known.{entry_known}
 use Rattle.bus_laws.proofs.past.Laws.{holder-told}
 use Rattle.bus_laws.proofs.schedule.Coming.{first_of, turn-ready, word-made}
 use Rattle.journal_laws.proofs.schedule.Whole.{ComeWhole, whole-comes}
-use Rattle.run_laws.specs.Alike.{steps_of}
 
 module _ (b : BoardView) (tree : IsTree b) (plain : IsPlainBoard b) (lines : LinesAreLocked b) (asks : Asks) (some : AsksForMessages asks)
     (callers : ℕ) where

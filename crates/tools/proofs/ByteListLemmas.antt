@@ -1,15 +1,9 @@
 -- Bytes as the rest of a line: they are few, and they are read one by one, as a loop does.
-use Rattle.std.proofs.Common.{◌≡◌, ℕ, zero, suc, ◌+◌, ◌-◌, ◌<◌, ◌≤◌, true, false, List, [], ◌∷◌, ◌++◌, length, Result, Ok, Err, refl, sym, ap, ◌∙◌, arith}
-use Rattle.std.proofs.lemmas.List.{length-append}
-use Rattle.std.proofs.lemmas.List.Elements.{All-nil, All-cons, All-append}
-use Rattle.i2c_base.specs.Bytes.{AreBytes, IsByte}
+use Rattle.tools.proofs.Cited.{◌≡◌, ℕ, zero, suc, ◌+◌, ◌-◌, ◌<◌, ◌≤◌, true, false, List, [], ◌∷◌, ◌++◌, length, Result, Ok, Err, refl, sym}
+use Rattle.tools.proofs.Cited.{ap, ◌∙◌, arith, length-append, All-nil, All-cons, All-append, AreBytes, IsByte, Class, class, read_at, Word}
+use Rattle.tools.proofs.Cited.{byte, ◌>>=◌, one_at, is_past, FaultIs, LineFault}
 use Rattle.tools.specs.ByteLists.{some_bytes, bytes_at}
-use Rattle.tools.specs.Grammars.{Class, class, read_at}
 use Rattle.tools.specs.HandleLines.{AreFewBytes}
-use Rattle.tools.specs.LineSets.{Word}
-use Rattle.tools.specs.Options.{byte}
-use Rattle.tools.specs.Readers.{◌>>=◌, one_at, is_past, FaultIs}
-use Rattle.tools.specs.declared.fault.LineFault.{LineFault}
 use Rattle.tools.specs.declared.fault.LineFault.TheVariants as fault
 use Rattle.tools.proofs.CombinedLemmas.{same_then, cond_then, then_then}
 use Rattle.tools.proofs.GrammarLemmas.{AllEnds, EndsWithin}
@@ -17,7 +11,8 @@ use Rattle.tools.proofs.OptionLemmas.{number_between}
 
 -- ---- their range, and how long they are
 
-module _ {A : Type 0} (P : A → Type 0) (most : ℕ) (made : List ℕ → A) (fits : (bytes : List ℕ) → AreFewBytes most bytes → P (made bytes)) where
+module _ {A : Type 0} (P : A → Type 0) (most : ℕ) (made : List ℕ → A) (fits : (bytes : List ℕ) → AreFewBytes most bytes
+    → P (made bytes)) where
   more_fit : (n : ℕ) (got : List ℕ) → AreBytes got → 1 ≤ length got + n → length got + n ≤ most → AllEnds P (some_bytes n got made)
   unfolding some_bytes
   more_fit zero got each some few = fits got (record { each = each; some = omega (arith, some); few = omega (arith, few) })
@@ -63,7 +58,8 @@ module _ {A : Type 0} (made : List ℕ → A) where
   bytes_refused n ws i fault.Memory h = tt
 
 -- after a number, as that of a handle is
-module _ {A : Type 0} (number : Class ℕ) (most : ℕ) (made : ℕ → List ℕ → A) (ws : List Word) (i n : ℕ) (is : one_at number.of ws i ≡ Ok n) where
+module _ {A : Type 0} (number : Class ℕ) (most : ℕ) (made : ℕ → List ℕ → A) (ws : List Word) (i n : ℕ)
+    (is : one_at number.of ws i ≡ Ok n) where
   pub line_read : (bytes : List ℕ) → bytes_at most [] ws (i + 1) ≡ Ok bytes
       → read_at (class number (λ x. some_bytes most [] (made x))) ws i ≡ Ok (made n bytes)
   line_read bytes read = rw is (bytes_read (made n) most ws (i + 1) bytes read)

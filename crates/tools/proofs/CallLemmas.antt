@@ -1,24 +1,21 @@
 -- How long the value of an SMBus call is, and which replies its transfer may get.
-use Rattle.std.proofs.Common.{◌≡◌, ℕ, ◌+◌, ◌-◌, ◌≤◌, Bool, true, false, cond, List, [], ◌∷◌, ◌++◌, length, take, drop, get_or, Ok, Err, Some, refl, subst, ap, length-take, length-drop, arith}
-use Rattle.std.specs.Prelude.{◌==◌, ◌&&◌, slice_get}
+use Rattle.tools.proofs.Cited.{◌≡◌, ℕ, ◌+◌, ◌-◌, ◌≤◌, Bool, true, false, cond, List, [], ◌∷◌, ◌++◌, length, take, drop, get_or, Ok, Err}
+use Rattle.tools.proofs.Cited.{Some, refl, subst, ap, length-drop, arith, ◌==◌, slice_get, call_result_text, Callee, Fits, Reply}
+use Rattle.tools.proofs.Cited.{messages_of_call, call_row, is_coded, write_messages, read_messages, bytes_sent, SmbCall, SmbOp, call_to}
+use Rattle.tools.proofs.Cited.{call_text, chains, Dialogue, AreReplies, next_place, Chain}
+use Rattle.std.proofs.Common.{length-take}
+use Rattle.std.specs.Prelude.{◌&&◌}
 use Rattle.i2c_base.specs.declared.transfer.TransferKind.TheVariants.{Smbus}
-use Rattle.tools.specs.Values.{call_result_text}
-use Rattle.tools.specs.declared.run.call.Callee.{Callee}
-use Rattle.i2c_base.specs.Fitting.{Fits, count_of}
-use Rattle.i2c_base.specs.declared.reply.Reply.{Reply}
+use Rattle.tools.specs.Values.{block_of_value, block_in}
+use Rattle.i2c_base.specs.Fitting.{count_of}
 use Rattle.i2c_base.specs.declared.reply.Reply.TheVariants as reply
 use Rattle.i2c_spec.specs.SmbusCalls.{block_read_row, block_proc_row}
 use Rattle.i2c_spec.specs.declared.smbus_row.CallRow.{CallRow}
-use Rattle.smb_emul.specs.Calls.{messages_of_call, value_of_call, call_row, is_coded, read_value, wanted_code, value_by, write_messages, read_messages, bytes_sent}
-use Rattle.smb_emul.specs.declared.call.SmbCall.{SmbCall}
+use Rattle.smb_emul.specs.Calls.{value_of_call, read_value, wanted_code, value_by}
 use Rattle.smb_emul.specs.declared.call.SmbFail.TheVariants.{Pec}
-use Rattle.smb_emul.specs.declared.call.SmbOp.{SmbOp}
 use Rattle.smb_emul.specs.declared.call.SmbOp.TheVariants as op
-use Rattle.tools.specs.Calls.{DoesTheSame, block_most, call_to, call_text}
-use Rattle.tools.specs.Chains.{chained, chains}
-use Rattle.tools.specs.Dialogues.{Dialogue, AreReplies, next_place}
-use Rattle.tools.specs.Values.{block_of_value, block_in}
-use Rattle.tools.specs.declared.run.chain.Chain.{Chain}
+use Rattle.tools.specs.Calls.{DoesTheSame, block_most}
+use Rattle.tools.specs.Chains.{chained}
 
 -- ---- how long a block is
 

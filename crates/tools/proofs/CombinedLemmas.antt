@@ -1,16 +1,13 @@
 -- DATA and messages, read one by one as a loop does.
-use Rattle.std.proofs.Common.{◌≡◌, ℕ, zero, suc, ◌+◌, ◌-◌, ◌%◌, ◌<◌, ◌≤◌, ◌==◌, Bool, true, false, cond, List, [], ◌∷◌, ◌++◌, Some, Result, Ok, Err, sym, ap, ◌∙◌, arith, refl}
-use Rattle.tools.specs.Combined.{counted, data_at, data_words, datum_word, by_datum, read_datum, head_of, bytes_asked, desc_of, message_at, first_place, descs_at, descs, some_descs}
-use Rattle.tools.specs.Grammars.{Class, Grammar, class, maybe, read_at}
-use Rattle.tools.specs.LineSets.{Word}
-use Rattle.tools.specs.Readers.{◌>>=◌, one_at, is_past, FaultIs}
-use Rattle.tools.specs.declared.fault.LineFault.{LineFault}
+use Rattle.tools.proofs.Cited.{◌≡◌, ℕ, zero, suc, ◌+◌, ◌-◌, ◌%◌, ◌<◌, ◌≤◌, Bool, true, false, cond, List, [], ◌∷◌, ◌++◌, Some, Result, Ok}
+use Rattle.tools.proofs.Cited.{Err, sym, ap, ◌∙◌, arith, refl, datum_word, by_datum, head_of, bytes_asked, desc_of, message_at, first_place}
+use Rattle.tools.proofs.Cited.{some_descs, Class, Grammar, class, maybe, read_at, Word, ◌>>=◌, one_at, is_past, FaultIs, LineFault, Cmd}
+use Rattle.tools.proofs.Cited.{Datum, Desc}
+use Rattle.std.proofs.Common.{◌==◌}
+use Rattle.tools.specs.Combined.{counted, data_at, data_words, read_datum, descs_at, descs}
 use Rattle.tools.specs.declared.fault.LineFault.TheVariants as fault
-use Rattle.tools.specs.declared.command.Cmd.{Cmd}
-use Rattle.tools.specs.declared.command.transfer.Datum.{Datum}
 use Rattle.tools.specs.declared.command.transfer.Datum.TheVariants as datum
 use Rattle.tools.specs.declared.command.transfer.DescPlace.{DescPlace}
-use Rattle.tools.specs.declared.lists.Desc.{Desc}
 
 pub counted_none : (n k b s : ℕ) → n ≤ k → counted (n - k) b s ≡ []
 unfolding counted

@@ -1,23 +1,16 @@
 -- What a line of i2ctransfer means is in range, and how long it is.
-use Rattle.std.proofs.Common.{◌≡◌, ℕ, zero, suc, ◌+◌, ◌-◌, ◌%◌, ◌<◌, ◌≤◌, ◌==◌, Bool, true, false, cond, List, [], ◌∷◌, ◌++◌, length, Option, Some, None, refl, ap, subst, arith}
-use Rattle.std.specs.Prelude.{All, IfSome, take, slice_index_or, option_and_then}
-use Rattle.std.specs.List.{sum_by}
-use Rattle.std.proofs.lemmas.Bool.Decides.{nat_tests}
-use Rattle.std.proofs.lemmas.List.{length-append}
+use Rattle.tools.proofs.Cited.{◌≡◌, ℕ, zero, suc, ◌+◌, ◌-◌, ◌%◌, ◌<◌, ◌≤◌, Bool, true, false, cond, List, [], ◌∷◌, ◌++◌, length, Option}
+use Rattle.tools.proofs.Cited.{Some, None, refl, ap, subst, arith, All, IfSome, slice_index_or, option_and_then, sum_by, nat_tests}
+use Rattle.tools.proofs.Cited.{length-append, All-nil, All-cons, All-append, IsTargetAddress, AreBytes, IsByte, head_of, bytes_asked}
+use Rattle.tools.proofs.Cited.{desc_of, bytes_of, length_of, IsOpInRange, by_datum, combined, some_descs, IsDescInRange, Grammar, maybe}
+use Rattle.tools.proofs.Cited.{Word, IsInRange, number_in, Cmd, Datum, Desc}
+use Rattle.std.proofs.Common.{◌==◌}
+use Rattle.std.specs.Prelude.{take}
 use Rattle.std.proofs.lemmas.List.Sums.{sum_by-append}
-use Rattle.std.proofs.lemmas.List.Elements.{All-nil, All-cons, All-append}
-use Rattle.i2c_base.specs.Addr.{IsTargetAddress}
-use Rattle.i2c_base.specs.Bytes.{AreBytes, IsByte}
-use Rattle.tools.specs.Combined.{after_at, before_at, address_in, within_room, length_in, head_with, head_of, bytes_asked, desc_of, bytes_of, length_of, IsOpInRange, counted, datum_of, series_of, series_with, byte_or, step_of, by_datum, data_words, combined, descs, some_descs, combined_bus, combined_words, IsDescInRange, AreMessages}
-use Rattle.tools.specs.Grammars.{Grammar, maybe}
-use Rattle.tools.specs.LineSets.{Word}
-use Rattle.tools.specs.Commands.{IsInRange}
-use Rattle.tools.specs.Numbers.{number_in}
-use Rattle.tools.specs.declared.command.Cmd.{Cmd}
-use Rattle.tools.specs.declared.command.transfer.Datum.{Datum}
+use Rattle.tools.specs.Combined.{after_at, before_at, address_in, within_room, length_in, head_with, counted, datum_of, series_of}
+use Rattle.tools.specs.Combined.{series_with, byte_or, step_of, data_words, descs, combined_bus, combined_words, AreMessages}
 use Rattle.tools.specs.declared.command.transfer.Datum.TheVariants as datum
 use Rattle.tools.specs.declared.command.transfer.DescHead.{DescHead}
-use Rattle.tools.specs.declared.lists.Desc.{Desc}
 use Rattle.tools.specs.declared.lists.DescOp.TheVariants as op
 use Rattle.tools.proofs.GrammarLemmas.{AllEnds, EndsWithin}
 use Rattle.tools.proofs.OptionLemmas.{number_between, options_end, options_within}

@@ -1,8 +1,7 @@
 -- What is so of every command: a row for each.
-use Rattle.std.proofs.Common.{ℕ, arith}
-use Rattle.i2c_base.specs.Board.{BoardView}
-use Rattle.tools.specs.Commands.{grammar, MOST_WORDS, IsInRange, IsToolInRange, tool_run}
-use Rattle.tools.specs.Detects.{detect_words, bus_lines}
+use Rattle.tools.proofs.Cited.{ℕ, arith, BoardView, MOST_WORDS, IsInRange, bus_lines}
+use Rattle.tools.specs.Commands.{grammar, IsToolInRange, tool_run}
+use Rattle.tools.specs.Detects.{detect_words}
 use Rattle.tools.specs.Dumps.{dump_words}
 use Rattle.tools.specs.Gets.{get_words}
 use Rattle.tools.specs.Sets.{set_words}
@@ -13,7 +12,8 @@ use Rattle.tools.proofs.CombinedRanges.{combined_line_fits, combined_line_within
 use Rattle.tools.proofs.DetectLemmas.{detect_fits, detect_within, list_lines}
 use Rattle.tools.proofs.DriverLineLemmas.{drivers_fit, drivers_within}
 use Rattle.tools.proofs.DumpLemmas.{dump_fits, dump_within}
-use Rattle.tools.proofs.FormLemmas.{AsksWithin, HasSectionLines, says_nothing, transfer_asks_within, dump_asks_within, scan_asks_within, says_lines, transfer_lines, dump_section_lines, scan_lines}
+use Rattle.tools.proofs.FormLemmas.{AsksWithin, HasSectionLines, says_nothing, transfer_asks_within, dump_asks_within, scan_asks_within}
+use Rattle.tools.proofs.FormLemmas.{says_lines, transfer_lines, dump_section_lines, scan_lines}
 use Rattle.tools.proofs.GetLemmas.{get_fits, get_within, get_asks, get_lines}
 use Rattle.tools.proofs.GrammarLemmas.{AllEnds, EndsWithin, ends_within_most}
 use Rattle.tools.proofs.HandleLineLemmas.{handles_fit, handles_within}

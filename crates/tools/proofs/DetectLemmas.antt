@@ -1,23 +1,13 @@
 -- i2cdetect: what its line means is in range, and how long it is; each bus has a line of its own, which is none of `journal`.
-use Rattle.std.proofs.Common.{◌≡◌, ℕ, zero, suc, ◌+◌, ◌≤◌, Bool, true, false, cond, List, [], ◌∷◌, ◌++◌, map, Option, Some, None, Result, Ok, Err, codes, refl, arith}
-use Rattle.std.specs.Prelude.{All, option_and_then}
+use Rattle.tools.proofs.Cited.{◌≡◌, ℕ, zero, suc, ◌+◌, ◌≤◌, Bool, true, false, cond, List, [], ◌∷◌, ◌++◌, map, Option, Some, None, Result}
+use Rattle.tools.proofs.Cited.{Ok, Err, codes, refl, arith, All, option_and_then, range_with_len, option_map, nat_tests, All-nil, All-cons}
+use Rattle.tools.proofs.Cited.{IsLine, IsSectionLine, line-append, BoardView, IsInRange, bus_line, bus_lines, Grammar, read_at, Word}
+use Rattle.tools.proofs.Cited.{number_in, ◌>>=◌, is_at, Probe}
 use Rattle.std.specs.Fmt.{decimal}
-use Rattle.std.specs.List.{range_with_len}
-use Rattle.std.specs.Option.{option_map}
-use Rattle.std.proofs.lemmas.Bool.Decides.{nat_tests}
-use Rattle.std.proofs.lemmas.List.Elements.{All-nil, All-cons}
 use Rattle.std.proofs.lemmas.List.FromFn.{map-range_with_len_more}
-use Rattle.bus_journal.specs.Reports.{IsLine, IsSectionLine}
-use Rattle.bus_journal.proofs.LineFeeds.{line-append, decimal-line}
-use Rattle.i2c_base.specs.Board.{BoardView}
+use Rattle.bus_journal.proofs.LineFeeds.{decimal-line}
 use Rattle.i2c_spec.specs.Tree.{buses, over}
-use Rattle.tools.specs.Commands.{IsInRange}
-use Rattle.tools.specs.Detects.{from_first, probe_and_yes, probe_and_yes_at, detected, detect_range, detect_bus, detect_words, way_text, bus_line, bus_lines}
-use Rattle.tools.specs.Grammars.{Grammar, read_at}
-use Rattle.tools.specs.LineSets.{Word}
-use Rattle.tools.specs.Numbers.{number_in}
-use Rattle.tools.specs.Readers.{◌>>=◌, is_at}
-use Rattle.tools.specs.declared.command.detect.Probe.{Probe}
+use Rattle.tools.specs.Detects.{from_first, probe_and_yes, probe_and_yes_at, detected, detect_range, detect_bus, detect_words, way_text}
 use Rattle.tools.specs.declared.command.detect.Probe.TheVariants as probe
 use Rattle.tools.proofs.GrammarLemmas.{AllEnds, EndsWithin, ends_within_more}
 use Rattle.tools.proofs.OptionLemmas.{IsBetween, number_between}

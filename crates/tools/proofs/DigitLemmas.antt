@@ -1,9 +1,8 @@
 -- Digits after a value so far, one digit at a time. The inductions go over the digits that are left.
-use Rattle.std.proofs.Common.{◌≡◌, ℕ, ◌+◌, ◌*◌, ◌<◌, Bool, true, false, List, [], ◌∷◌, length, drop, get_or, Option, Some, None, refl, sym, ap, ◌∙◌, arith}
+use Rattle.tools.proofs.Cited.{◌≡◌, ℕ, ◌+◌, ◌*◌, ◌<◌, Bool, true, false, List, [], ◌∷◌, length, drop, get_or, Option, Some, None, refl, sym}
+use Rattle.tools.proofs.Cited.{ap, ◌∙◌, arith, nat_tests, option_and_then, base_of, digits_on, within}
 use Rattle.std.proofs.lemmas.List.{at_drop_more}
-use Rattle.std.proofs.lemmas.Bool.Decides.{nat_tests}
-use Rattle.std.specs.Prelude.{option_and_then}
-use Rattle.tools.specs.Numbers.{digit_of, base_of, digits_on, within}
+use Rattle.tools.specs.Numbers.{digit_of}
 
 grows : (hexadecimal : Bool) (n d : ℕ) → 128000 < n → 128000 < n * base_of hexadecimal + d
 grows true n d h = omega arith

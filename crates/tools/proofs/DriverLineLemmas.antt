@@ -1,17 +1,11 @@
 -- The lines of drivers: what they mean is in range, and how long they are.
-use Rattle.std.proofs.Common.{◌≡◌, ℕ, ◌≤◌, Bool, true, false, [], ◌∷◌, Option, Some, None, refl, arith, subst, cond}
-use Rattle.std.specs.Prelude.{ℤ, pos, neg_ℤ, option_and_then, ◌==◌, codes}
-use Rattle.std.specs.Str.{bytes_eq}
-use Rattle.std.specs.Option.{option_map}
-use Rattle.std.proofs.lemmas.Bool.Decides.{nat_tests}
-use Rattle.tools.specs.At24Lines.{page_written, read_span, written_span, at24_read_words, at24_write_words, at24_words}
-use Rattle.tools.specs.Commands.{IsInRange}
+use Rattle.tools.proofs.Cited.{◌≡◌, ℕ, ◌≤◌, Bool, true, false, [], ◌∷◌, Option, Some, None, refl, arith, subst, cond, option_and_then, ◌==◌}
+use Rattle.tools.proofs.Cited.{bytes_eq, option_map, nat_tests, page_written, IsInRange, Grammar, Word, number_in, Cmd}
+use Rattle.std.specs.Prelude.{ℤ, pos, neg_ℤ, codes}
+use Rattle.tools.specs.At24Lines.{read_span, written_span, at24_read_words, at24_write_words, at24_words}
 use Rattle.tools.specs.DriverLines.{driver_lines}
-use Rattle.tools.specs.Grammars.{Grammar}
-use Rattle.tools.specs.LineSets.{Word}
-use Rattle.tools.specs.Lm75Lines.{IsMilli, IsWritten, half_degree, half_degrees, milli_in, read_reg, written_reg, lm75_read_words, lm75_write_words, lm75_words}
-use Rattle.tools.specs.Numbers.{number_in}
-use Rattle.tools.specs.declared.command.Cmd.{Cmd}
+use Rattle.tools.specs.Lm75Lines.{IsMilli, IsWritten, half_degree, half_degrees, milli_in, read_reg, written_reg, lm75_read_words}
+use Rattle.tools.specs.Lm75Lines.{lm75_write_words, lm75_words}
 use Rattle.tools.specs.declared.command.driver.lm75.RegName.{RegName}
 use Rattle.tools.specs.declared.command.driver.lm75.RegName.TheVariants.{Hyst, Max}
 use Rattle.tools.proofs.ByteListLemmas.{bytes_fit, bytes_within}
@@ -50,7 +44,8 @@ module _ (limit bus addr : ℕ) (on : IsBetween 0 65535 bus) (to : IsBetween 8 1
 half_is : (x n : ℕ) → half_degree x ≡ Some n → x ≡ n
 half_is x n is = grind (arith, nat_tests)
 
-half_fits : (low high n : ℕ) (w : Word) (o : Option ℕ) → number_in low high w ≡ o → option_and_then half_degree o ≡ Some n → IsBetween low high n
+half_fits : (low high n : ℕ) (w : Word) (o : Option ℕ) → number_in low high w ≡ o → option_and_then half_degree o ≡ Some n
+    → IsBetween low high n
 half_fits low high n w None e is = absurd cc
 half_fits low high n w (Some x) e is = subst (IsBetween low high) (half_is x n is) (number_between low high w x e)
 
@@ -151,5 +146,10 @@ lm75_within = (
 
 pub drivers_within : (others : Grammar Cmd) → EndsWithin 4142 others → EndsWithin 4142 (driver_lines others)
 unfolding driver_lines
-drivers_within others rest =
-    (ends_within_most 68 4141 at24_words (omega arith) at24_within, (ends_within_most 5 4141 lm75_words (omega arith) lm75_within, (tt, rest)))
+drivers_within others rest = (
+  ends_within_most 68 4141 at24_words (omega arith) at24_within,
+  (
+    ends_within_most 5 4141 lm75_words (omega arith) lm75_within,
+    (tt, rest),
+  ),
+)

@@ -1,33 +1,20 @@
 -- i2cdump: what its line means is in range, and how long it is; its options are read one by one; each reply is one that the call at its
 -- place may get; its calls are within the limits, and what it prints is lines of a section.
-use Rattle.std.proofs.Common.{◌≡◌, ℕ, zero, suc, ◌+◌, ◌-◌, ◌*◌, ◌/◌, ◌%◌, ◌<◌, ◌≤◌, ◌&&◌, nat_le, Bool, true, false, cond, List, [], ◌∷◌, ◌++◌, codes, Option, Some, None, Result, Err, refl, subst, sym, ap, ◌∙◌, arith}
-use Rattle.std.specs.Prelude.{All, IfSome, is_some, not, ◌==◌, ◌||◌, slice_get, option_and_then}
-use Rattle.std.specs.Str.{bytes_eq}
-use Rattle.std.proofs.lemmas.Bool.Decides.{nat_tests}
-use Rattle.std.proofs.lemmas.List.Elements.{All-nil, All-cons}
-use Rattle.bus_journal.specs.Reports.{IsLine, IsSectionLine}
-use Rattle.bus_journal.proofs.LineFeeds.{line-append, two_digits-line}
-use Rattle.bus_spec.specs.Lines.{errno_text, two_digits}
-use Rattle.i2c_base.specs.Fitting.{Fits}
-use Rattle.i2c_base.specs.declared.reply.Reply.{Reply}
+use Rattle.tools.proofs.Cited.{◌≡◌, ℕ, zero, suc, ◌+◌, ◌-◌, ◌*◌, ◌/◌, ◌%◌, ◌<◌, ◌≤◌, ◌&&◌, nat_le, Bool, true, false, cond, List, [], ◌∷◌}
+use Rattle.tools.proofs.Cited.{◌++◌, codes, Option, Some, None, Result, Err, refl, subst, sym, ap, ◌∙◌, arith, All, IfSome, not, ◌==◌, ◌||◌}
+use Rattle.tools.proofs.Cited.{slice_get, option_and_then, bytes_eq, nat_tests, All-nil, All-cons, IsLine, IsSectionLine, line-append}
+use Rattle.tools.proofs.Cited.{two_digits-line, errno_text, two_digits, Fits, Reply, messages_of_call, SmbCall, SmbOp, IsInRange, Dialogue}
+use Rattle.tools.proofs.Cited.{AreReplies, next_place, dump_call, dump_cell, dump_sign, byte_line, dump_word, IsDumpInRange, Grammar, word}
+use Rattle.tools.proofs.Cited.{class, read_at, Word, number_in, ◌>>=◌, one_at, is_at, parts, heading, in_row, Cmd, Dump, and_first}
+use Rattle.std.specs.Prelude.{is_some}
 use Rattle.i2c_base.specs.declared.reply.Reply.TheVariants as reply
-use Rattle.smb_emul.specs.Calls.{messages_of_call}
-use Rattle.smb_emul.specs.declared.call.SmbCall.{SmbCall}
 use Rattle.smb_emul.specs.declared.call.SmbFail.TheVariants.{Errno}
-use Rattle.smb_emul.specs.declared.call.SmbOp.{SmbOp}
 use Rattle.smb_emul.specs.declared.call.SmbOp.TheVariants as op
-use Rattle.tools.specs.Commands.{IsInRange}
-use Rattle.tools.specs.Dialogues.{Dialogue, AreReplies, next_place}
-use Rattle.tools.specs.DumpTables.{dump_places, dump_op, dump_call, is_refusal, register_read, is_dumped, byte_cell, byte_sign, dump_cell, dump_sign, byte_row, rows, byte_line, byte_table, word_cell, dump_word, word_row, table_by, told_alone, dump_lines, dumps}
-use Rattle.tools.specs.Dumps.{is_dash, range_with, range_of, range_word, dump_mode, dumped, range_or_all, dump_tail, dump_bus, unless, by_yes, dump_options, dump_words, IsWhole, IsDumpInRange}
-use Rattle.tools.specs.Grammars.{Grammar, word, class, read_at}
-use Rattle.tools.specs.LineSets.{Word}
-use Rattle.tools.specs.Numbers.{number_in}
-use Rattle.tools.specs.Readers.{◌>>=◌, one_at, is_at}
-use Rattle.tools.specs.Tables.{parts, heading, in_row}
+use Rattle.tools.specs.DumpTables.{dump_places, dump_op, is_refusal, register_read, is_dumped, byte_cell, byte_sign, byte_row, rows}
+use Rattle.tools.specs.DumpTables.{byte_table, word_cell, word_row, table_by, told_alone, dump_lines, dumps}
+use Rattle.tools.specs.Dumps.{is_dash, range_with, range_of, range_word, dump_mode, dumped, range_or_all, dump_tail, dump_bus, unless}
+use Rattle.tools.specs.Dumps.{by_yes, dump_options, dump_words, IsWhole}
 use Rattle.tools.specs.Words.{before_gap, behind_gap}
-use Rattle.tools.specs.declared.command.Cmd.{Cmd}
-use Rattle.tools.specs.declared.command.dump.Dump.{Dump}
 use Rattle.tools.specs.declared.command.dump.DumpMode.{DumpMode}
 use Rattle.tools.specs.declared.command.dump.DumpMode.TheVariants as mode
 use Rattle.tools.specs.declared.command.dump.DumpOptions.{DumpOptions}
@@ -37,7 +24,6 @@ use Rattle.tools.proofs.OptionLemmas.{IsBetween, bounded, if_named, mode_is, num
 use Rattle.tools.proofs.TableLemmas.{parts_line, row_section, rows_section}
 use Rattle.tools.proofs.TransferLemmas.{IsAsk, call_asks, short_byte}
 use Rattle.tools.proofs.ValueLemmas.{others, result_line}
-use Rattle.i2c_base.proofs.Booleans.{and_first}
 
 -- ---- its options are read one by one
 

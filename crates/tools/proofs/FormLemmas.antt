@@ -1,32 +1,21 @@
 -- What is so of each form: its transfers are within the limits where its fields are in their ranges, and what it prints is lines of a
 -- section.
-use Rattle.std.proofs.Common.{ℕ, ◌^◌, ◌<◌, true, false, cond, List, [], ◌∷◌, length, Option, Some, None, arith}
-use Rattle.std.specs.Prelude.{⊤, ◌==◌, All, slice_get, slice_index_or}
-use Rattle.std.proofs.lemmas.List.Elements.{All-nil, All-cons}
-use Rattle.bus_journal.specs.Reports.{IsSectionLine}
-use Rattle.i2c_base.specs.Addr.{IsTargetAddress}
-use Rattle.i2c_base.specs.Bytes.{IsByte, AreBytes}
-use Rattle.i2c_base.specs.Limits.{I2C_BLOCK_LIMIT, LARGEST_BLOCK}
-use Rattle.i2c_spec.specs.SmbusCalls.{low_byte_first}
-use Rattle.i2c_base.specs.declared.reply.Reply.{Reply}
+use Rattle.tools.proofs.Cited.{ℕ, ◌^◌, ◌<◌, true, false, cond, List, [], ◌∷◌, length, Option, Some, None, arith, ◌==◌, All, slice_get}
+use Rattle.tools.proofs.Cited.{slice_index_or, All-nil, All-cons, IsSectionLine, IsTargetAddress, IsByte, AreBytes, LARGEST_BLOCK}
+use Rattle.tools.proofs.Cited.{low_byte_first, Reply, messages_of_call, IsBlockLength, call_to, call_text, IsCombinedInRange, IsDumpInRange}
+use Rattle.tools.proofs.Cited.{Dump, Combined, Detect, Callee, Chain}
+use Rattle.std.specs.Prelude.{⊤}
+use Rattle.i2c_base.specs.Limits.{I2C_BLOCK_LIMIT}
 use Rattle.i2c_base.specs.declared.reply.Reply.TheVariants as reply
-use Rattle.smb_emul.specs.Calls.{messages_of_call, IsBlockLength}
 use Rattle.smb_emul.specs.declared.call.SmbOp.TheVariants as op
-use Rattle.tools.specs.Calls.{call_to, held_call, call_text, lent}
+use Rattle.tools.specs.Calls.{held_call, lent}
 use Rattle.tools.specs.Chains.{chain_text}
-use Rattle.tools.specs.Combined.{IsCombinedInRange}
-use Rattle.tools.specs.Dumps.{IsDumpInRange}
 use Rattle.tools.specs.Runs.{dialogue_of}
-use Rattle.tools.specs.declared.command.dump.Dump.{Dump}
-use Rattle.tools.specs.declared.command.transfer.Combined.{Combined}
-use Rattle.tools.specs.declared.command.detect.Detect.{Detect}
 use Rattle.tools.specs.declared.run.ToolRun.{ToolRun}
 use Rattle.tools.specs.declared.run.ToolRun.TheVariants as run
-use Rattle.tools.specs.declared.run.call.Callee.{Callee}
 use Rattle.tools.specs.declared.run.call.HeldCall.{HeldCall}
 use Rattle.tools.specs.declared.run.call.HeldOp.{HeldOp}
 use Rattle.tools.specs.declared.run.call.HeldOp.TheVariants as held
-use Rattle.tools.specs.declared.run.chain.Chain.{Chain}
 use Rattle.tools.proofs.DumpLemmas.{dump_asks, dump_section}
 use Rattle.tools.proofs.MessageLemmas.{messages_ask, reply_line}
 use Rattle.tools.proofs.ScanLemmas.{probe_asks, printed_lines}
@@ -66,10 +55,12 @@ module _ (to : Callee) (near : IsTargetAddress to.addr) where
   call_asks_within (held.SendByte b) is k within = call_asks (call_to to (op.SendByte b)) (λ e. near.1) (short_byte b is) tt (omega arith)
   call_asks_within held.ReceiveByte is k within = receives_asks
   call_asks_within (held.WriteByte r b) is k within =
-      call_asks (call_to to (op.WriteByte r b)) (λ e. near.1) (short_bytes r (b ∷ []) is.0 (All-cons IsByte b [] is.1 (All-nil IsByte)) (omega arith))
+      call_asks (call_to to (op.WriteByte r b)) (λ e. near.1) (short_bytes r (b ∷ []) is.0 (All-cons IsByte b [] is.1 (All-nil IsByte))
+      (omega arith))
       tt (omega arith)
   call_asks_within (held.WriteWord r v) is k within =
-      call_asks (call_to to (op.WriteWord r v)) (λ e. near.1) (short_bytes r (low_byte_first v) is.0 (word_bytes v is.1) (omega arith)) tt (omega arith)
+      call_asks (call_to to (op.WriteWord r v)) (λ e. near.1) (short_bytes r (low_byte_first v) is.0 (word_bytes v is.1) (omega arith)) tt
+      (omega arith)
   call_asks_within (held.BlockWrite r bytes) is k within =
       call_asks (call_to to (op.BlockWrite r (lent bytes))) (λ e. near.1) (short_bytes r (length bytes ∷ bytes) is.0
       (All-cons IsByte (length bytes) bytes (omega (arith, is.1.1.1)) is.1.0) (omega (arith, is.1.1.1))) tt (omega arith)

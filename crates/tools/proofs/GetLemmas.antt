@@ -1,11 +1,9 @@
 -- i2cget: what its line means is in range, and how long it is; its calls are within the limits, and what it prints is a line.
-use Rattle.std.proofs.Common.{ℕ, ◌^◌, ◌<◌, ◌≤◌, Bool, false, Option, Some, None, arith}
-use Rattle.std.specs.Prelude.{IfSome, unwrap_or}
-use Rattle.i2c_base.specs.Addr.{IsTargetAddress}
-use Rattle.i2c_base.specs.Bytes.{IsByte}
-use Rattle.smb_emul.specs.Calls.{IsBlockLength}
-use Rattle.tools.specs.Commands.{IsInRange}
-use Rattle.tools.specs.Gets.{got, get_len, get_reg, get_bus, get_words, IsGetInRange, mode_of_get, len_of, get_callee, register_run, run_by, get_run}
+use Rattle.tools.proofs.Cited.{ℕ, ◌^◌, ◌<◌, ◌≤◌, Bool, false, Option, Some, None, arith, IfSome, IsTargetAddress, IsByte, IsBlockLength}
+use Rattle.tools.proofs.Cited.{IsInRange}
+use Rattle.std.specs.Prelude.{unwrap_or}
+use Rattle.tools.specs.Gets.{got, get_len, get_reg, get_bus, get_words, IsGetInRange, mode_of_get, len_of, get_callee, register_run, run_by}
+use Rattle.tools.specs.Gets.{get_run}
 use Rattle.tools.specs.declared.command.get.Get.{Get}
 use Rattle.tools.specs.declared.command.get.GetMode.{GetMode}
 use Rattle.tools.specs.declared.command.get.GetMode.TheVariants as mode
@@ -40,7 +38,8 @@ module _ (limit : ℕ) (force : Bool) (bus addr : ℕ) (on : IsBetween 0 65535 b
 
 bus_fits : (limit : ℕ) (force : Bool) → AllEnds (IsInRange limit) (get_bus force)
 unfolding get_bus
-bus_fits limit force w bus is x addr is_addr = reg_fits limit force bus addr (number_between 0 65535 w bus is) (number_between 8 119 x addr is_addr)
+bus_fits limit force w bus is x addr is_addr = reg_fits limit force bus addr (number_between 0 65535 w bus is)
+    (number_between 8 119 x addr is_addr)
 
 pub get_fits : (limit : ℕ) → AllEnds (IsInRange limit) get_words
 unfolding get_words

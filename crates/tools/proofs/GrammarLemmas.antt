@@ -1,14 +1,16 @@
 -- A grammar has no dead end, its lines are followed as they are read, they mean what its ends mean, and none is longer than
 -- the longest way through it. The inductions go over the grammar.
-use Rattle.std.proofs.Common.{◌≡◌, ℕ, zero, suc, ◌+◌, ◌-◌, ◌≤◌, Bool, true, false, List, [], ◌∷◌, length, drop, Option, Some, None, Result, Ok, Err, cond, nat_le, refl, sym, ap, subst, ◌∙◌, arith, add-one}
-use Rattle.std.specs.Prelude.{is_none, slice_get}
+use Rattle.tools.proofs.Cited.{◌≡◌, ℕ, zero, suc, ◌+◌, ◌-◌, ◌≤◌, Bool, true, false, List, [], ◌∷◌, length, drop, Option, Some, None, Result}
+use Rattle.tools.proofs.Cited.{Ok, Err, cond, nat_le, refl, sym, ap, subst, ◌∙◌, arith, add-one, slice_get, bytes_eq, Grammar, word, class}
+use Rattle.tools.proofs.Cited.{maybe, read_at, Word, LineSet, nothing, node, IsWithin, Begins, goes_on, or_refused, follow_words, ◌>>=◌}
+use Rattle.tools.proofs.Cited.{is_at}
+use Rattle.std.specs.Prelude.{is_none}
 use Rattle.std.proofs.lemmas.Bool.{le-leb, lt-leb}
 use Rattle.std.proofs.lemmas.Slice.Eq.{bytes_eq-Decides}
 use Rattle.std.proofs.Math.Dec.{leb-suc-suc}
-use Rattle.std.specs.Str.{bytes_eq}
-use Rattle.tools.specs.Grammars.{Grammar, ends, word, word_or, class, maybe, meaning_at_end, after_word, going_on, line_set, read_at}
-use Rattle.tools.specs.LineSets.{Word, LineSet, nothing, node, IsLine, IsWithin, Begins, goes_on, or_refused, follow_words}
-use Rattle.tools.specs.Readers.{◌>>=◌, of_word, is_some_text, is_at}
+use Rattle.tools.specs.Grammars.{ends, word_or, meaning_at_end, after_word, going_on, line_set}
+use Rattle.tools.specs.LineSets.{IsLine}
+use Rattle.tools.specs.Readers.{of_word, is_some_text}
 use Rattle.tools.proofs.LineSetLemmas.{IsLive, IsAlive}
 
 -- ---- no dead end
@@ -157,7 +159,8 @@ follow (word text g) i ws =
     ∙ ap (cond (is_at text ws i) (read_at g ws (i + 1))) (nothing_here i (drop (i + 1) ws) (slice_get ws i))
 follow (word_or text g h) i ws =
     follow_here (meaning_at_end (line_set h)) (λ w. cond (bytes_eq w text) (line_set g) (after_word (line_set h) w)) i ws
-    ∙ word_here text (line_set g) (meaning_at_end (line_set h)) (after_word (line_set h)) (read_at g ws (i + 1)) i (drop (i + 1) ws) (slice_get ws i)
+    ∙ word_here text (line_set g) (meaning_at_end (line_set h)) (after_word (line_set h)) (read_at g ws (i + 1)) i (drop (i + 1) ws)
+    (slice_get ws i)
     (alive g).some (follow g (i + 1) ws)
     ∙ ap (cond (is_at text ws i) (read_at g ws (i + 1))) (here_of (line_set h) i ws (alive h).some ∙ follow h i ws)
 follow (class c k) i ws =

@@ -1,11 +1,7 @@
 -- The lines of handles: what they mean is in range, and how long they are.
-use Rattle.std.proofs.Common.{ℕ, ◌≤◌, Bool, true, false, [], arith}
-use Rattle.tools.specs.ByteLists.{some_bytes}
-use Rattle.tools.specs.Commands.{IsInRange}
-use Rattle.tools.specs.Grammars.{Grammar}
-use Rattle.tools.specs.HandleLines.{open_words, slave_words, pec_words, read_words, write_words, rdwr_words, proc_word, proc_words, bproc_bytes, bproc_words, close_words, handle_lines}
-use Rattle.tools.specs.Sets.{block_room}
-use Rattle.tools.specs.declared.command.Cmd.TheVariants.{Handle}
+use Rattle.tools.proofs.Cited.{ℕ, ◌≤◌, Bool, true, false, [], arith, some_bytes, IsInRange, Grammar, block_room, Handle}
+use Rattle.tools.specs.HandleLines.{open_words, slave_words, pec_words, read_words, write_words, rdwr_words, proc_word, proc_words}
+use Rattle.tools.specs.HandleLines.{bproc_bytes, bproc_words, close_words, handle_lines}
 use Rattle.tools.specs.declared.command.handle.HandleCmd.TheVariants as handle
 use Rattle.tools.proofs.ByteListLemmas.{bytes_fit, bytes_within}
 use Rattle.tools.proofs.CombinedRanges.{some_descs_fit, some_descs_within}
@@ -109,7 +105,8 @@ proc_within = λ w h is x reg is_reg y v is_word. tt
 bproc_within : (limit : ℕ) → EndsWithin 257 (bproc_words limit)
 unfolding bproc_words bproc_bytes
 bproc_within limit = λ w h is x reg is_reg.
-    ends_within_most (block_room limit) 255 (some_bytes (block_room limit) [] (λ bytes. Handle (handle.Bproc h reg bytes))) (omega arith) (bytes_within (block_room limit) [] (λ bytes. Handle (handle.Bproc h reg bytes)))
+    ends_within_most (block_room limit) 255 (some_bytes (block_room limit) [] (λ bytes. Handle (handle.Bproc h reg bytes))) (omega arith)
+    (bytes_within (block_room limit) [] (λ bytes. Handle (handle.Bproc h reg bytes)))
 
 close_within : EndsWithin 1 close_words
 unfolding close_words

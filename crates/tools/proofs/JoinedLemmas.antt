@@ -1,10 +1,10 @@
 -- A line whose words have one space between each two is printed as it is.
-use Rattle.std.proofs.Common.{◌≡◌, ℕ, ◌+◌, ◌<◌, ◌≤◌, inl, inr, Bool, true, false, cond, List, [], ◌∷◌, length, drop, refl, sym, ap, subst, ◌∙◌, add-one, arith}
-use Rattle.std.specs.Prelude.{◌==◌, ◌&&◌, ◌||◌, nat_lt, not, if◌then◌else◌}
-use Rattle.std.proofs.lemmas.Bool.{and_parts, or_parts}
-use Rattle.std.proofs.lemmas.Bool.Decides.{eqb_tells, nat_tests}
-use Rattle.tools.specs.Words.{begins_with_word, onto_first, behind_gaps, gap_at}
-use Rattle.tools.specs.Splits.{is_blank, words_of, joined_words, is_spaced}
+use Rattle.tools.proofs.Cited.{◌≡◌, ℕ, ◌+◌, ◌<◌, ◌≤◌, inl, inr, Bool, true, false, cond, List, [], ◌∷◌, length, drop, refl, sym, ap, subst}
+use Rattle.tools.proofs.Cited.{◌∙◌, add-one, arith, ◌==◌, ◌||◌, nat_lt, not, and_parts, or_parts, nat_tests, begins_with_word, onto_first}
+use Rattle.tools.proofs.Cited.{behind_gaps, gap_at, is_blank, words_of}
+use Rattle.std.specs.Prelude.{◌&&◌, if◌then◌else◌}
+use Rattle.std.proofs.lemmas.Bool.Decides.{eqb_tells}
+use Rattle.tools.specs.Splits.{joined_words, is_spaced}
 
 -- words with one space between each two already, read behind a space or at the start, or after a byte of a word
 abbrev pub is_joined : Bool → List ℕ → Bool
@@ -116,7 +116,8 @@ is_joined_from (b ∷ bs) = is_joined true (b ∷ bs)
 passed : (s : Bool) (b : ℕ) (bs : List ℕ) → is_blank b ≡ false → is_joined s (b ∷ bs) ≡ is_joined false bs
 passed s b bs e =
     let p = or_parts _ _ e in
-    ap (λ t. cond t (not s && is_joined true bs) (cond (b == 9) false (is_joined false bs))) p.0 ∙ ap (λ t. cond t false (is_joined false bs)) p.1
+    ap (λ t. cond t (not s && is_joined true bs) (cond (b == 9) false (is_joined false bs))) p.0
+    ∙ ap (λ t. cond t false (is_joined false bs)) p.1
 
 -- and so are those up to the first blank
 rest_passed : (xs : List ℕ) → is_joined false xs ≡ is_joined false (drop (gap_at is_blank xs) xs)

@@ -26,3 +26,4 @@ pub mod TransferLemmas
 pub mod ValueLemmas
 pub mod WindowLemmas
 pub mod WordLemmas
+mod Cited

@@ -1,13 +1,9 @@
 -- The laws of the lines of a script, and what a line is read as. They hold of any grammar whose ends are in range.
-use Rattle.std.proofs.Common.{◌≡◌, ℕ, suc, ◌+◌, true, List, [], ◌∷◌, take, Some, None, Ok, refl, sym, ap, ◌∙◌, cond, arith}
-use Rattle.tools.specs.Lines.{is_command, some_command, words_read, line_read, ReadsLines, RefusesBehindLongest, MeansInRange, NoneIsLonger, FirstWordsDecide}
-use Rattle.tools.specs.Splits.{words_of}
-use Rattle.tools.specs.Grammars.{read_at}
-use Rattle.tools.specs.LineSets.{Word, IsWithin, follow_words}
-use Rattle.tools.specs.Commands.{grammar, script_lines, MOST_WORDS, IsInRange}
-use Rattle.tools.specs.Readers.{FaultIs}
-use Rattle.tools.specs.declared.command.Cmd.{Cmd}
-use Rattle.tools.specs.declared.fault.LineFault.{LineFault}
+use Rattle.tools.proofs.Cited.{◌≡◌, ℕ, suc, ◌+◌, true, List, [], ◌∷◌, take, Some, None, Ok, refl, sym, ap, ◌∙◌, cond, arith, is_command}
+use Rattle.tools.proofs.Cited.{words_of, read_at, Word, IsWithin, follow_words, MOST_WORDS, IsInRange, FaultIs, Cmd, LineFault}
+use Rattle.tools.specs.Lines.{some_command, words_read, line_read, ReadsLines, RefusesBehindLongest, MeansInRange, NoneIsLonger}
+use Rattle.tools.specs.Lines.{FirstWordsDecide}
+use Rattle.tools.specs.Commands.{grammar, script_lines}
 use Rattle.tools.specs.declared.fault.LineFault.TheVariants as fault
 use Rattle.tools.proofs.CommandLemmas.{lines_fit, lines_within}
 use Rattle.tools.proofs.GrammarLemmas.{alive, follow, means, within}

@@ -1,8 +1,10 @@
 -- Following the words through any set of lines without dead ends finds the line, or the longest front that begins one; where
 -- no line is long, the first words decide. The inductions go over the words.
-use Rattle.std.proofs.Common.{◌≡◌, ℕ, zero, suc, ◌+◌, ◌≤◌, true, false, List, [], ◌∷◌, ◌++◌, length, take, Option, Some, None, Result, Ok, Err, cond, refl, ap, arith, inl, inr}
+use Rattle.tools.proofs.Cited.{◌≡◌, ℕ, zero, suc, ◌+◌, ◌≤◌, true, false, List, [], ◌∷◌, ◌++◌, length, take, Option, Some, None, Result, Ok}
+use Rattle.tools.proofs.Cited.{Err, cond, refl, ap, arith, inl, inr, Word, LineSet, nothing, node, Begins, IsWithin, goes_on, or_refused}
+use Rattle.tools.proofs.Cited.{follow_words}
 use Rattle.std.proofs.lemmas.Bool.{cases_Bool}
-use Rattle.tools.specs.LineSets.{Word, LineSet, nothing, node, IsLine, Begins, IsLongest, IsWithin, goes_on, or_refused, follow_words}
+use Rattle.tools.specs.LineSets.{IsLine, IsLongest}
 
 -- each place that can be reached leads to the end of some line
 abbrev pub IsLive : {A : Type 0} → LineSet A → Type 0

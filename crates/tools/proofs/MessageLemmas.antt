@@ -1,23 +1,12 @@
 -- The messages of a plain transfer are within its limits, and what they print is lines of a section. The inductions go over the messages.
-use Rattle.std.proofs.Common.{◌≡◌, ℕ, ◌≤◌, List, [], ◌∷◌, length, take, drop, map, codes, Ok, Err, refl, arith}
-use Rattle.std.specs.Prelude.{All}
-use Rattle.std.specs.List.{flat_map, sum_by}
-use Rattle.std.proofs.lemmas.List.{length-append, length-map}
-use Rattle.std.proofs.lemmas.List.Elements.{All-nil, All-cons, All-append, All-head, All-tail}
-use Rattle.std.proofs.lemmas.List.Sums.{sum_by-cons}
-use Rattle.bus_journal.specs.Reports.{IsSectionLine}
-use Rattle.bus_spec.specs.Lines.{errno_text}
-use Rattle.i2c_base.specs.Bytes.{IsByte, AreBytes}
-use Rattle.i2c_base.specs.Transfer.{IsMessage, size_of, written_of}
-use Rattle.i2c_base.specs.declared.reply.Reply.{Reply}
+use Rattle.tools.proofs.Cited.{◌≡◌, ℕ, ◌≤◌, List, [], ◌∷◌, length, take, drop, map, codes, Ok, Err, refl, arith, All, flat_map, sum_by}
+use Rattle.tools.proofs.Cited.{length-append, length-map, All-nil, All-cons, All-append, All-head, All-tail, sum_by-cons, IsSectionLine}
+use Rattle.tools.proofs.Cited.{errno_text, IsByte, AreBytes, IsMessage, size_of, written_of, Reply, IsCombinedInRange, IsDescInRange}
+use Rattle.tools.proofs.Cited.{IsOpInRange, bytes_of, length_of, desc_message, count_read_by, own_lines, byte_words, Combined, Desc}
 use Rattle.i2c_base.specs.declared.reply.Reply.TheVariants as reply
 use Rattle.smb_emul.specs.declared.call.SmbFail.TheVariants as fail
 use Rattle.smb_emul.specs.Value as value
-use Rattle.tools.specs.Combined.{IsCombinedInRange, IsDescInRange, IsOpInRange, bytes_of, length_of}
-use Rattle.tools.specs.Transfers.{message_to, desc_message, bytes_to_write, sent_by, transfer_of, count_read, count_read_by, own_line, own_lines, reply_lines}
-use Rattle.tools.specs.Values.{byte_words}
-use Rattle.tools.specs.declared.command.transfer.Combined.{Combined}
-use Rattle.tools.specs.declared.lists.Desc.{Desc}
+use Rattle.tools.specs.Transfers.{message_to, bytes_to_write, sent_by, transfer_of, count_read, own_line, reply_lines}
 use Rattle.tools.specs.declared.lists.DescOp.{DescOp}
 use Rattle.tools.specs.declared.lists.DescOp.TheVariants as op
 use Rattle.tools.proofs.TransferLemmas.{IsAsk}
@@ -56,7 +45,13 @@ are_messages (d ∷ ds) each =
 sizes_same : (ds : List Desc) → sum_by size_of (map desc_message ds) ≡ sum_by bytes_of ds
 sizes_same [] = refl
 sizes_same (d ∷ ds) =
-    omega (arith, sum_by-cons size_of (desc_message d) (map desc_message ds), sum_by-cons bytes_of d ds, size_same d.addr d.op, sizes_same ds)
+    omega (
+      arith,
+      sum_by-cons size_of (desc_message d) (map desc_message ds),
+      sum_by-cons bytes_of d ds,
+      size_same d.addr d.op,
+      sizes_same ds,
+    )
 
 all_written : (ds : List Desc) → length (flat_map sent_by ds) ≡ sum_by written_of (map desc_message ds)
 all_written [] = refl

@@ -1,12 +1,8 @@
 -- What lines have in common: a number in a word is in its range, and the options are read before what follows them.
-use Rattle.std.proofs.Common.{◌≡◌, ℕ, suc, ◌+◌, ◌≤◌, nat_le, Bool, true, false, List, Option, Some, None, Result, Ok, Err, cond, codes, refl, subst, arith}
-use Rattle.std.specs.Prelude.{IfSome}
-use Rattle.std.proofs.lemmas.Bool.Decides.{nat_tests}
-use Rattle.tools.specs.Grammars.{Grammar, read_at}
-use Rattle.tools.specs.LineSets.{Word}
-use Rattle.tools.specs.Numbers.{number_in_word, number_in, within}
+use Rattle.tools.proofs.Cited.{◌≡◌, ℕ, suc, ◌+◌, ◌≤◌, nat_le, Bool, true, false, List, Option, Some, None, Result, Ok, Err, cond, codes}
+use Rattle.tools.proofs.Cited.{refl, subst, arith, IfSome, nat_tests, Grammar, read_at, Word, number_in, within, ◌>>=◌, is_at}
+use Rattle.tools.specs.Numbers.{number_in_word}
 use Rattle.tools.specs.Options.{force_and_yes, options_at}
-use Rattle.tools.specs.Readers.{◌>>=◌, is_at}
 use Rattle.tools.proofs.GrammarLemmas.{AllEnds, EndsWithin, ends_within_more}
 
 pub bounded : (a b : ℕ) → nat_le a b ≡ true → a ≤ b

@@ -1,13 +1,10 @@
 -- A text of whole lines is the lines in it, and one more at its end is one more of them.
-use Rattle.std.proofs.Common.{◌≡◌, ℕ, true, false, List, [], ◌∷◌, ◌++◌, cond, refl, sym, ap, ◌∙◌, append_assoc, append-nil}
-use Rattle.std.specs.Prelude.{◌==◌}
-use Rattle.std.specs.List.{All, flat_map, list_any}
-use Rattle.std.proofs.lemmas.Bool.{or_from, or_parts}
+use Rattle.tools.proofs.Cited.{◌≡◌, ℕ, true, false, List, [], ◌∷◌, ◌++◌, cond, refl, sym, ap, ◌∙◌, append_assoc, append-nil, ◌==◌, flat_map}
+use Rattle.tools.proofs.Cited.{list_any, or_parts, All-nil, All-cons, All-head, All-tail, All-append, IsLine, line_ended, onto_first}
+use Rattle.std.specs.List.{All}
+use Rattle.std.proofs.lemmas.Bool.{or_from}
 use Rattle.std.proofs.lemmas.Grind.{flat_map-append}
-use Rattle.std.proofs.lemmas.List.Elements.{All-nil, All-cons, All-head, All-tail, All-append}
-use Rattle.bus_journal.specs.Reports.{IsLine, line_ended}
 use Rattle.tools.specs.Says.{whole_lines}
-use Rattle.tools.specs.Words.{onto_first}
 
 -- a line with its end comes first
 ended_first : (line rest : List ℕ) → IsLine line → whole_lines (line ++ 10 ∷ rest) ≡ line ∷ whole_lines rest

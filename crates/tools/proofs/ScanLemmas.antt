@@ -1,25 +1,14 @@
 -- A scan: its probes are within the limits, what it prints is lines of a section, and whether a reply says that the bus isn't there.
-use Rattle.std.proofs.Common.{◌≡◌, ℕ, zero, suc, ◌+◌, ◌-◌, ◌*◌, ◌<◌, ◌≤◌, Bool, true, false, cond, List, [], ◌∷◌, drop, codes, Option, Some, None, refl, ap, arith}
-use Rattle.std.specs.Prelude.{All, ◌==◌, ◌||◌, slice_get}
-use Rattle.std.specs.List.{list_any}
-use Rattle.std.proofs.lemmas.List.Elements.{All-nil, All-cons}
-use Rattle.bus_journal.specs.Reports.{IsLine, IsSectionLine}
-use Rattle.bus_journal.proofs.LineFeeds.{line-append, two_digits-line}
-use Rattle.bus_spec.specs.Lines.{two_digits, errno_text}
-use Rattle.i2c_base.specs.Bytes.{IsByte}
+use Rattle.tools.proofs.Cited.{◌≡◌, ℕ, zero, suc, ◌+◌, ◌-◌, ◌*◌, ◌<◌, ◌≤◌, Bool, true, false, cond, List, [], ◌∷◌, drop, codes, Option}
+use Rattle.tools.proofs.Cited.{Some, None, refl, ap, arith, All, ◌==◌, ◌||◌, slice_get, list_any, All-nil, All-cons, IsLine, IsSectionLine}
+use Rattle.tools.proofs.Cited.{line-append, two_digits-line, two_digits, errno_text, IsByte, Errno, Reply, messages_of_call, SmbCall, SmbOp}
+use Rattle.tools.proofs.Cited.{is_no_bus, scan_cell, scan_line, heading, in_row, parts, Detect, Probe}
 use Rattle.i2c_base.specs.Errno.{number_of}
-use Rattle.i2c_base.specs.declared.errno.Errno.{Errno}
 use Rattle.i2c_base.specs.declared.errno.Errno.TheVariants as errno
-use Rattle.i2c_base.specs.declared.reply.Reply.{Reply}
 use Rattle.i2c_base.specs.declared.reply.Reply.TheVariants as reply
-use Rattle.smb_emul.specs.Calls.{messages_of_call}
-use Rattle.smb_emul.specs.declared.call.SmbCall.{SmbCall}
-use Rattle.smb_emul.specs.declared.call.SmbOp.{SmbOp}
 use Rattle.smb_emul.specs.declared.call.SmbOp.TheVariants as op
-use Rattle.tools.specs.Scans.{first_probed, probes, is_probed, is_received, probe_op, probe_call, is_no_bus, error_cell, answer_cell, scan_cell, scan_row, scan_line, scan_lines}
-use Rattle.tools.specs.Tables.{heading, in_row, parts}
-use Rattle.tools.specs.declared.command.detect.Detect.{Detect}
-use Rattle.tools.specs.declared.command.detect.Probe.{Probe}
+use Rattle.tools.specs.Scans.{first_probed, probes, is_probed, is_received, probe_op, probe_call, error_cell, answer_cell, scan_row}
+use Rattle.tools.specs.Scans.{scan_lines}
 use Rattle.tools.specs.declared.command.detect.Probe.TheVariants as probe
 use Rattle.tools.proofs.TableLemmas.{parts_line, row_section, rows_section}
 use Rattle.tools.proofs.TransferLemmas.{IsAsk, IsShortWrite, call_asks}

@@ -1,27 +1,17 @@
 -- i2cset: what its line means is in range, and how long it is; and the bytes of a block are read one by one, as a loop does.
-use Rattle.std.proofs.Common.{◌≡◌, ℕ, zero, suc, ◌+◌, ◌-◌, ◌^◌, ◌<◌, ◌≤◌, ◌&&◌, nat_le, Bool, true, false, List, [], ◌∷◌, ◌++◌, length, codes, Option, Some, None, refl, subst, arith, Result, Ok, Err, sym, ◌∙◌}
-use Rattle.std.specs.Prelude.{IfSome}
+use Rattle.tools.proofs.Cited.{◌≡◌, ℕ, zero, suc, ◌+◌, ◌-◌, ◌^◌, ◌<◌, ◌≤◌, ◌&&◌, nat_le, Bool, true, false, List, [], ◌∷◌, ◌++◌, length}
+use Rattle.tools.proofs.Cited.{codes, Option, Some, None, refl, subst, arith, Result, Ok, Err, sym, ◌∙◌, IfSome, bytes_eq, length-append}
+use Rattle.tools.proofs.Cited.{All-nil, All-cons, All-append, IsTargetAddress, AreBytes, IsByte, IsInRange, Grammar, read_at, Word}
+use Rattle.tools.proofs.Cited.{number_in, HasValues, block_mode, is_short, block_room, block_piece, Cmd, SetMode, one_at, and_first}
 use Rattle.std.specs.Option.{option_or}
-use Rattle.std.specs.Str.{bytes_eq}
-use Rattle.std.proofs.lemmas.List.{length-append}
-use Rattle.std.proofs.lemmas.List.Elements.{All-nil, All-cons, All-append}
-use Rattle.i2c_base.specs.Addr.{IsTargetAddress}
-use Rattle.i2c_base.specs.Bytes.{AreBytes, IsByte}
-use Rattle.tools.specs.Commands.{IsInRange}
-use Rattle.tools.specs.Grammars.{Grammar, read_at}
-use Rattle.tools.specs.LineSets.{Word}
-use Rattle.tools.specs.Numbers.{number_in}
-use Rattle.tools.specs.Sets.{HasValues, IsBlock, send_mode, word_mode, block_mode, byte_mode, mode_or, by_piece, is_short, block_room, set_to, set_by, set_block, set_byte, set_number, set_values, set_reg, set_bus, set_words, block_piece}
-use Rattle.tools.specs.declared.command.Cmd.{Cmd}
+use Rattle.tools.specs.Sets.{IsBlock, send_mode, word_mode, byte_mode, mode_or, by_piece, set_to, set_by, set_block, set_byte, set_number}
+use Rattle.tools.specs.Sets.{set_values, set_reg, set_bus, set_words}
 use Rattle.tools.specs.declared.command.set.SetHead.{SetHead}
-use Rattle.tools.specs.declared.command.set.SetMode.{SetMode}
 use Rattle.tools.specs.declared.command.set.SetMode.TheVariants as set_mode
 use Rattle.tools.specs.declared.command.set.SetPiece.{SetPiece}
 use Rattle.tools.specs.declared.command.set.SetPiece.TheVariants as piece
 use Rattle.tools.proofs.GrammarLemmas.{AllEnds, EndsWithin}
 use Rattle.tools.proofs.OptionLemmas.{bounded, if_named, mode_is, number_between, options_end, options_within}
-use Rattle.tools.specs.Readers.{one_at}
-use Rattle.i2c_base.proofs.Booleans.{and_first}
 
 -- ---- its range
 

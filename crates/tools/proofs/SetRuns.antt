@@ -1,11 +1,8 @@
 -- i2cset: its call is within the limits, and what it prints is a line of a section.
-use Rattle.std.proofs.Common.{ℕ, ◌<◌, List, [], ◌∷◌, Option, Some, None, arith}
-use Rattle.std.specs.Prelude.{slice_index_or}
-use Rattle.i2c_base.specs.Bytes.{IsByte}
-use Rattle.i2c_base.specs.Limits.{LARGEST_BLOCK}
-use Rattle.tools.specs.Sets.{AreOfMode, HasValues, IsOneBelow, IsSetInRange, block_room, set_callee, mode_of_set, set_op, set_run}
+use Rattle.tools.proofs.Cited.{ℕ, ◌<◌, List, [], ◌∷◌, Option, Some, None, arith, slice_index_or, IsByte, LARGEST_BLOCK, HasValues}
+use Rattle.tools.proofs.Cited.{block_room, SetMode}
+use Rattle.tools.specs.Sets.{AreOfMode, IsOneBelow, IsSetInRange, set_callee, mode_of_set, set_op, set_run}
 use Rattle.tools.specs.declared.command.set.Set.{Set}
-use Rattle.tools.specs.declared.command.set.SetMode.{SetMode}
 use Rattle.tools.specs.declared.command.set.SetMode.TheVariants as mode
 use Rattle.tools.proofs.FormLemmas.{AsksWithin, HasSectionLines, IsHeld, call_asks_within, call_lines}
 

@@ -1,12 +1,11 @@
 -- The first line of a text. The inductions go over its bytes.
-use Rattle.std.proofs.Common.{◌≡◌, ℕ, zero, suc, ◌+◌, ◌<◌, ◌≤◌, Option, Some, None, Bool, true, false, List, [], ◌∷◌, ◌++◌, length, take, drop, refl, sym, ap, ◌∙◌, arith, cond, eqb, ◌&&◌}
-use Rattle.std.proofs.Common.{add-one, get_or}
+use Rattle.tools.proofs.Cited.{◌≡◌, ℕ, zero, suc, ◌+◌, ◌<◌, ◌≤◌, Option, Some, None, Bool, true, false, List, [], ◌∷◌, ◌++◌, length, take}
+use Rattle.tools.proofs.Cited.{drop, refl, sym, ap, ◌∙◌, arith, cond, ◌&&◌, add-one, get_or, nat_tests, onto_first}
+use Rattle.std.proofs.Common.{eqb}
 use Rattle.std.specs.Option.{unwrap_or}
 use Rattle.std.proofs.lemmas.Bool.{eq-eqb, ne_eqb}
-use Rattle.std.proofs.lemmas.Bool.Decides.{nat_tests}
 use Rattle.std.proofs.lemmas.List.{drop_more, drop_all, take_more}
 use Rattle.memchr.specs.Find.{IsFirstByte, Nowhere, Passes, is_byte}
-use Rattle.tools.specs.Words.{onto_first}
 use Rattle.tools.specs.Splits.{lines_of, feed_at}
 
 -- the bytes without a carriage return at their end
@@ -107,7 +106,8 @@ feed_more b bs ys e h = ap feed_at e ∙ ap (λ s. cond s 0 (feed_at bs + 1)) h
 behind_none : (xs : List ℕ) (n : ℕ) → n ≤ length xs → Nowhere (Passes (is_byte 10) xs) 0 n → feed_at xs ≡ n + feed_at (drop n xs)
 behind_none xs zero within none = omega arith
 behind_none xs (suc n) within none =
-    let other : eqb (get_or xs n 0) 10 ≡ false = ne_eqb (get_or xs n 0) 10 (λ e. none n (omega arith) (omega arith) (eq-eqb (get_or xs n 0) 10 e)) in
+    let other : eqb (get_or xs n 0) 10 ≡ false = ne_eqb (get_or xs n 0) 10 (λ e. none n (omega arith) (omega arith)
+    (eq-eqb (get_or xs n 0) 10 e)) in
     let inside : n < length xs = omega (arith, within) in
     let before = behind_none xs n (omega (arith, within)) (λ k low high. none k low (omega (arith, high))) in
     let more = feed_more (get_or xs n 0) (drop (n + 1) xs) (drop n xs) (drop_more xs n 0 inside) other in

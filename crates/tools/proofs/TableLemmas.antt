@@ -1,15 +1,11 @@
 -- Spaces at the end, one by one, and of the last row alone; one part more; and each row is a line of a section.
-use Rattle.std.proofs.Common.{◌≡◌, ℕ, zero, suc, ◌+◌, List, [], ◌∷◌, ◌++◌, reverse, get_or, true, false, cond, append_assoc, append-nil, refl, sym, ap, subst, ◌∙◌, add-one, arith, codes}
-use Rattle.std.specs.Prelude.{All, ◌==◌, ◌||◌}
-use Rattle.std.specs.List.{flat_map}
-use Rattle.std.proofs.lemmas.Bool.{or_parts}
+use Rattle.tools.proofs.Cited.{◌≡◌, ℕ, zero, suc, ◌+◌, List, [], ◌∷◌, ◌++◌, get_or, true, false, cond, append_assoc, append-nil, refl, sym}
+use Rattle.tools.proofs.Cited.{ap, subst, ◌∙◌, add-one, arith, codes, All, ◌==◌, ◌||◌, flat_map, or_parts, All-nil, All-cons, All-append}
+use Rattle.tools.proofs.Cited.{two_digits, line_ended, IsLine, IsSectionLine, line-append, two_digits-line, trimmed}
+use Rattle.std.proofs.Common.{reverse}
 use Rattle.std.proofs.lemmas.List.{reverse-append, reverse-reverse}
 use Rattle.std.proofs.lemmas.List.Concat.{flat_map-append}
-use Rattle.std.proofs.lemmas.List.Elements.{All-nil, All-cons, All-append}
-use Rattle.bus_spec.specs.Lines.{two_digits}
-use Rattle.bus_journal.specs.Reports.{line_ended, IsLine, IsSectionLine}
-use Rattle.bus_journal.proofs.LineFeeds.{line-append, two_digits-line}
-use Rattle.tools.specs.Tables.{skip_spaces, trimmed, parts, row_front}
+use Rattle.tools.specs.Tables.{skip_spaces, parts, row_front}
 
 pub trimmed_space : (xs : List ℕ) → trimmed (xs ++ 32 ∷ []) ≡ trimmed xs
 trimmed_space xs = rw (reverse-append xs (32 ∷ []))
@@ -20,22 +16,28 @@ turned_back xs x = sym (ap reverse (reverse-append xs (x ∷ []))) ∙ reverse-r
 pub trimmed_done : (xs : List ℕ) (x : ℕ) → (x == 32) ≡ false → trimmed (xs ++ x ∷ []) ≡ xs ++ x ∷ []
 trimmed_done xs x other = rw (reverse-append xs (x ∷ []), other) (turned_back xs x)
 
-skip_front : (xs : List ℕ) (sign : ℕ) (ys zs : List ℕ) → (sign == 32) ≡ false → skip_spaces (xs ++ sign ∷ (ys ++ zs)) ≡ skip_spaces (xs ++ sign ∷ ys) ++ zs
-skip_front [] sign ys zs other = ap (λ b. cond b (skip_spaces (ys ++ zs)) (sign ∷ (ys ++ zs))) other ∙ sym (ap (λ b. cond b (skip_spaces ys) (sign ∷ ys) ++ zs) other)
+skip_front : (xs : List ℕ) (sign : ℕ) (ys zs : List ℕ) → (sign == 32) ≡ false → skip_spaces (xs ++ sign ∷ (ys ++ zs)) ≡ skip_spaces
+    (xs ++ sign ∷ ys) ++ zs
+skip_front [] sign ys zs other = ap (λ b. cond b (skip_spaces (ys ++ zs)) (sign ∷ (ys ++ zs))) other
+    ∙ sym (ap (λ b. cond b (skip_spaces ys) (sign ∷ ys) ++ zs) other)
 skip_front (x ∷ xs) sign ys zs other =
-    elim (x == 32) as (λ b. cond b (skip_spaces (xs ++ sign ∷ (ys ++ zs))) (x ∷ (xs ++ sign ∷ (ys ++ zs))) ≡ cond b (skip_spaces (xs ++ sign ∷ ys)) (x ∷ (xs ++ sign ∷ ys)) ++ zs) [
+    elim (x == 32) as (λ b. cond b (skip_spaces (xs ++ sign ∷ (ys ++ zs))) (x ∷ (xs ++ sign ∷ (ys ++ zs))) ≡ cond b
+    (skip_spaces (xs ++ sign ∷ ys)) (x ∷ (xs ++ sign ∷ ys)) ++ zs) [
       | true ↦ skip_front xs sign ys zs other
       | false ↦ ap (λ l. x ∷ l) (sym (append_assoc xs (sign ∷ ys) zs))
     ]
 
 turned : (front back : List ℕ) (sign : ℕ) → reverse (front ++ sign ∷ back) ≡ reverse back ++ sign ∷ reverse front
-turned front back sign = reverse-append front (sign ∷ back) ∙ ap (λ l. l ++ reverse front) (reverse-append (sign ∷ []) back) ∙ append_assoc (reverse back) (sign ∷ []) (reverse front)
+turned front back sign = reverse-append front (sign ∷ back) ∙ ap (λ l. l ++ reverse front) (reverse-append (sign ∷ []) back)
+    ∙ append_assoc (reverse back) (sign ∷ []) (reverse front)
 
-trims_alone : (o front back : List ℕ) (sign : ℕ) → (sign == 32) ≡ false → trimmed (o ++ (front ++ sign ∷ back)) ≡ o ++ trimmed (front ++ sign ∷ back)
+trims_alone : (o front back : List ℕ) (sign : ℕ) → (sign == 32) ≡ false → trimmed (o ++ (front ++ sign ∷ back)) ≡ o ++ trimmed
+    (front ++ sign ∷ back)
 trims_alone o front back sign other =
     let row : List ℕ = front ++ sign ∷ back in
     let whole : reverse (o ++ row) ≡ reverse back ++ sign ∷ (reverse front ++ reverse o) =
-    reverse-append o row ∙ ap (λ l. l ++ reverse o) (turned front back sign) ∙ append_assoc (reverse back) (sign ∷ reverse front) (reverse o) in
+    reverse-append o row ∙ ap (λ l. l ++ reverse o) (turned front back sign) ∙ append_assoc (reverse back) (sign ∷ reverse front)
+    (reverse o) in
     ap (λ l. reverse (skip_spaces l)) whole
     ∙ ap reverse (skip_front (reverse back) sign (reverse front) (reverse o) other)
     ∙ reverse-append (skip_spaces (reverse back ++ sign ∷ reverse front)) (reverse o)
@@ -61,21 +63,26 @@ pub lines_none : (h : List ℕ) (f : ℕ → List (List ℕ)) → flat_map line_
 unfolding parts
 lines_none h f = append-nil (line_ended h)
 
-pub lines_more : (h : List ℕ) (f : ℕ → List (List ℕ)) (n : ℕ) → flat_map line_ended (h ∷ parts f (n + 1)) ≡ flat_map line_ended (h ∷ parts f n) ++ flat_map line_ended (f n)
-lines_more h f n = rw (parts_more f n) (ap (λ t. line_ended h ++ t) (flat_map-append line_ended (parts f n) (f n)) ∙ sym (append_assoc (line_ended h) (flat_map line_ended (parts f n)) (flat_map line_ended (f n))))
+pub lines_more : (h : List ℕ) (f : ℕ → List (List ℕ)) (n : ℕ) → flat_map line_ended (h ∷ parts f (n + 1)) ≡ flat_map line_ended
+    (h ∷ parts f n) ++ flat_map line_ended (f n)
+lines_more h f n = rw (parts_more f n) (ap (λ t. line_ended h ++ t) (flat_map-append line_ended (parts f n) (f n))
+    ∙ sym (append_assoc (line_ended h) (flat_map line_ended (parts f n)) (flat_map line_ended (f n))))
 
 -- a row with its cells is trimmed and ended
-pub row_ended : (o cells a b c d : List ℕ) (row : ℕ) → a ≡ o ++ row_front row → b ≡ a ++ cells → c ≡ trimmed b → d ≡ c ++ 10 ∷ [] → d ≡ o ++ line_ended (trimmed (row_front row ++ cells))
+pub row_ended : (o cells a b c d : List ℕ) (row : ℕ) → a ≡ o ++ row_front row → b ≡ a ++ cells → c ≡ trimmed b → d ≡ c ++ 10 ∷ []
+    → d ≡ o ++ line_ended (trimmed (row_front row ++ cells))
 row_ended o cells a b c d row ea eb ec ed =
     let whole : b ≡ o ++ (row_front row ++ cells) = eb ∙ ap (λ t. t ++ cells) ea ∙ append_assoc o (row_front row) cells in
     let cut : c ≡ o ++ trimmed (row_front row ++ cells) = ec ∙ ap trimmed whole ∙ row_trimmed o row cells in
     ed ∙ ap (λ t. t ++ 10 ∷ []) cut ∙ append_assoc o (trimmed (row_front row ++ cells)) (10 ∷ [])
 
 -- one row more after a text that has the first lines
-pub line_next : (o h x now new : List ℕ) (f : ℕ → List (List ℕ)) (n : ℕ) → f n ≡ x ∷ [] → now ≡ o ++ flat_map line_ended (h ∷ parts f n) → new ≡ now ++ line_ended x → new ≡ o ++ flat_map line_ended (h ∷ parts f (n + 1))
+pub line_next : (o h x now new : List ℕ) (f : ℕ → List (List ℕ)) (n : ℕ) → f n ≡ x ∷ [] → now ≡ o ++ flat_map line_ended (h ∷ parts f n)
+    → new ≡ now ++ line_ended x → new ≡ o ++ flat_map line_ended (h ∷ parts f (n + 1))
 line_next o h x now new f n is same next =
     next ∙ ap (λ t. t ++ line_ended x) same ∙ append_assoc o (flat_map line_ended (h ∷ parts f n)) (line_ended x)
-    ∙ ap (λ t. o ++ (flat_map line_ended (h ∷ parts f n) ++ t)) (sym (append-nil (line_ended x)) ∙ ap (λ (l : List (List ℕ)). flat_map line_ended l) (sym is))
+    ∙ ap (λ t. o ++ (flat_map line_ended (h ∷ parts f n) ++ t)) (sym (append-nil (line_ended x))
+    ∙ ap (λ (l : List (List ℕ)). flat_map line_ended l) (sym is))
     ∙ ap (λ t. o ++ t) (sym (lines_more h f n))
 
 -- so it is where no line stands above the rows

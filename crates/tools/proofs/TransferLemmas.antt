@@ -1,21 +1,16 @@
 -- The transfer of an SMBus call is within the limits, and no reply to a transfer brings more than it stands for.
-use Rattle.std.proofs.Common.{◌≡◌, ℕ, zero, suc, ◌+◌, ◌*◌, ◌/◌, ◌%◌, ◌^◌, ◌<◌, ◌≤◌, Bool, true, false, cond, List, [], ◌∷◌, ◌++◌, length, take, get_or, Option, Some, None, refl, subst, arith, add-one}
-use Rattle.std.specs.Prelude.{All, IfSome}
-use Rattle.std.proofs.Math.Seq.{take-length}
-use Rattle.std.proofs.lemmas.List.{length-append}
-use Rattle.std.proofs.lemmas.List.Sums.{sum_by-cons}
-use Rattle.std.proofs.lemmas.List.Elements.{All-nil, All-cons, All-append, All-get_or}
-use Rattle.i2c_base.specs.Bytes.{IsByte, AreBytes}
-use Rattle.i2c_base.specs.Fitting.{Fits}
-use Rattle.i2c_base.specs.Transfer.{TransferView, IsTransfer, IsMessage, size_of, written_of, written, plain_read, counted_read}
-use Rattle.i2c_base.specs.declared.reply.Reply.{Reply}
+use Rattle.tools.proofs.Cited.{◌≡◌, ℕ, zero, suc, ◌+◌, ◌*◌, ◌/◌, ◌%◌, ◌^◌, ◌<◌, ◌≤◌, Bool, true, false, cond, List, [], ◌∷◌, ◌++◌, length}
+use Rattle.tools.proofs.Cited.{take, get_or, Option, Some, None, refl, subst, arith, add-one, All, IfSome, take-length, length-append}
+use Rattle.tools.proofs.Cited.{sum_by-cons, All-nil, All-cons, All-append, IsByte, AreBytes, Fits, TransferView, IsMessage, size_of}
+use Rattle.tools.proofs.Cited.{written_of, Reply, low_byte_first, messages_of_call, call_row, is_coded, write_messages, read_messages}
+use Rattle.tools.proofs.Cited.{bytes_sent, IsBlockLength, SmbCall}
+use Rattle.std.proofs.lemmas.List.Elements.{All-get_or}
+use Rattle.i2c_base.specs.Transfer.{IsTransfer, written, plain_read, counted_read}
 use Rattle.i2c_base.specs.declared.reply.Reply.TheVariants as reply
 use Rattle.i2c_base.specs.declared.transfer.Msg.{Msg}
-use Rattle.i2c_spec.specs.SmbusCalls.{low_byte_first}
 use Rattle.i2c_spec.specs.declared.smbus_row.ReadShape.{ReadShape}
 use Rattle.i2c_spec.specs.declared.smbus_row.ReadShape.TheVariants as read
-use Rattle.smb_emul.specs.Calls.{messages_of_call, call_row, is_coded, write_messages, read_messages, bytes_sent, code_sent, IsBlockLength, IsShortRead}
-use Rattle.smb_emul.specs.declared.call.SmbCall.{SmbCall}
+use Rattle.smb_emul.specs.Calls.{code_sent, IsShortRead}
 use Rattle.smb_pec.specs.LongDivision.{pec}
 use Rattle.smb_pec.proofs.TableLemmas.{code_is_byte, code_more}
 use Rattle.tools.specs.Replies.{most_brought}
@@ -143,7 +138,8 @@ both_fit addr out m sent is =
       bytes = sent.each;
     }
 
-row_fits : (addr : ℕ) (coded : Bool) (r : ReadShape) (write : Option (List ℕ)) → (coded ≡ true → addr ≤ 119) → IfSome write IsShortWrite → IsShortRead r
+row_fits : (addr : ℕ) (coded : Bool) (r : ReadShape) (write : Option (List ℕ)) → (coded ≡ true → addr ≤ 119) → IfSome write IsShortWrite
+    → IsShortRead r
     → IsTransfer (write_messages addr coded r write ++ read_messages addr coded r) (bytes_sent addr coded r write)
 row_fits addr coded read.Nothing None near short reads = record {
   count = omega arith;
@@ -168,7 +164,8 @@ pub record IsAsk (t : TransferView) : Type 0 where
   pub sends : 0 < length t.msgs
 
 -- so is that of any call with short writes and reads; an address goes into an error code alone
-pub call_asks : (call : SmbCall) → (is_coded call ≡ true → call.addr ≤ 119) → IfSome (call_row call.op).write IsShortWrite → IsShortRead (call_row call.op).read
+pub call_asks : (call : SmbCall) → (is_coded call ≡ true → call.addr ≤ 119) → IfSome (call_row call.op).write IsShortWrite
+    → IsShortRead (call_row call.op).read
     → 0 < length (messages_of_call call).msgs → IsAsk (messages_of_call call)
 call_asks call near short reads some =
     record { fits = row_fits call.addr (is_coded call) (call_row call.op).read (call_row call.op).write near short reads; sends = some }

@@ -1,17 +1,15 @@
 -- The text of a value is one line, and not the line `journal`; that of an error is short.
-use Rattle.std.proofs.Common.{◌≡◌, ℕ, ◌<◌, ◌≤◌, ◌/◌, ◌%◌, List, [], ◌∷◌, ◌++◌, codes, length, get_or, refl, ap, arith}
+use Rattle.tools.proofs.Cited.{◌≡◌, ℕ, ◌<◌, ◌≤◌, ◌/◌, ◌%◌, List, [], ◌∷◌, ◌++◌, codes, length, get_or, refl, ap, arith, flat_map, IsLine}
+use Rattle.tools.proofs.Cited.{IsSectionLine, line-append, two_digits-line, two_digits, errno_text, Errno, byte_word, spaced_word}
+use Rattle.tools.proofs.Cited.{byte_words, fail_text, call_result_text}
 use Rattle.std.specs.Prelude.{Result, Ok, Err}
-use Rattle.std.specs.List.{flat_map}
-use Rattle.bus_journal.specs.Reports.{IsLine, IsSectionLine}
-use Rattle.bus_journal.proofs.LineFeeds.{line-append, two_digits-line}
-use Rattle.bus_spec.specs.Lines.{two_digits, errno_text}
-use Rattle.i2c_base.specs.declared.errno.Errno.{Errno}
-use Rattle.i2c_base.specs.declared.errno.Errno.TheVariants.{Eio, Enxio, Ebadf, Ebusy, Enodev, Einval, Eproto, Ebadmsg, Eopnotsupp, Etimedout, Eremoteio}
+use Rattle.i2c_base.specs.declared.errno.Errno.TheVariants.{Eio, Enxio, Ebadf, Ebusy, Enodev, Einval, Eproto, Ebadmsg, Eopnotsupp}
+use Rattle.i2c_base.specs.declared.errno.Errno.TheVariants.{Etimedout, Eremoteio}
 use Rattle.smb_emul.specs.declared.call.SmbFail.{SmbFail}
 use Rattle.smb_emul.specs.declared.call.SmbFail.TheVariants as fail
 use Rattle.smb_emul.specs.Value.{ValueView}
 use Rattle.smb_emul.specs.Value as value
-use Rattle.tools.specs.Values.{byte_word, double_word, spaced_word, byte_words, fail_text, value_text, call_result_text}
+use Rattle.tools.specs.Values.{double_word, value_text}
 
 word : (b : ℕ) → IsLine (byte_word b)
 word b = line-append (codes "0x") (two_digits b) refl (two_digits-line b)

@@ -1,7 +1,7 @@
 -- The replies that are kept from a place on.
-use Rattle.std.proofs.Common.{◌≡◌, ℕ, ◌+◌, ◌-◌, ◌<◌, ◌≤◌, List, drop, length, get_or, Some, None, sym, ap, ◌∙◌, length-drop, arith}
-use Rattle.std.specs.Prelude.{slice_get}
-use Rattle.std.proofs.lemmas.List.{length-map, get_or-map, get_or-drop}
+use Rattle.tools.proofs.Cited.{◌≡◌, ℕ, ◌+◌, ◌-◌, ◌<◌, ◌≤◌, List, drop, length, get_or, Some, None, sym, ap, ◌∙◌, length-drop, arith}
+use Rattle.tools.proofs.Cited.{slice_get, length-map}
+use Rattle.std.proofs.lemmas.List.{get_or-map, get_or-drop}
 use Rattle.std.proofs.lemmas.Option.{slice_get-get_or, slice_get_past}
 use Rattle.i2c_base.specs.declared.reply.ReplyHead.{ReplyHead}
 use Rattle.tools.specs.Replies.{reply_of, replies_of}

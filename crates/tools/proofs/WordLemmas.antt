@@ -1,6 +1,7 @@
 -- The first word of a text. The inductions go over its bytes.
-use Rattle.std.proofs.Common.{◌≡◌, ℕ, ◌+◌, ◌<◌, Bool, true, false, List, [], ◌∷◌, take, drop, refl, ap, arith, cond, not, add-one}
-use Rattle.tools.specs.Words.{begins_with_word, onto_first, words_between, gap_at}
+use Rattle.tools.proofs.Cited.{◌≡◌, ℕ, ◌+◌, ◌<◌, Bool, true, false, List, [], ◌∷◌, take, drop, refl, ap, arith, cond, add-one}
+use Rattle.tools.proofs.Cited.{begins_with_word, onto_first, words_between, gap_at}
+use Rattle.std.proofs.Common.{not}
 
 module _ (is_gap : ℕ → Bool) where
   -- a text that begins with a word is that word and the words after it

@@ -1,15 +1,11 @@
 -- The acknowledge clock of an address, which targets stretch: an induction over the looks that are left.
-use Rattle.std.proofs.Common.{◌≡◌, ℕ, zero, suc, ◌+◌, ◌-◌, ◌/◌, Bool, true, false, cond, List, [], ◌∷◌, map, refl, ap, sym, ◌∙◌, arith}
-use Rattle.std.specs.Prelude.{◌==◌, ◌||◌, not}
-use Rattle.std.proofs.lemmas.Bool.Decides.{nat_tests}
-use Rattle.i2c_base.specs.declared.event.Event.TheVariants.{Start}
-use Rattle.i2c_base.specs.Table.{Table}
-use Rattle.i2c_spec.specs.World.{is_slow}
-use Rattle.wire_spec.specs.declared.mode.Mode.TheVariants.{In, Answered, Give, Out}
-use Rattle.wire_spec.specs.Wires.{site_of, Site, shifted, rise, fall, tick, hears, other, stretch, next_of, entered, is_named, is_reading, acks_start, stands, Bit}
-use Rattle.wire_spec.specs.Roots.{some_one, pulls_line, sda, where_joined, at, start_site}
-use Rattle.wire_spec.specs.Bus.{Mask, Counts, one_edge, Bus, Came, holds_line, scl_level, sda_level, each, rises, looked, await, closed, bus_of, came_up}
-use Rattle.wire_spec.specs.Started.{stays_if, stays, rose}
+use Rattle.wire_spec.proofs.Cited.{◌≡◌, ℕ, zero, suc, ◌+◌, ◌-◌, ◌/◌, Bool, true, false, cond, List, [], ◌∷◌, map, refl, ap, sym, ◌∙◌, arith}
+use Rattle.wire_spec.proofs.Cited.{◌==◌, ◌||◌, not, nat_tests, Start, Table, is_slow, In, Answered, Give, Out, site_of, Site, shifted, rise}
+use Rattle.wire_spec.proofs.Cited.{fall, tick, hears, other, stretch, next_of, is_named, is_reading, acks_start, stands, Bit, some_one}
+use Rattle.wire_spec.proofs.Cited.{pulls_line, sda, where_joined, at, start_site, Mask, Counts, one_edge, Bus, Came, holds_line, scl_level}
+use Rattle.wire_spec.proofs.Cited.{sda_level, each, rises, closed, bus_of, came_up, stays_if, stays, rose}
+use Rattle.wire_spec.specs.Wires.{entered}
+use Rattle.wire_spec.specs.Bus.{looked, await}
 use Rattle.wire_spec.proofs.Roots.{map_step, some_map}
 use Rattle.wire_spec.proofs.Calm.{goes_down, looks_up}
 
@@ -49,7 +45,8 @@ settled t byte s = settled_if t byte s s.joined (is_named byte s)
 
 -- one tick, where more than one look is left
 pub tick_one : {X : Type 0} (t : Table X) (byte r j : ℕ) (a : ℕ) (jd e h : Bool) (x : X)
-    → where_joined tick (waiting_if t byte (suc (suc r)) j (site_of a jd e x) jd h) ≡ waiting_if t byte (suc r) (suc j) (site_of a jd e x) jd h
+    → where_joined tick (waiting_if t byte (suc (suc r)) j (site_of a jd e x) jd h) ≡ waiting_if t byte (suc r) (suc j)
+    (site_of a jd e x) jd h
 tick_one t byte r j a true e true x =
     let s = site_of a true e x in
     ap (λ n. stands (hears t s (is_reading byte)) (Answered true (acks_start t s (is_reading byte))
@@ -112,7 +109,8 @@ pub rise_wait : {X : Type 0} (t : Table X) (byte r j : ℕ) (ss : List (Site X))
     → rises t (wait_bus t byte r j ss c) ≡ wait_bus t byte r j ss (one_edge c)
 rise_wait t byte r j ss c =
     ap (λ bs. bus_of false false bs (one_edge c))
-    (map_step (waiting t byte r j) (waiting t byte r j) _ (λ s. rise_one t byte r j (sda t (map (waiting t byte r j) ss) true) s.addr s.joined s.heard
+    (map_step (waiting t byte r j) (waiting t byte r j) _ (λ s. rise_one t byte r j
+    (sda t (map (waiting t byte r j) ss) true) s.addr s.joined s.heard
     (is_named byte s) s.state) ss)
 
 pub by_busy : {A : Type 0} (f : Counts → A) (c : Counts) (b up : Bool) (x y : A) → up ≡ not b → x ≡ f (one_edge c) → y ≡ f c
@@ -124,7 +122,8 @@ pub wait_level : {X : Type 0} (t : Table X) (byte r j : ℕ) (ss : List (Site X)
     → scl_level (wait_bus t byte r j ss c) ≡ not (some_one (stays t byte j) ss)
 wait_level t byte r j ss c =
     ap not
-    (some_map (waiting t byte r j) holds_line (stays t byte j) (λ s. holds_one t byte r j s.addr s.joined s.heard (is_named byte s) s.state) ss)
+    (some_map (waiting t byte r j) holds_line (stays t byte j) (λ s. holds_one t byte r j s.addr s.joined s.heard
+    (is_named byte s) s.state) ss)
 
 -- SCL is let go for the acknowledge clock
 pub let_go : {X : Type 0} (t : Table X) (byte r j : ℕ) (ss : List (Site X)) (c : Counts)
@@ -144,14 +143,16 @@ look_wait : {X : Type 0} (t : Table X) (byte r j : ℕ) (ss : List (Site X)) (c 
 unfolding looked
 look_wait {X} t byte r j ss c busy =
     let w : Bus X = wait_bus t byte (suc (suc r)) j ss c in
-    ap (λ u. cond u w (cond (scl_level (each tick w)) (rises t (each tick w)) (each tick w))) (wait_level t byte (suc (suc r)) j ss c ∙ ap not busy)
+    ap (λ u. cond u w (cond (scl_level (each tick w)) (rises t (each tick w)) (each tick w)))
+    (wait_level t byte (suc (suc r)) j ss c ∙ ap not busy)
     ∙ (ap (λ v. cond (scl_level v) (rises t v) v) (tick_wait t byte r j ss c) ∙ let_go t byte (suc r) (suc j) ss c)
 
 abbrev pub Acked : {X : Type 0} → Table X → ℕ → ℕ → List (Site X) → Counts → Came X
 Acked t byte v ss c =
     came_up (shifted v (not (some_one (acknowledges t byte) ss))) (bus_of true false (map (settled t byte) ss) (one_edge c))
 
-comes_up : {X : Type 0} (t : Table X) (mask : Mask X) (byte v n r j : ℕ) (ss : List (Site X)) (c : Counts) → some_one (stays t byte j) ss ≡ false
+comes_up : {X : Type 0} (t : Table X) (mask : Mask X) (byte v n r j : ℕ) (ss : List (Site X)) (c : Counts)
+    → some_one (stays t byte j) ss ≡ false
     → closed t mask true (await t v (suc n) (wait_bus t byte r j ss (rose (some_one (stays t byte j) ss) c))) ≡ Acked t byte v ss c
 comes_up {X} t mask byte v n r j ss c done =
     let w : Bus X = wait_bus t byte r j ss (one_edge c) in
@@ -220,7 +221,8 @@ start_is t byte s false h = refl
 
 -- whoever was not named isn't in the message before either
 settled_one : {X : Type 0} (t : Table X) (byte : ℕ) (a : ℕ) (jd e h : Bool) (x : X) → slows_if t byte (site_of a jd e x) jd h ≡ false
-    → settled_if t byte (site_of a jd e x) jd h ≡ at (cond (is_reading byte) (Give 8) (In false 8 0)) (start_if t byte (site_of a jd e x) jd h)
+    → settled_if t byte (site_of a jd e x) jd h ≡ at (cond (is_reading byte) (Give 8) (In false 8 0))
+    (start_if t byte (site_of a jd e x) jd h)
 settled_one t byte a true e true x quick =
     mode_same a (t.after x (Start (is_reading byte))) (acks_start t (site_of a true e x) (is_reading byte)) (is_reading byte)
     (is_slow (t.answer x (Start (is_reading byte)))) quick
@@ -228,7 +230,8 @@ settled_one t byte a true e false x quick = refl
 settled_one t byte a false e h x quick = refl
 
 pub settled_all : {X : Type 0} (t : Table X) (byte : ℕ) (ss : List (Site X)) → some_one (slows t byte) ss ≡ false
-    → map (settled t byte) ss ≡ map (at (cond (is_reading byte) (Give 8) (In false 8 0))) (map (start_site t (byte / 2) (is_reading byte)) ss)
+    → map (settled t byte) ss ≡ map (at (cond (is_reading byte) (Give 8) (In false 8 0))) (map
+    (start_site t (byte / 2) (is_reading byte)) ss)
 settled_all t byte [] quick = refl
 settled_all t byte (s ∷ ss) quick =
     ap (λ b. b ∷ map (settled t byte) ss) (settled_one t byte s.addr s.joined s.heard (is_named byte s) s.state (or_left _ _ quick)

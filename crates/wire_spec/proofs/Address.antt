@@ -1,11 +1,7 @@
 -- The eight bits of an address, after a start.
-use Rattle.std.proofs.Common.{◌≡◌, ℕ, suc, ◌-◌, ◌%◌, Bool, true, false, cond, List, [], ◌∷◌, length, map, refl, ap, ◌∙◌, arith}
-use Rattle.std.specs.Prelude.{◌==◌}
-use Rattle.i2c_base.specs.Table.{Table}
-use Rattle.wire_spec.specs.declared.mode.Mode.TheVariants.{Out, Answered}
-use Rattle.wire_spec.specs.Wires.{site_of, Site, Bit, shifted, value, rise, fall, hears, other, called, stretch, next_of, is_named, is_reading, acks_start, stands}
-use Rattle.wire_spec.specs.Roots.{pulls_line, sda, where_joined, run}
-use Rattle.wire_spec.specs.Started.{calling}
+use Rattle.wire_spec.proofs.Cited.{◌≡◌, ℕ, suc, ◌-◌, ◌%◌, Bool, true, false, cond, List, [], ◌∷◌, length, map, refl, ap, ◌∙◌, arith, ◌==◌}
+use Rattle.wire_spec.proofs.Cited.{Table, Out, Answered, site_of, Site, Bit, shifted, value, rise, fall, hears, other, called, stretch}
+use Rattle.wire_spec.proofs.Cited.{next_of, is_named, is_reading, acks_start, stands, pulls_line, sda, where_joined, run, calling}
 use Rattle.wire_spec.proofs.Roots.{map_step, free_sda}
 use Rattle.wire_spec.proofs.AckClock.{waiting_by, waiting}
 
@@ -48,7 +44,8 @@ call_run t h [] v ss =
     ∙ ap (λ l. map (waiting t (shifted v l) 65 0) ss) (call_sda t 1 v ss h)
 call_run t h (k ∷ hs) v ss =
     ap (λ bs. run t bs (k ∷ hs))
-    (map_step (calling (suc (suc (length hs))) v) (calling (suc (length hs)) (shifted v (sda t (map (calling (suc (suc (length hs))) v) ss) h))) _
+    (map_step (calling (suc (suc (length hs))) v) (calling (suc (length hs))
+    (shifted v (sda t (map (calling (suc (suc (length hs))) v) ss) h))) _
     (λ s. call_one t (length hs) v (sda t (map (calling (suc (suc (length hs))) v) ss) h) s.addr s.joined s.heard s.state) ss
     ∙ ap (λ l. map (calling (suc (length hs)) (shifted v l)) ss) (call_sda t (suc (suc (length hs))) v ss h))
     ∙ call_run t k hs (shifted v h) ss

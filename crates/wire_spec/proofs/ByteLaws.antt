@@ -1,13 +1,12 @@
 -- A byte on the wires, whole or cut: what a controller's clocks come to, from the lemmas on one clock.
-use Rattle.std.proofs.Common.{◌≡◌, ℕ, zero, suc, ◌+◌, ◌<◌, ◌≤◌, Bool, true, false, cond, List, [], ◌∷◌, length, map, refl, ap, ◌∙◌, arith}
-use Rattle.std.specs.Prelude.{not, replicate}
-use Rattle.i2c_base.specs.Table.{Table}
-use Rattle.wire_spec.specs.declared.mode.Mode.TheVariants.{Out, In, Give}
-use Rattle.wire_spec.specs.Wires.{Site, Bit, bit, bits, shifted, value, left_of, clock}
-use Rattle.wire_spec.specs.Roots.{some_one, sda, where_joined, clock_all, at, put_site, acks, sent_by, and_all, get_site}
-use Rattle.wire_spec.specs.Bus.{Counts, one_edge, Mask, Came, Bus, bit_step, bit_steps, then_bits, bus_of, came_up}
-use Rattle.wire_spec.specs.Started.{calling}
-use Rattle.wire_spec.specs.Calls.{more_edges, last_low, within, within_address, sent_byte, read_byte, then_answer}
+use Rattle.wire_spec.proofs.Cited.{◌≡◌, ℕ, zero, suc, ◌+◌, ◌<◌, ◌≤◌, Bool, true, false, cond, List, [], ◌∷◌, length, map, refl, ap, ◌∙◌}
+use Rattle.wire_spec.proofs.Cited.{arith, not, replicate, Table, Out, In, Give, Site, Bit, bit, bits, shifted, value, clock, some_one, sda}
+use Rattle.wire_spec.proofs.Cited.{where_joined, clock_all, at, put_site, acks, sent_by, and_all, get_site, Counts, one_edge, Mask, Came}
+use Rattle.wire_spec.proofs.Cited.{Bus, bit_step, then_bits, bus_of, came_up, calling, more_edges, last_low, within, within_address}
+use Rattle.wire_spec.proofs.Cited.{sent_byte, not-not}
+use Rattle.wire_spec.specs.Wires.{left_of}
+use Rattle.wire_spec.specs.Bus.{bit_steps}
+use Rattle.wire_spec.specs.Calls.{read_byte, then_answer}
 use Rattle.wire_spec.specs.Laws.{bits_above}
 use Rattle.wire_spec.proofs.ByteLemmas.{value_bits}
 use Rattle.wire_spec.proofs.Roots.{map_step, take_one, take_sda, give_sda, give_step}
@@ -15,7 +14,6 @@ use Rattle.wire_spec.proofs.Calm.{IsCalm, bit_calm, edges_after}
 use Rattle.wire_spec.proofs.Rests.{take_calm, give_calm, put_bits, put_ack, get_bits, get_answer}
 use Rattle.wire_spec.proofs.Address.{call_one, call_sda}
 use Rattle.wire_spec.proofs.StartClocks.{call_calm}
-use mathlib.Core.Bool.{not-not}
 
 pub bits_are : (byte : ℕ) → byte < 256 → value 0 (bits 8 byte) ≡ byte
 bits_are byte lt = value_bits 8 byte 0 ∙ omega arith
@@ -59,7 +57,8 @@ gets_are_events {X} t mask ack low ss c =
     let before : Counts = edges_after (replicate 8 true) c in
     ap (λ (d : Came X). then_answer d (bit_step t mask 0 (not ack) d.bus)) (get_bits t mask low ss c)
     ∙ (ap (λ (d : Came X). record d { read = a }) (get_answer t mask ack 0 false ss before)
-    ∙ (ap (λ l. came_up a (after l (one_edge before))) (not-not ack) ∙ ap (λ k. came_up a (after ack k)) (nine_edges (replicate 8 true) c refl)))
+    ∙ (ap (λ l. came_up a (after l (one_edge before))) (not-not ack) ∙ ap (λ k. came_up a (after ack k))
+    (nine_edges (replicate 8 true) c refl)))
 
 -- ---- a byte that is cut: one bit after the other, of targets that shift bits in alike
 module _ {X : Type 0} (t : Table X) (mask : Mask X) (ss : List (Site X)) (f : ℕ → ℕ → Site X → Bit X)
@@ -115,9 +114,11 @@ give_bit t mask k v lt low ss c =
     ∙ (ap (λ l. came_up (shifted v l) (bus_of true false (clock_all t (map (at (Give (suc k))) ss) true) (one_edge c))) (give_sda t k lt ss)
     ∙ ap (λ bs. came_up (shifted v (bit (and_all (map (sent_by t) ss)) k)) (bus_of true false bs (one_edge c))) (give_step t k ss))
 
-cut_get_by : {X : Type 0} (t : Table X) (mask : Mask X) (n left k v : ℕ) → k ≡ n + left → k ≤ 8 → (low : Bool) (ss : List (Site X)) (c : Counts)
+cut_get_by : {X : Type 0} (t : Table X) (mask : Mask X) (n left k v : ℕ) → k ≡ n + left → k ≤ 8
+    → (low : Bool) (ss : List (Site X)) (c : Counts)
     → bit_steps t mask v (replicate n true) (within (Give k) low ss c)
-    ≡ came_up (value v (bits_above n left (and_all (map (sent_by t) ss)))) (within (Give left) (last_low low (replicate n true)) ss (more_edges n c))
+    ≡ came_up (value v (bits_above n left (and_all (map (sent_by t) ss)))) (within (Give left) (last_low low (replicate n true)) ss
+    (more_edges n c))
 unfolding bit_steps
 cut_get_by t mask zero left k v is le low ss c =
     let e : k ≡ left = omega (arith, is) in
@@ -130,10 +131,12 @@ cut_get_by {X} t mask (suc n) left (suc k) v is le low ss c =
     ∙ (cut_get_by t mask n left k (shifted v (bit a k)) e (omega (arith, le)) false ss (one_edge c)
     ∙ (ap (λ m. came_up (value (shifted v (bit a m)) (bits_above n left a))
     (within (Give left) (last_low false (replicate n true)) ss (more_edges n (one_edge c)))) e
-    ∙ ap (λ d. came_up (value (shifted v (bit a (n + left))) (bits_above n left a)) (within (Give left) (last_low false (replicate n true)) ss d))
+    ∙ ap (λ d. came_up (value (shifted v (bit a (n + left))) (bits_above n left a)) (within (Give left)
+    (last_low false (replicate n true)) ss d))
     (next_edges n c)))
 
 pub cut_get : {X : Type 0} (t : Table X) (mask : Mask X) (n left : ℕ) (low : Bool) (ss : List (Site X)) (c : Counts) → n + left ≤ 8
     → bit_steps t mask 0 (replicate n true) (within (Give (n + left)) low ss c)
-    ≡ came_up (value 0 (bits_above n left (and_all (map (sent_by t) ss)))) (within (Give left) (last_low low (replicate n true)) ss (more_edges n c))
+    ≡ came_up (value 0 (bits_above n left (and_all (map (sent_by t) ss)))) (within (Give left) (last_low low (replicate n true)) ss
+    (more_edges n c))
 cut_get t mask n left low ss c le = cut_get_by t mask n left (n + left) 0 refl le low ss c

@@ -1,13 +1,12 @@
 -- A byte and its bits.
-use Rattle.std.proofs.Common.{◌≡◌, ℕ, zero, suc, ◌+◌, ◌*◌, ◌/◌, ◌%◌, ◌^◌, ◌<◌, ◌≤◌, true, cond, List, [], ◌∷◌, ap, sym, ◌∙◌, arith}
-use Rattle.std.specs.Prelude.{◌==◌, ◌&&◌, bit_and, min}
+use Rattle.wire_spec.proofs.Cited.{◌≡◌, ℕ, zero, suc, ◌+◌, ◌/◌, ◌%◌, ◌<◌, ◌≤◌, true, cond, List, [], ◌∷◌, ap, sym, ◌∙◌, arith, ◌==◌, ◌&&◌}
+use Rattle.wire_spec.proofs.Cited.{nat_tests, bit, bits, shifted, value, and_all}
+use Rattle.std.proofs.Common.{◌*◌, ◌^◌}
+use Rattle.std.specs.Prelude.{bit_and, min}
 use Rattle.std.specs.Int.{bit_at}
-use Rattle.std.proofs.lemmas.Bool.Decides.{nat_tests}
 use Rattle.std.proofs.lemmas.Nat.Bits.{bit_at_and, bit_at_ones, bit_at-lt}
 use Rattle.std.proofs.lemmas.Nat.{and_le_r, mod-pow-add}
 use Rattle.std.proofs.Math.Nat.{pow-suc}
-use Rattle.wire_spec.specs.Wires.{bit, bits, shifted, value}
-use Rattle.wire_spec.specs.Roots.{and_all}
 
 num_below : (d : ℕ) → d < 2 → cond (d == 1) 1 0 ≡ d
 num_below d lt = grind (arith, nat_tests)
@@ -23,7 +22,8 @@ value_step v d p r = omega arith
 pub value_bits : (k n v : ℕ) → value v (bits k n) ≡ v * 2 ^ k + n % 2 ^ k
 value_bits zero n v = omega arith
 value_bits (suc k) n v =
-    let ih : value (shifted v (bit n k)) (bits k n) ≡ (2 * v + cond (bit n k) 1 0) * 2 ^ k + n % 2 ^ k = value_bits k n (shifted v (bit n k)) in
+    let ih : value (shifted v (bit n k)) (bits k n) ≡ (2 * v + cond (bit n k) 1 0) * 2 ^ k + n % 2 ^ k =
+    value_bits k n (shifted v (bit n k)) in
     let e : n % 2 ^ (1 + k) ≡ (n / 2 ^ k % 2 ^ 1) * 2 ^ k + n % 2 ^ k = mod-pow-add n 1 k in
     let s : suc k ≡ 1 + k = omega arith in
     ih

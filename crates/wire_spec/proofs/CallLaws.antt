@@ -1,21 +1,11 @@
 -- A call on the wires of a root is the call in its world: from the laws of any table, and those of the sites.
-use Rattle.std.proofs.Common.{◌≡◌, ℕ, ◌/◌, ◌<◌, Bool, true, false, cond, List, [], ◌∷◌, ◌++◌, map, refl, ap, sym, ◌∙◌, arith}
-use Rattle.std.specs.Prelude.{not}
-use Rattle.std.specs.List.{AllByRecursion}
-use Rattle.i2c_base.specs.Board.{BoardView}
-use Rattle.i2c_base.specs.Bytes.{IsByte}
-use Rattle.i2c_spec.specs.Chips.{ChipView, chip_table}
-use Rattle.i2c_spec.specs.Targets.{TargetState, state_table, IsFairTable, HoldsBytes, KeepsBytes}
-use Rattle.i2c_spec.specs.World.{is_ack, is_slow, takes, gives}
-use Rattle.wire_spec.specs.declared.mode.Mode.{Mode}
-use Rattle.wire_spec.specs.declared.mode.Mode.TheVariants.{Out, In, Give}
-use Rattle.wire_spec.specs.Wires.{Site, LOOKS, is_reading, shifted}
-use Rattle.wire_spec.specs.Roots.{some_one, put_site, get_site, stop_site}
-use Rattle.wire_spec.specs.Bus.{Counts, one_edge, one_flip, came_up}
-use Rattle.wire_spec.specs.Started.{started, stays, answers_so, answer_by, entered_by}
-use Rattle.wire_spec.specs.Calls.{more_edges, within, free, rejoin}
-use Rattle.wire_spec.specs.Sites.{NodeState, Chip, Device, node_table, site_with, both, mask_of, AreSites, world_by}
-use Rattle.wire_spec.specs.Laws.{StopFreesTheLines}
+use Rattle.wire_spec.proofs.Cited.{◌≡◌, ℕ, ◌/◌, ◌<◌, Bool, true, false, cond, List, [], ◌∷◌, ◌++◌, map, refl, ap, sym, ◌∙◌, arith, not}
+use Rattle.wire_spec.proofs.Cited.{AllByRecursion, BoardView, IsByte, ChipView, chip_table, TargetState, state_table, IsFairTable, is_ack}
+use Rattle.wire_spec.proofs.Cited.{is_slow, takes, gives, Mode, Out, In, Give, Site, LOOKS, is_reading, shifted, some_one, put_site}
+use Rattle.wire_spec.proofs.Cited.{get_site, stop_site, Counts, one_edge, one_flip, came_up, started, stays, answers_so, answer_by}
+use Rattle.wire_spec.proofs.Cited.{entered_by, more_edges, within, free, rejoin, NodeState, Chip, Device, node_table, site_with, both}
+use Rattle.wire_spec.proofs.Cited.{mask_of, AreSites, world_by, StopFreesTheLines}
+use Rattle.i2c_spec.specs.Targets.{HoldsBytes, KeepsBytes}
 use Rattle.wire_spec.specs.CallLaws.{PutOnWires, GetOnWires, StartOnWires, SlowOnWires, StopOnWires, StopAfterSlowOnWires, answer_to}
 use Rattle.wire_spec.proofs.ByteLaws.{puts_are_events, gets_are_events}
 use Rattle.wire_spec.proofs.StartLemmas.{node_fair, start_answer}
@@ -26,8 +16,10 @@ pub put_on_wires : PutOnWires
 put_on_wires b r byte lt busy low cs ds c =
     let is = put_on_sites b r busy byte cs ds in
     puts_are_events node_table (mask_of b r) byte lt low (both cs ds) c
-    ∙ (ap (λ a. came_up (shifted 0 (not a)) (within (In false 8 0) false (map (put_site node_table byte) (both cs ds)) (more_edges 9 c))) is.answered
-    ∙ ap (λ ss. came_up (shifted 0 (not (takes (world_by b r busy cs ds) byte))) (within (In false 8 0) false ss (more_edges 9 c))) is.parts)
+    ∙ (ap (λ a. came_up (shifted 0 (not a)) (within (In false 8 0) false (map (put_site node_table byte) (both cs ds)) (more_edges 9 c)))
+    is.answered
+    ∙ ap (λ ss. came_up (shifted 0 (not (takes (world_by b r busy cs ds) byte))) (within (In false 8 0) false ss (more_edges 9 c)))
+    is.parts)
 
 pub get_on_wires : IsFairTable chip_table → IsFairTable state_table → GetOnWires
 get_on_wires chips devices b r busy ack low cs ds c =
@@ -84,11 +76,13 @@ stop_on_wires m frees b r low cs ds c =
     frees (mask_of b r) low (both cs ds) c ∙ ap (λ ss. (true, free ss (one_flip (one_edge c)))) (stop_parts b r cs ds)
 
 pub all_with : {X : Type 0} (g : X → NodeState) (P : X → Type 0) → ((x : X) → P x → IsByte (node_table.hold (g x))) → (ss : List (Site X))
-    → AllByRecursion (λ (s : Site X). P s.state) ss → AllByRecursion (λ (s : Site NodeState). IsByte (node_table.hold s.state)) (map (site_with g) ss)
+    → AllByRecursion (λ (s : Site X). P s.state) ss → AllByRecursion (λ (s : Site NodeState). IsByte (node_table.hold s.state))
+    (map (site_with g) ss)
 all_with g P is [] all = tt
 all_with g P is (s ∷ ss) all = (is s.state all.0, all_with g P is ss all.1)
 
-pub all_chips : (cs : List (Site ChipView)) (ns : List (Site NodeState)) → AllByRecursion (λ (s : Site NodeState). IsByte (node_table.hold s.state)) ns
+pub all_chips : (cs : List (Site ChipView)) (ns : List (Site NodeState))
+    → AllByRecursion (λ (s : Site NodeState). IsByte (node_table.hold s.state)) ns
     → AllByRecursion (λ (s : Site NodeState). IsByte (node_table.hold s.state)) (map (site_with Chip) cs ++ ns)
 all_chips [] ns all = all
 all_chips (c ∷ cs) ns all = (omega arith, all_chips cs ns all)
@@ -96,6 +90,7 @@ all_chips (c ∷ cs) ns all = (omega arith, all_chips cs ns all)
 pub late_stop_on_wires : KeepsBytes state_table HoldsBytes → StopAfterSlowOnWires
 late_stop_on_wires keeps b r byte cs ds c all =
     let counts : Counts = one_flip (cond (some_one (stays node_table byte LOOKS) (both cs ds)) (one_edge c) (one_flip c)) in
-    slow_frees node_table (mask_of b r) byte (both cs ds) c (all_chips cs (map (site_with Device) ds) (all_with Device HoldsBytes keeps.holds ds all))
+    slow_frees node_table (mask_of b r) byte (both cs ds) c (all_chips cs (map (site_with Device) ds)
+    (all_with Device HoldsBytes keeps.holds ds all))
     ∙ (ap (λ ss. (true, free (rejoin (mask_of b r) (map (stop_site node_table) ss)) counts)) (start_parts byte cs ds)
     ∙ ap (λ ss. (true, free ss counts)) (stop_parts b r (map (started chip_table byte) cs) (map (started state_table byte) ds)))

@@ -1,15 +1,12 @@
 -- Where nobody holds SCL, a controller bit is a clock.
-use Rattle.std.proofs.Common.{◌≡◌, ℕ, zero, suc, ◌/◌, ◌%◌, Bool, true, false, cond, List, [], ◌∷◌, map, refl, ap, ◌∙◌}
-use Rattle.std.specs.Prelude.{◌==◌, not}
-use Rattle.i2c_base.specs.Table.{Table}
-use Rattle.wire_spec.specs.declared.mode.Mode.{Mode}
-use Rattle.wire_spec.specs.declared.mode.Mode.TheVariants.{Out, In, Answered, Give, Gave}
-use Rattle.wire_spec.specs.Wires.{Site, Bit, shifted, value, rise, rise_in, fall, tick, clock, shift, give, called, other, stands}
-use Rattle.wire_spec.specs.Roots.{some_one, sda, where_joined, clock_all, run, levels}
-use Rattle.wire_spec.specs.Bus.{Mask, Counts, one_edge, Bus, holds_line, scl_level, sda_level, each, rises, edge, pulled, looked, await, closed, bit_step, bit_steps, then_bits, bus_of, came_up}
-use Rattle.wire_spec.specs.Calls.{last_low}
+use Rattle.wire_spec.proofs.Cited.{◌≡◌, ℕ, zero, suc, ◌/◌, ◌%◌, Bool, true, false, cond, List, [], ◌∷◌, map, refl, ap, ◌∙◌, ◌==◌, not}
+use Rattle.wire_spec.proofs.Cited.{Table, Mode, Out, In, Answered, Give, Gave, Site, Bit, shifted, value, rise, fall, tick, clock, called}
+use Rattle.wire_spec.proofs.Cited.{other, stands, some_one, sda, where_joined, clock_all, run, levels, Mask, Counts, one_edge, Bus}
+use Rattle.wire_spec.proofs.Cited.{holds_line, scl_level, sda_level, each, rises, edge, closed, then_bits, bus_of, came_up, last_low}
+use Rattle.wire_spec.proofs.Cited.{not-not}
+use Rattle.wire_spec.specs.Wires.{rise_in, shift, give}
+use Rattle.wire_spec.specs.Bus.{pulled, looked, await, bit_step, bit_steps}
 use Rattle.wire_spec.proofs.Roots.{map_step}
-use mathlib.Core.Bool.{not-not}
 
 -- in these clocks nobody holds SCL, and what is pulled stays while SCL is high
 pub record IsCalm {X : Type 0} (t : Table X) (ts : List (Bit X)) (h : Bool) : Type 0 where
@@ -111,7 +108,8 @@ abbrev pub edges_after : List Bool → Counts → Counts
 edges_after [] c = c
 edges_after (h ∷ hs) c = edges_after hs (one_edge c)
 
-pub bits_calm : {X : Type 0} (t : Table X) (mask : Mask X) (hs : List Bool) (v : ℕ) (low : Bool) (ts : List (Bit X)) (c : Counts) → Calm t ts hs
+pub bits_calm : {X : Type 0} (t : Table X) (mask : Mask X) (hs : List Bool) (v : ℕ) (low : Bool) (ts : List (Bit X)) (c : Counts)
+    → Calm t ts hs
     → bit_steps t mask v hs (bus_of true low ts c)
     ≡ came_up (value v (levels t ts hs)) (bus_of true (last_low low hs) (run t ts hs) (edges_after hs c))
 unfolding bit_steps

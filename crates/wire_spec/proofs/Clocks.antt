@@ -1,9 +1,7 @@
 -- Eight clocks of one target, by induction over what is left.
-use Rattle.std.proofs.Common.{◌≡◌, ℕ, suc, ◌<◌, Bool, true, false, cond, List, [], ◌∷◌, ◌++◌, length, refl, ap, sym, ◌∙◌, arith}
-use Rattle.std.specs.Prelude.{not}
-use Rattle.i2c_base.specs.Table.{Table}
-use Rattle.wire_spec.specs.declared.mode.Mode.TheVariants.{Out, In, Give, Gave}
-use Rattle.wire_spec.specs.Wires.{Site, Bit, bit, bits, shifted, value, whole, fall, clock, clocks, puts, gets, stands}
+use Rattle.wire_spec.proofs.Cited.{◌≡◌, ℕ, suc, ◌<◌, Bool, true, false, cond, List, [], ◌∷◌, ◌++◌, length, refl, ap, sym, ◌∙◌, arith, not}
+use Rattle.wire_spec.proofs.Cited.{Table, Out, In, Give, Gave, Site, Bit, bit, bits, shifted, value, fall, clock, puts, gets, stands}
+use Rattle.wire_spec.specs.Wires.{whole, clocks}
 use Rattle.wire_spec.proofs.ByteLemmas.{value_bits}
 
 pub clocks_append : {X : Type 0} (t : Table X) (b : Bit X) (ls ms : List Bool) → clocks t b (ls ++ ms) ≡ clocks t (clocks t b ls) ms

@@ -1,13 +1,10 @@
 -- The stop after a slow start: who still holds SCL lets it come up within 255 looks.
-use Rattle.std.proofs.Common.{◌≡◌, ℕ, zero, suc, ◌+◌, ◌-◌, Bool, true, false, cond, List, [], ◌∷◌, map, refl, ap, sym, ◌∙◌, arith}
-use Rattle.std.specs.Prelude.{◌==◌, ◌||◌, not}
-use Rattle.i2c_base.specs.Table.{Table}
-use Rattle.wire_spec.specs.declared.mode.Mode.TheVariants.{Out}
-use Rattle.wire_spec.specs.Wires.{site_of, Site, Bit, shifted, rise, tick, begin, finish, hears, other, stretch, is_named, is_reading, stands}
-use Rattle.wire_spec.specs.Roots.{some_one, pulls_line, sda, where_joined, stop_site}
-use Rattle.wire_spec.specs.Bus.{Mask, Counts, one_edge, one_flip, Bus, Came, edge, holds_line, scl_level, sda_level, each, rises, pulled, looked, await, bus_of, came_up}
-use Rattle.wire_spec.specs.Started.{calling, stays_if, stays, late_if, late, late_bus, rose, started}
-use Rattle.wire_spec.specs.Calls.{released, rejoin, stopped, slow_stop}
+use Rattle.wire_spec.proofs.Cited.{◌≡◌, ℕ, zero, suc, ◌+◌, ◌-◌, Bool, true, false, cond, List, [], ◌∷◌, map, refl, ap, sym, ◌∙◌, arith}
+use Rattle.wire_spec.proofs.Cited.{◌==◌, ◌||◌, not, Table, Out, site_of, Site, Bit, shifted, rise, tick, begin, finish, hears, other}
+use Rattle.wire_spec.proofs.Cited.{stretch, is_named, is_reading, stands, some_one, pulls_line, sda, where_joined, stop_site, Mask, Counts}
+use Rattle.wire_spec.proofs.Cited.{one_edge, one_flip, Bus, Came, edge, holds_line, scl_level, sda_level, each, rises, bus_of, came_up}
+use Rattle.wire_spec.proofs.Cited.{calling, stays_if, stays, late_if, late, late_bus, rose, started, released, rejoin, stopped, slow_stop}
+use Rattle.wire_spec.specs.Bus.{pulled, looked, await}
 use Rattle.wire_spec.proofs.Roots.{map_step, map_map, some_map, no_one}
 use Rattle.wire_spec.proofs.Calm.{looks_up}
 use Rattle.wire_spec.proofs.AckClock.{by_busy}
@@ -60,16 +57,19 @@ rest_bus g rest j ss c = bus_of false true (map (resting g rest j) ss) c
 pub rest_level : {A X : Type 0} (g : A → Site X) (rest : A → ℕ) (j : ℕ) (ss : List A) (c : Counts)
     → scl_level (rest_bus g rest j ss c) ≡ not (some_one (held g rest j) ss)
 rest_level g rest j ss c =
-    ap not (some_map (resting g rest j) holds_line (held g rest j) (λ s. holds_r (rest s) j (g s).addr (g s).joined (g s).heard (g s).state) ss)
+    ap not (some_map (resting g rest j) holds_line (held g rest j) (λ s. holds_r (rest s) j (g s).addr (g s).joined (g s).heard
+    (g s).state) ss)
 
 rest_rises : {A X : Type 0} (t : Table X) (g : A → Site X) (rest : A → ℕ) (j : ℕ) (ss : List A) (c : Counts)
     → rises t (rest_bus g rest j ss c) ≡ rest_bus g rest j ss (one_edge c)
 rest_rises t g rest j ss c =
     ap (λ bs. bus_of false true bs (one_edge c))
-    (map_step (resting g rest j) (resting g rest j) _ (λ s. rise_r t (sda t (map (resting g rest j) ss) false) (rest s) j (g s).addr (g s).joined
+    (map_step (resting g rest j) (resting g rest j) _ (λ s. rise_r t (sda t (map (resting g rest j) ss) false) (rest s) j (g s).addr
+    (g s).joined
     (g s).heard (g s).state) ss)
 
-look_rest : {A X : Type 0} (t : Table X) (g : A → Site X) (rest : A → ℕ) (j : ℕ) (ss : List A) (c : Counts) → some_one (held g rest j) ss ≡ true
+look_rest : {A X : Type 0} (t : Table X) (g : A → Site X) (rest : A → ℕ) (j : ℕ) (ss : List A) (c : Counts)
+    → some_one (held g rest j) ss ≡ true
     → looked t (rest_bus g rest j ss c) ≡ rest_bus g rest (suc j) ss (rose (some_one (held g rest (suc j)) ss) c)
 unfolding looked
 look_rest {A} {X} t g rest j ss c busy =
@@ -91,13 +91,15 @@ stop_up : {A X : Type 0} (t : Table X) (mask : Mask X) (g : A → Site X) (rest 
 stop_up {A} {X} t mask g rest v n j ss c done =
     let w : Bus X = rest_bus g rest j ss c in
     let low : some_one holds_line (map (resting g rest j) ss) ≡ false =
-    some_map (resting g rest j) holds_line (held g rest j) (λ s. holds_r (rest s) j (g s).addr (g s).joined (g s).heard (g s).state) ss ∙ done in
+    some_map (resting g rest j) holds_line (held g rest j) (λ s. holds_r (rest s) j (g s).addr (g s).joined (g s).heard (g s).state) ss
+    ∙ done in
     ap (stopped t mask) (looks_up t v n w (rest_level g rest j ss c ∙ ap not done))
     ∙ ap (λ (u : Bus X). (true, u))
     (stop_run t mask (resting g rest j) g ss c (λ s. finish_r t (rest s) j (g s).addr (g s).joined (g s).heard (g s).state) low
     (λ s. pulls_r t (rest s) j (g s).addr (g s).joined (g s).heard (g s).state))
 
-rest_on : {A X : Type 0} (t : Table X) (g : A → Site X) (rest : A → ℕ) (v n j : ℕ) (ss : List A) (c : Counts) → some_one (held g rest j) ss ≡ true
+rest_on : {A X : Type 0} (t : Table X) (g : A → Site X) (rest : A → ℕ) (v n j : ℕ) (ss : List A) (c : Counts)
+    → some_one (held g rest j) ss ≡ true
     → await t v (suc n) (rest_bus g rest j ss c) ≡ await t v n (rest_bus g rest (suc j) ss (rose (some_one (held g rest (suc j)) ss) c))
 unfolding await
 rest_on {A} {X} t g rest v n j ss c busy =
@@ -107,7 +109,8 @@ rest_on {A} {X} t g rest v n j ss c busy =
     ∙ ap (await t v n) (look_rest t g rest j ss c busy)
 
 -- where nobody holds SCL at the last of 255 looks, the stop goes through: one edge and one flip
-pub late_stop : {A X : Type 0} (t : Table X) (mask : Mask X) (g : A → Site X) (rest : A → ℕ) (v n j : ℕ) (ss : List A) (c : Counts) → suc n + j ≡ 255
+pub late_stop : {A X : Type 0} (t : Table X) (mask : Mask X) (g : A → Site X) (rest : A → ℕ) (v n j : ℕ) (ss : List A) (c : Counts)
+    → suc n + j ≡ 255
     → some_one (held g rest 254) ss ≡ false
     → (b : Bool) → some_one (held g rest j) ss ≡ b
     → stopped t mask (await t v (suc n) (rest_bus g rest j ss (rose (some_one (held g rest j) ss) c)))
@@ -169,7 +172,8 @@ low_pull {X} t mask ts c busy =
     ap (λ b. edge t mask (not b) (sda_level t (bus_of false false ts c)) w) busy
     ∙ ap (λ b. cond {A = Bus X} (not b) (rises t w) w) busy
 
-pub late_map : {X : Type 0} (t : Table X) (byte : ℕ) (ss : List (Site X)) → map (late t byte) ss ≡ map (resting (started t byte) (left_hold t byte) 0) ss
+pub late_map : {X : Type 0} (t : Table X) (byte : ℕ) (ss : List (Site X)) → map (late t byte) ss ≡ map
+    (resting (started t byte) (left_hold t byte) 0) ss
 late_map t byte [] = refl
 late_map t byte (s ∷ ss) =
     ap (λ b. b ∷ map (late t byte) ss) (late_is t byte s.addr s.joined s.heard (is_named byte s) s.state)
@@ -188,7 +192,8 @@ held_stop : {X : Type 0} (t : Table X) (mask : Mask X) (byte : ℕ) (ss : List (
     → slow_stop t mask (late_bus t byte ss c) ≡ (true, stopped_bus t mask (map (started t byte) ss) (one_flip (one_edge c)))
 held_stop {X} t mask byte ss c busy quick =
     let line : some_one holds_line (map (late t byte) ss) ≡ true =
-    some_map (late t byte) holds_line (stays t byte 65) (λ s. late_holds t byte s.addr s.joined s.heard (is_named byte s) s.state) ss ∙ busy in
+    some_map (late t byte) holds_line (stays t byte 65) (λ s. late_holds t byte s.addr s.joined s.heard (is_named byte s) s.state) ss
+    ∙ busy in
     let is : some_one (held (started t byte) (left_hold t byte) 0) ss ≡ true = sym (held_same t byte ss) ∙ busy in
     ap (λ u. stopped t mask (await t 0 255 u)) (low_pull t mask (map (late t byte) ss) c line)
     ∙ (ap (λ bs. stopped t mask (await t 0 255 (bus_of false true bs c))) (late_map t byte ss)
@@ -202,7 +207,8 @@ risen_stop : {X : Type 0} (t : Table X) (mask : Mask X) (byte : ℕ) (ss : List 
     → slow_stop t mask (late_bus t byte ss c) ≡ (true, stopped_bus t mask (map (started t byte) ss) (one_flip (one_flip c)))
 risen_stop {X} t mask byte ss c free =
     let line : some_one holds_line (map (late t byte) ss) ≡ false =
-    some_map (late t byte) holds_line (stays t byte 65) (λ s. late_holds t byte s.addr s.joined s.heard (is_named byte s) s.state) ss ∙ free in
+    some_map (late t byte) holds_line (stays t byte 65) (λ s. late_holds t byte s.addr s.joined s.heard (is_named byte s) s.state) ss
+    ∙ free in
     let gs : List (Site X) = map (started t byte) ss in
     let w : Bus X = bus_of false true (map (calling 8 0) gs) (one_flip c) in
     let low : some_one holds_line (map (calling 8 0) gs) ≡ false =
@@ -218,6 +224,10 @@ risen_stop {X} t mask byte ss c free =
 -- the stop after a slow start always goes through, and acts as a stop of what the start left
 pub stop_after_slow : {X : Type 0} (t : Table X) (mask : Mask X) (byte : ℕ) (ss : List (Site X)) (c : Counts)
     → some_one (held (started t byte) (left_hold t byte) 254) ss ≡ false → (b : Bool) → some_one (stays t byte 65) ss ≡ b
-    → slow_stop t mask (late_bus t byte ss c) ≡ (true, stopped_bus t mask (map (started t byte) ss) (one_flip (cond b (one_edge c) (one_flip c))))
+    → slow_stop t mask (late_bus t byte ss c) ≡ (
+      true,
+      stopped_bus t mask (map (started t byte) ss)
+          (one_flip (cond b (one_edge c) (one_flip c))),
+    )
 stop_after_slow t mask byte ss c quick true is = held_stop t mask byte ss c is quick
 stop_after_slow t mask byte ss c quick false is = risen_stop t mask byte ss c is

@@ -19,3 +19,5 @@ pub mod ByteLaws
 pub mod StartLaws
 pub mod SiteLaws
 pub mod CallLaws
+-- What the proofs of this crate cite from elsewhere.
+mod Cited

@@ -1,14 +1,8 @@
 -- An edge need touch only those that aren't out of the message, and, at the last bit of an address, those that have it or that
 -- a message has reached since their last stop: all others stay as they are.
-use Rattle.std.proofs.Common.{◌≡◌, ℕ, ◌+◌, Bool, true, false, cond, List, [], ◌∷◌, map, refl, ap, sym, ◌∙◌, arith}
-use Rattle.i2c_base.specs.Table.{Table}
-use Rattle.i2c_spec.specs.Targets.{IsQuiet}
-use Rattle.wire_spec.specs.declared.mode.Mode.TheVariants.{Out}
-use Rattle.wire_spec.specs.Wires.{site_of, shifted, rise, fall, tick, finish, is_named, stands}
-use Rattle.wire_spec.specs.Roots.{where_joined, pulls_line}
-use Rattle.wire_spec.specs.Bus.{holds_line}
-use Rattle.wire_spec.specs.Started.{calling}
-use Rattle.wire_spec.specs.Calls.{released}
+use Rattle.wire_spec.proofs.Cited.{◌≡◌, ℕ, ◌+◌, Bool, true, false, cond, List, [], ◌∷◌, map, refl, ap, sym, ◌∙◌, arith, Table, IsQuiet, Out}
+use Rattle.wire_spec.proofs.Cited.{site_of, shifted, rise, fall, tick, finish, is_named, stands, where_joined, pulls_line, holds_line}
+use Rattle.wire_spec.proofs.Cited.{calling, released}
 use Rattle.wire_spec.specs.Laws.{only, RestStays}
 use Rattle.wire_spec.proofs.Address.{call_last}
 use Rattle.wire_spec.proofs.AckClock.{waiting_if}
@@ -19,7 +13,8 @@ only_one f x false same = sym (same refl)
 
 pub only_all : {A : Type 0} (p : ℕ → Bool) (f : A → A) (k : ℕ) (xs : List A) → RestStays p f k xs → only p f k xs ≡ map f xs
 only_all p f k [] is = refl
-only_all p f k (x ∷ xs) is = ap (λ y. y ∷ only p f (k + 1) xs) (only_one f x (p k) is.0) ∙ ap (λ ys. f x ∷ ys) (only_all p f (k + 1) xs is.1)
+only_all p f k (x ∷ xs) is = ap (λ y. y ∷ only p f (k + 1) xs) (only_one f x (p k) is.0) ∙ ap (λ ys. f x ∷ ys)
+    (only_all p f (k + 1) xs is.1)
 
 -- who is out sees no edge, and pulls nothing
 pub out_rises : {X : Type 0} (t : Table X) (l : Bool) (a : ℕ) (j e : Bool) (x : X)

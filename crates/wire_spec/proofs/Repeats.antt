@@ -1,13 +1,10 @@
 -- A start from free lines, and a repeated one within a message: both come to an address that all that is joined shifts in. A stop.
-use Rattle.std.proofs.Common.{◌≡◌, ℕ, Bool, true, false, List, map, refl, ap, sym, ◌∙◌}
-use Rattle.i2c_base.specs.Table.{Table}
-use Rattle.wire_spec.specs.declared.mode.Mode.{Mode}
-use Rattle.wire_spec.specs.declared.mode.Mode.TheVariants.{Out, In}
-use Rattle.wire_spec.specs.Wires.{site_of, Site, Bit, shifted, rise, begin, finish}
-use Rattle.wire_spec.specs.Roots.{some_one, pulls_line, sda, where_joined, at, stop_site}
-use Rattle.wire_spec.specs.Bus.{Mask, Counts, one_edge, one_flip, Bus, Came, holds_line, pulled, await, bus_of, came_up}
-use Rattle.wire_spec.specs.Started.{calling}
-use Rattle.wire_spec.specs.Calls.{released, rejoin, start_pulls, let_both, stopped, stop_pulls, repeated_start, within, within_address}
+use Rattle.wire_spec.proofs.Cited.{◌≡◌, ℕ, Bool, true, false, List, map, refl, ap, sym, ◌∙◌, Table, Mode, Out, In, site_of, Site, Bit}
+use Rattle.wire_spec.proofs.Cited.{shifted, rise, begin, finish, some_one, pulls_line, sda, where_joined, at, stop_site, Mask, Counts}
+use Rattle.wire_spec.proofs.Cited.{one_edge, one_flip, Bus, Came, holds_line, await, bus_of, came_up, calling, released, rejoin, stopped}
+use Rattle.wire_spec.proofs.Cited.{within, within_address}
+use Rattle.wire_spec.specs.Bus.{pulled}
+use Rattle.wire_spec.specs.Calls.{start_pulls, let_both, stop_pulls, repeated_start}
 use Rattle.wire_spec.proofs.Roots.{map_map, some_map, no_one}
 use Rattle.wire_spec.proofs.Calm.{IsCalm, risen, goes_up, sets_data, up_calm}
 use Rattle.wire_spec.proofs.Rests.{calm_by, take_calm, at_low}
@@ -44,12 +41,14 @@ pub free_start : {X : Type 0} (t : Table X) (mask : Mask X) (ss : List (Site X))
 free_start {X} t mask ss c =
     let low : some_one holds_line (map (at Out) ss) ≡ false =
     some_map (at Out) holds_line (λ x. false) (λ s. at_low Out s.addr s.joined s.heard s.state) ss ∙ no_one ss in
-    ap (λ u. pulled t mask u true true) (begin_run t mask (at Out) (λ (s : Site X). s) ss c (λ s. free_begin Out s.addr s.joined s.heard s.state) low
+    ap (λ u. pulled t mask u true true) (begin_run t mask (at Out) (λ (s : Site X). s) ss c
+    (λ s. free_begin Out s.addr s.joined s.heard s.state) low
     (λ s. out_free t s.addr s.joined s.heard s.state))
     ∙ (ap (λ xs. pulled t mask (bus_of false true (map (calling 8 0) xs) (one_flip c)) true true) (map-id ss)
     ∙ start_falls t mask ss (one_flip c))
 
-pub both_high : {X : Type 0} (t : Table X) (mask : Mask X) (m : Mode) (low : Bool) (ss : List (Site X)) (c : Counts) → IsCalm t (map (at m) ss) true
+pub both_high : {X : Type 0} (t : Table X) (mask : Mask X) (m : Mode) (low : Bool) (ss : List (Site X)) (c : Counts)
+    → IsCalm t (map (at m) ss) true
     → let_both t mask (bus_of true low (map (at m) ss) c)
     ≡ came_up (shifted 0 (sda t (map (at m) ss) true)) (bus_of false false (risen t (map (at m) ss) true) (one_edge c))
 both_high {X} t mask m low ss c calm =
@@ -57,7 +56,8 @@ both_high {X} t mask m low ss c calm =
     ∙ (ap (await t 0 65) (goes_up t mask (map (at m) ss) c false calm.low)
     ∙ up_calm t 0 64 true (map (at m) ss) c calm)
 
-pub again_start : {X : Type 0} (t : Table X) (mask : Mask X) (m : Mode) (low : Bool) (ss : List (Site X)) (c : Counts) → IsCalm t (map (at m) ss) true
+pub again_start : {X : Type 0} (t : Table X) (mask : Mask X) (m : Mode) (low : Bool) (ss : List (Site X)) (c : Counts)
+    → IsCalm t (map (at m) ss) true
     → ((s : Site X) (l : Bool) → where_joined begin (where_joined (λ b. rise t b l) (at m s)) ≡ calling 8 0 s)
     → ((s : Site X) (l : Bool) → pulls_line t (where_joined (λ b. rise t b l) (at m s)) ≡ false)
     → repeated_start t mask (within m low ss c) ≡ (true, within_address 8 0 true ss (one_flip (one_edge c)))
@@ -104,7 +104,8 @@ start_after_out t mask low ss c =
     again_start t mask Out low ss c (out_calm t ss true) (λ s l. out_begin t l s.addr s.joined s.heard s.state)
     (λ s l. out_stays t l s.addr s.joined s.heard s.state ∙ out_free t s.addr s.joined s.heard s.state)
 
-stop_by : {X : Type 0} (t : Table X) (mask : Mask X) (m : Mode) (low : Bool) (ss : List (Site X)) (c : Counts) → IsCalm t (map (at m) ss) false
+stop_by : {X : Type 0} (t : Table X) (mask : Mask X) (m : Mode) (low : Bool) (ss : List (Site X)) (c : Counts)
+    → IsCalm t (map (at m) ss) false
     → ((s : Site X) (l : Bool) → where_joined (finish t) (where_joined (λ b. rise t b l) (at m s)) ≡ released (stop_site t s))
     → ((s : Site X) (l : Bool) → pulls_line t (where_joined (λ b. rise t b l) (at m s)) ≡ false)
     → stop_pulls t mask (bus_of true low (map (at m) ss) c)
@@ -122,7 +123,8 @@ stop_by {X} t mask m low ss c calm ends free =
     ∙ ap (λ xs. (true, bus_of false false (map released (rejoin mask (map (stop_site t) xs))) (one_flip (one_edge c)))) (map-id ss)))))
 
 take_finish : {X : Type 0} (t : Table X) (l : Bool) (a : ℕ) (j e : Bool) (x : X)
-    → where_joined (finish t) (where_joined (λ b. rise t b l) (at (In false 8 0) (site_of a j e x))) ≡ released (stop_site t (site_of a j e x))
+    → where_joined (finish t) (where_joined (λ b. rise t b l) (at (In false 8 0) (site_of a j e x))) ≡ released
+    (stop_site t (site_of a j e x))
 take_finish t l a true true x = refl
 take_finish t l a true false x = refl
 take_finish t l a false e x = refl

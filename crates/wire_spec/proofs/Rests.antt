@@ -1,18 +1,14 @@
 -- From targets between two bytes: what a put and a get come to on the lines.
-use Rattle.std.proofs.Common.{◌≡◌, ℕ, zero, suc, ◌<◌, Bool, true, false, cond, List, [], ◌∷◌, length, map, refl, ap, sym, ◌∙◌, arith, subst}
-use Rattle.std.specs.Prelude.{◌&&◌, not, replicate}
-use Rattle.i2c_base.specs.Table.{Table}
-use Rattle.wire_spec.specs.declared.mode.Mode.{Mode}
-use Rattle.wire_spec.specs.declared.mode.Mode.TheVariants.{Out, In, Answered, Give, Gave}
-use Rattle.wire_spec.specs.Wires.{site_of, Site, Bit, bit, bits, shifted, value, rise, holds, is_due, clock}
-use Rattle.wire_spec.specs.Roots.{some_one, pulls_line, sda, where_joined, clock_all, run, levels, at, put_site, acks, sent_by, and_all, get_site}
-use Rattle.wire_spec.specs.Bus.{Mask, Counts, one_edge, holds_line, bit_step, bit_steps, bus_of, came_up}
-use Rattle.wire_spec.specs.Started.{stays}
-use Rattle.wire_spec.specs.Calls.{last_low}
-use Rattle.wire_spec.proofs.Roots.{map_step, some_map, no_one, take_one, answering, map_map, give_step, take_run, ack_one, ack_pulls, give_run, get_value, free_sda, give_quiet, answer_one}
+use Rattle.wire_spec.proofs.Cited.{◌≡◌, ℕ, zero, suc, ◌<◌, Bool, true, false, cond, List, [], ◌∷◌, length, map, refl, ap, sym, ◌∙◌, arith}
+use Rattle.wire_spec.proofs.Cited.{subst, ◌&&◌, not, replicate, Table, Mode, Out, In, Answered, Give, Gave, site_of, Site, Bit, bit, bits}
+use Rattle.wire_spec.proofs.Cited.{shifted, value, rise, holds, clock, some_one, pulls_line, sda, where_joined, clock_all, run, levels, at}
+use Rattle.wire_spec.proofs.Cited.{put_site, acks, sent_by, and_all, get_site, Mask, Counts, one_edge, holds_line, bit_step, bit_steps}
+use Rattle.wire_spec.proofs.Cited.{bus_of, came_up, stays, last_low, and_right}
+use Rattle.wire_spec.specs.Wires.{is_due}
+use Rattle.wire_spec.proofs.Roots.{map_step, some_map, no_one, take_one, answering, map_map, give_step, take_run, ack_one, ack_pulls}
+use Rattle.wire_spec.proofs.Roots.{give_run, get_value, free_sda, give_quiet, answer_one}
 use Rattle.wire_spec.proofs.Calm.{IsCalm, Calm, bit_calm, bits_calm, edges_after}
 use Rattle.wire_spec.proofs.ByteLemmas.{value_bits}
-use Rattle.std.proofs.lemmas.Bool.{and_right}
 
 none : (m : Mode) → (not (is_due m) && false) ≡ false
 none Out = refl
@@ -116,12 +112,17 @@ give_stays t n l a false e x = refl
 
 pub give_calm : {X : Type 0} (t : Table X) (n : ℕ) (ss : List (Site X)) (h : Bool) → IsCalm t (map (at (Give n)) ss) h
 give_calm t n ss h =
-    calm_by t (at (Give n)) ss h (λ s. at_low (Give n) s.addr s.joined s.heard s.state) (λ s l. give_high t n l s.addr s.joined s.heard s.state)
+    calm_by t (at (Give n)) ss h (λ s. at_low (Give n) s.addr s.joined s.heard s.state)
+    (λ s l. give_high t n l s.addr s.joined s.heard s.state)
     (λ s l. give_stays t n l s.addr s.joined s.heard s.state)
 
 pub give_calms : {X : Type 0} (t : Table X) (k : ℕ) (ss : List (Site X)) → Calm t (map (at (Give k)) ss) (replicate k true)
 give_calms t zero ss = tt
-give_calms t (suc k) ss = (give_calm t (suc k) ss true, subst (λ bs. Calm t bs (replicate k true)) (sym (give_step t k ss)) (give_calms t k ss))
+give_calms t (suc k) ss = (
+  give_calm t (suc k) ss true,
+  subst (λ bs. Calm t bs (replicate k true)) (sym (give_step t k ss))
+      (give_calms t k ss),
+)
 
 -- ---- what a put and a get come to on the lines
 pub put_bits : {X : Type 0} (t : Table X) (mask : Mask X) (byte : ℕ) → byte < 256 → (low : Bool) (ss : List (Site X)) (c : Counts)
@@ -138,7 +139,8 @@ put_bits {X} t mask byte lt low ss c =
 
 pub put_ack : {X : Type 0} (t : Table X) (mask : Mask X) (byte : ℕ) (v : ℕ) (low : Bool) (ss : List (Site X)) (c : Counts)
     → bit_step t mask v true (bus_of true low (map (answering t byte) ss) c)
-    ≡ came_up (shifted v (not (some_one (acks t byte) ss))) (bus_of true false (map (at (In false 8 0)) (map (put_site t byte) ss)) (one_edge c))
+    ≡ came_up (shifted v (not (some_one (acks t byte) ss))) (bus_of true false (map (at (In false 8 0)) (map (put_site t byte) ss))
+    (one_edge c))
 put_ack {X} t mask byte v low ss c =
     let l : Bool = sda t (map (answering t byte) ss) true in
     bit_calm t mask v true low (map (answering t byte) ss) c (answering_calm t byte ss true)
@@ -153,7 +155,8 @@ pub get_bits : {X : Type 0} (t : Table X) (mask : Mask X) (low : Bool) (ss : Lis
     ≡ came_up (and_all (map (sent_by t) ss)) (bus_of true false (map (at (Give 0)) ss) (edges_after (replicate 8 true) c))
 get_bits {X} t mask low ss c =
     bits_calm t mask (replicate 8 true) 0 low (map (at (Give 8)) ss) c (give_calms t 8 ss)
-    ∙ (ap (λ n. came_up n (bus_of true false (run t (map (at (Give 8)) ss) (replicate 8 true)) (edges_after (replicate 8 true) c))) (get_value t ss)
+    ∙ (ap (λ n. came_up n (bus_of true false (run t (map (at (Give 8)) ss) (replicate 8 true)) (edges_after (replicate 8 true) c)))
+    (get_value t ss)
     ∙ ap (λ bs. came_up (and_all (map (sent_by t) ss)) (bus_of true false bs (edges_after (replicate 8 true) c))) (give_run t 8 ss))
 
 -- the controller's answer to it: it reads its own level, and leaves what the world of bytes has
@@ -165,7 +168,8 @@ get_answer {X} t mask ack v low ss c =
     free_sda t (at (Give 0)) (λ s. give_quiet t s.addr s.joined s.heard s.state) ss (not ack) in
     let after : clock_all t (map (at (Give 0)) ss) (not ack) ≡ map (at (cond ack (Give 8) Out)) (map (get_site t ack) ss) =
     ap (λ l. map (where_joined (λ b. clock t b l)) (map (at (Give 0)) ss)) own
-    ∙ (map_step (at (Give 0)) (λ s. at (cond ack (Give 8) Out) (get_site t ack s)) _ (λ s. answer_one t ack s.addr s.joined s.heard s.state) ss
+    ∙ (map_step (at (Give 0)) (λ s. at (cond ack (Give 8) Out) (get_site t ack s)) _
+    (λ s. answer_one t ack s.addr s.joined s.heard s.state) ss
     ∙ sym (map_map (get_site t ack) (at (cond ack (Give 8) Out)) ss)) in
     bit_calm t mask v (not ack) low (map (at (Give 0)) ss) c (give_calm t 0 ss (not ack))
     ∙ (ap (λ l. came_up (shifted v l) (bus_of true (not (not ack)) (clock_all t (map (at (Give 0)) ss) (not ack)) (one_edge c))) own

@@ -1,15 +1,11 @@
 -- The targets of one root keep step: a clock is a map over the sites, by two cases each.
-use Rattle.std.proofs.Common.{◌≡◌, ℕ, zero, suc, ◌<◌, ◌≤◌, Bool, true, false, cond, List, [], ◌∷◌, length, map, refl, ap, sym, ◌∙◌, arith}
-use Rattle.std.specs.Prelude.{◌&&◌, ◌||◌, not, replicate}
+use Rattle.wire_spec.proofs.Cited.{◌≡◌, ℕ, zero, suc, ◌<◌, ◌≤◌, Bool, true, false, cond, List, [], ◌∷◌, length, map, refl, ap, sym, ◌∙◌}
+use Rattle.wire_spec.proofs.Cited.{arith, ◌&&◌, ◌||◌, not, replicate, Table, is_ack, Out, In, Answered, Give, Site, Bit, bit, bits, shifted}
+use Rattle.wire_spec.proofs.Cited.{value, clock, stands, some_one, pulls_line, sda, where_joined, clock_all, run, levels, and_all, hearing}
+use Rattle.wire_spec.proofs.Cited.{put_site, acks, get_site, sent_by, at, and-true}
 use Rattle.i2c_base.specs.declared.event.Event.TheVariants.{Put}
-use Rattle.i2c_base.specs.Table.{Table}
-use Rattle.i2c_spec.specs.World.{is_ack}
-use Rattle.wire_spec.specs.declared.mode.Mode.TheVariants.{Out, In, Answered, Give}
 use Rattle.wire_spec.specs.declared.mode.Next.TheVariants.{Take}
-use Rattle.wire_spec.specs.Wires.{Site, Bit, bit, bits, shifted, value, clock, stands}
-use Rattle.wire_spec.specs.Roots.{some_one, pulls_line, sda, where_joined, clock_all, run, levels, and_all, hearing, put_site, acks, get_site, sent_by, at}
 use Rattle.wire_spec.proofs.ByteLemmas.{value_bits, bit_and_bit, bit_ones, and_all_byte}
-use mathlib.Core.Bool.{and-true}
 
 -- what is done to each is a map
 pub map_step : {A B : Type 0} (f g : A → B) (F : B → B) → ((a : A) → F (f a) ≡ g a) → (xs : List A) → map F (map f xs) ≡ map g xs
@@ -121,13 +117,16 @@ some_zero k lt (n ∷ ns) =
 pub give_sda : {X : Type 0} (t : Table X) (k : ℕ) → k < 8 → (ss : List (Site X))
     → sda t (map (at (Give (suc k))) ss) true ≡ bit (and_all (map (sent_by t) ss)) k
 give_sda t k lt ss =
-    ap not (some_map (at (Give (suc k))) (pulls_line t) (λ s. not (bit (sent_by t s) k)) (λ s. give_pulls t k lt s.addr s.joined s.heard s.state) ss
+    ap not (some_map (at (Give (suc k))) (pulls_line t) (λ s. not (bit (sent_by t s) k))
+    (λ s. give_pulls t k lt s.addr s.joined s.heard s.state) ss
     ∙ sym (some_map (sent_by t) (λ n. not (bit n k)) (λ s. not (bit (sent_by t s) k)) (λ s. refl) ss))
     ∙ some_zero k lt (map (sent_by t) ss)
 
-pub give_step : {X : Type 0} (t : Table X) (k : ℕ) (ss : List (Site X)) → clock_all t (map (at (Give (suc k))) ss) true ≡ map (at (Give k)) ss
+pub give_step : {X : Type 0} (t : Table X) (k : ℕ) (ss : List (Site X)) → clock_all t (map (at (Give (suc k))) ss) true ≡ map
+    (at (Give k)) ss
 give_step t k ss =
-    map_step (at (Give (suc k))) (at (Give k)) _ (λ s. give_one t k (sda t (map (at (Give (suc k))) ss) true) s.addr s.joined s.heard s.state) ss
+    map_step (at (Give (suc k))) (at (Give k)) _ (λ s. give_one t k
+    (sda t (map (at (Give (suc k))) ss) true) s.addr s.joined s.heard s.state) ss
 
 -- the controller lets SDA go, and reads the AND of the bytes
 pub give_levels : {X : Type 0} (t : Table X) (k : ℕ) → k ≤ 8 → (ss : List (Site X))
@@ -138,7 +137,8 @@ give_levels t (suc k) le ss =
     ∙ ap (λ ls. bit (and_all (map (sent_by t) ss)) k ∷ ls)
     (ap (λ bs. levels t bs (replicate k true)) (give_step t k ss) ∙ give_levels t k (omega arith) ss)
 
-pub give_run : {X : Type 0} (t : Table X) (k : ℕ) (ss : List (Site X)) → run t (map (at (Give k)) ss) (replicate k true) ≡ map (at (Give 0)) ss
+pub give_run : {X : Type 0} (t : Table X) (k : ℕ) (ss : List (Site X)) → run t (map (at (Give k)) ss) (replicate k true) ≡ map
+    (at (Give 0)) ss
 give_run t zero ss = refl
 give_run t (suc k) ss = ap (λ bs. run t bs (replicate k true)) (give_step t k ss) ∙ give_run t k ss
 

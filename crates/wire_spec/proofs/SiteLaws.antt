@@ -1,24 +1,27 @@
 -- The sites of a root are its world's as the board is opened, and a call is to them what it is to the world.
-use Rattle.std.proofs.Common.{◌≡◌, ℕ, suc, ◌+◌, ◌/◌, ◌<◌, Bool, true, false, cond, List, [], ◌∷◌, ◌++◌, map, length, Option, Some, None, refl, ap, sym, ◌∙◌, arith, zero}
-use Rattle.std.specs.Prelude.{◌==◌, ◌&&◌, slice_get, slice_set, unwrap_or, if◌then◌else◌}
-use Rattle.std.specs.Option.{option_map, option_map_or}
-use Rattle.std.proofs.lemmas.Bool.Decides.{nat_tests}
-use Rattle.i2c_base.specs.declared.ids.Node.{Node}
+use Rattle.wire_spec.proofs.Cited.{◌≡◌, ℕ, suc, ◌+◌, ◌/◌, ◌<◌, Bool, true, false, cond, List, [], ◌∷◌, ◌++◌, map, length, Option, Some}
+use Rattle.wire_spec.proofs.Cited.{None, refl, ap, sym, ◌∙◌, arith, zero, ◌==◌, ◌&&◌, slice_get, if◌then◌else◌, option_map_or, nat_tests}
+use Rattle.wire_spec.proofs.Cited.{Node, BoardView, ChipView, chip_table, TargetState, state_table, IsFairTable, Site, hears, other, puts}
+use Rattle.wire_spec.proofs.Cited.{gets, is_named, is_reading, hearing, put_site, get_site, stop_site, started, joined_from, rejoin, Chip}
+use Rattle.wire_spec.proofs.Cited.{Device, node_table, site_with, names_of, states_of, world_by, Tells, HaveAddresses, AreSites, mask_of}
+use Rattle.wire_spec.proofs.Cited.{both}
+use Rattle.std.specs.Prelude.{slice_set, unwrap_or}
+use Rattle.std.specs.Option.{option_map}
 use Rattle.i2c_base.specs.declared.ids.Node.TheVariants as node
 use Rattle.i2c_base.specs.declared.board.MuxSpec.{MuxSpec}
-use Rattle.i2c_base.specs.Board.{BoardView, DeviceView}
-use Rattle.i2c_spec.specs.Chips.{ChipView, chip_table, chip_opening, at_level}
-use Rattle.i2c_spec.specs.Targets.{TargetState, state_table, IsFairTable, opening_state}
+use Rattle.i2c_base.specs.Board.{DeviceView}
+use Rattle.i2c_spec.specs.Chips.{chip_opening, at_level}
+use Rattle.i2c_spec.specs.Targets.{opening_state}
 use Rattle.i2c_spec.specs.Grant.{has_address}
 use Rattle.i2c_spec.specs.World.{set_level}
-use Rattle.wire_spec.specs.Wires.{Site, hears, other, puts, gets, stops, is_named, is_reading}
-use Rattle.wire_spec.specs.Roots.{hearing, put_site, get_site, stop_site}
-use Rattle.wire_spec.specs.Started.{started}
-use Rattle.wire_spec.specs.Calls.{joined_from, rejoin}
-use Rattle.wire_spec.specs.Sites.{Chip, Device, node_table, site_with, names_of, states_of, world_by, Tells, NO_ADDRESS, HaveAddresses, AreSites, chip_site, device_site, opened_chips, opened_devices, mask_of, both}
-use Rattle.wire_spec.specs.WorldLaws.{PartsOfBoth, OpenedSites, PutOnSites, GetOnSites, StartOnSites, StopOnSites, LineOnSites, levelled, stopped_chips, stopped_devices}
-use Rattle.wire_spec.proofs.WorldLemmas.{chips_both, devices_both, sites_both, world_ap, world_put, world_takes, world_get, world_gives, world_start, world_stop, stop_hears, no_names}
-use Rattle.wire_spec.proofs.SiteLemmas.{of_either, put_keeps, get_keeps, start_keeps, start_leaves, sites_kept, addresses_kept, joined_states, rejoin_both, sites_anew}
+use Rattle.wire_spec.specs.Wires.{stops}
+use Rattle.wire_spec.specs.Sites.{NO_ADDRESS, chip_site, device_site, opened_chips, opened_devices}
+use Rattle.wire_spec.specs.WorldLaws.{PartsOfBoth, OpenedSites, PutOnSites, GetOnSites, StartOnSites, StopOnSites, LineOnSites, levelled}
+use Rattle.wire_spec.specs.WorldLaws.{stopped_chips, stopped_devices}
+use Rattle.wire_spec.proofs.WorldLemmas.{chips_both, devices_both, sites_both, world_ap, world_put, world_takes, world_get, world_gives}
+use Rattle.wire_spec.proofs.WorldLemmas.{world_start, world_stop, stop_hears, no_names}
+use Rattle.wire_spec.proofs.SiteLemmas.{of_either, put_keeps, get_keeps, start_keeps, start_leaves, sites_kept, addresses_kept}
+use Rattle.wire_spec.proofs.SiteLemmas.{joined_states, rejoin_both, sites_anew}
 use Rattle.wire_spec.proofs.StartLemmas.{start_answer}
 
 pub parts_of_both : (cs : List (Site ChipView)) (ds : List (Site TargetState)) → PartsOfBoth cs ds
@@ -65,7 +68,8 @@ none_hears true n ns = refl
 none_hears false n ns = refl
 
 -- nobody is in a message where who is joined was read anew
-no_names_anew : {X : Type 0} (name : ℕ → Node) (joins : ℕ → Bool) (j k : ℕ) (ss : List (Site X)) → names_of name k (joined_from joins j ss) ≡ []
+no_names_anew : {X : Type 0} (name : ℕ → Node) (joins : ℕ → Bool) (j k : ℕ) (ss : List (Site X))
+    → names_of name k (joined_from joins j ss) ≡ []
 no_names_anew name joins j k [] = refl
 no_names_anew name joins j k (s ∷ ss) =
     none_hears (joins j) (name k) (names_of name (k + 1) (joined_from joins (j + 1) ss)) ∙ no_names_anew name joins (j + 1) (k + 1) ss
@@ -128,7 +132,8 @@ stop_device s = with_either (site_with Device) s.joined (stops state_table s) s
 pub put_on_sites : (b : BoardView) (r : ℕ) (busy : Bool) (byte : ℕ) (cs : List (Site ChipView)) (ds : List (Site TargetState))
     → PutOnSites b r busy byte cs ds
 put_on_sites b r busy byte cs ds = record {
-  parts = sites_both (put_site node_table byte) (put_site chip_table byte) (put_site state_table byte) (put_chip byte) (put_device byte) cs ds;
+  parts = sites_both (put_site node_table byte) (put_site chip_table byte) (put_site state_table byte) (put_chip byte)
+      (put_device byte) cs ds;
   kept = λ is. sites_kept b r (put_site chip_table byte) (put_site state_table byte) (put_keeps byte)
       (λ s. of_either (λ z. z.joined) (hearing s) (puts chip_table s byte) s refl)
       (λ s. of_either (λ z. z.addr) (hearing s) (puts chip_table s byte) s refl)
@@ -170,7 +175,8 @@ start_on_sites chips devices b r busy byte cs ds lt is = record {
   parts = start_parts byte cs ds;
   kept = sites_kept b r (started chip_table byte) (started state_table byte) (start_keeps byte)
       (λ s. start_leaves chip_table (λ z. z.joined) byte s refl refl) (λ s. start_leaves chip_table (λ z. z.addr) byte s refl refl)
-      (λ s. start_leaves state_table (λ z. z.joined) byte s refl refl) (λ s. start_leaves state_table (λ z. z.addr) byte s refl refl) cs ds is;
+      (λ s. start_leaves state_table (λ z. z.joined) byte s refl refl) (λ s. start_leaves state_table
+      (λ z. z.addr) byte s refl refl) cs ds is;
   world = world_start b r busy cs ds is chips devices (byte / 2) (is_reading byte) lt;
   answered = start_answer b r busy cs ds is chips devices byte lt;
 }
@@ -189,12 +195,14 @@ stop_on_sites b r busy cs ds is =
       kept = sites_anew b r cs' ds' (addresses_kept b (stop_site chip_table) (stop_site state_table)
           (λ s. of_either (λ z. z.addr) s.joined (stops chip_table s) s refl)
           (λ s. of_either (λ z. z.addr) s.joined (stops state_table s) s refl) cs ds is.addresses);
-      world = world_anew b r _ _ cs' ds' _ _ refl refl ∙ (world_ap b r false _ _ _ _ _ _ refl refl (sym quiet) ∙ world_stop b r busy cs ds is);
+      world = world_anew b r _ _ cs' ds' _ _ refl refl ∙ (world_ap b r false _ _ _ _ _ _ refl refl (sym quiet)
+          ∙ world_stop b r busy cs ds is);
     }
 
 -- ---- the line of a mux
 set_next : (xs : List ChipView) (x : ChipView) (m level : ℕ) (o : Option ChipView)
-    → option_map_or (λ c. x ∷ slice_set xs m (at_level c level)) o (x ∷ xs) ≡ x ∷ option_map_or (λ c. slice_set xs m (at_level c level)) o xs
+    → option_map_or (λ c. x ∷ slice_set xs m (at_level c level)) o (x ∷ xs) ≡ x ∷ option_map_or
+    (λ c. slice_set xs m (at_level c level)) o xs
 set_next xs x m level None = refl
 set_next xs x m level (Some c) = refl
 
@@ -214,7 +222,11 @@ pub line_on_sites : (b : BoardView) (r m level : ℕ) (cs : List (Site ChipView)
     → (world_by b r false cs ds).hearing ≡ [] → LineOnSites b r m level cs ds
 line_on_sites b r m level cs ds is quiet = record {
   kept = sites_anew b r (levelled m level cs) ds
-      (record { chips_at = λ a lt. tells_levelled _ (λ x. a == x) m level 0 cs (is.addresses.chips_at a lt); devices_at = is.addresses.devices_at });
+      (record {
+        chips_at = λ a lt. tells_levelled _ (λ x. a == x) m level 0 cs (is.addresses.chips_at a lt);
+        devices_at =
+            is.addresses.devices_at;
+      });
   world = world_anew b r _ _ (levelled m level cs) ds _ _ (states_levelled m level cs) refl
       ∙ world_ap b r false _ _ _ _ _ _ refl refl (sym quiet);
 }

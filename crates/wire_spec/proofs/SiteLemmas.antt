@@ -1,23 +1,17 @@
 -- The flags of the sites are the world's: after a byte and a start as before, and after a stop by what is read anew.
-use Rattle.std.proofs.Common.{◌≡◌, ℕ, zero, suc, ◌+◌, ◌-◌, ◌<◌, ◌≤◌, Bool, true, false, cond, List, [], ◌∷◌, ◌++◌, map, length, refl, ap, sym, ◌∙◌, arith}
-use Rattle.std.specs.Prelude.{◌==◌, ◌&&◌, nat_lt, slice_get, if◌then◌else◌}
+use Rattle.wire_spec.proofs.Cited.{◌≡◌, ℕ, zero, suc, ◌+◌, ◌-◌, ◌<◌, ◌≤◌, Bool, true, false, cond, List, [], ◌∷◌, ◌++◌, map, length, refl}
+use Rattle.wire_spec.proofs.Cited.{ap, sym, ◌∙◌, arith, ◌==◌, ◌&&◌, nat_lt, slice_get, if◌then◌else◌, option_map_or, nat_tests, BoardView}
+use Rattle.wire_spec.proofs.Cited.{Table, ChipView, chip_table, TargetState, World, joins_chip, joins_device, Site, hears, other, puts}
+use Rattle.wire_spec.proofs.Cited.{gets, is_named, is_reading, put_site, get_site, hearing, started, joined_from, rejoin, NodeState, Chip}
+use Rattle.wire_spec.proofs.Cited.{Device, site_with, both, devices_in, states_of, world_by, Tells, HaveAddresses, AreSites, mask_of}
 use Rattle.std.specs.List.{list_all}
-use Rattle.std.specs.Option.{option_map_or}
-use Rattle.std.proofs.lemmas.Bool.Decides.{nat_tests}
 use Rattle.i2c_base.specs.declared.event.Event.TheVariants as event
-use Rattle.i2c_base.specs.Board.{BoardView}
 use Rattle.i2c_base.specs.Limits.{POLLS}
 use Rattle.i2c_base.specs.Muxes.{facts_of}
-use Rattle.i2c_base.specs.Table.{Table}
-use Rattle.i2c_spec.specs.Chips.{ChipView, chip_table, chip_after, is_open}
-use Rattle.i2c_spec.specs.Targets.{TargetState}
+use Rattle.i2c_spec.specs.Chips.{chip_after, is_open}
 use Rattle.i2c_spec.specs.Tree.{of_device, hops, root_of, home_of_mux}
-use Rattle.i2c_spec.specs.World.{World, opens_hop, is_joined, has_chip, joins_chip, joins_device}
-use Rattle.wire_spec.specs.Wires.{Site, hears, other, puts, gets, is_named, is_reading}
-use Rattle.wire_spec.specs.Roots.{put_site, get_site, hearing}
-use Rattle.wire_spec.specs.Started.{started}
-use Rattle.wire_spec.specs.Calls.{joined_from, rejoin}
-use Rattle.wire_spec.specs.Sites.{chips_anew, devices_anew, NodeState, Chip, Device, site_with, both, devices_in, states_of, world_by, Tells, HaveAddresses, AreSites, mask_of}
+use Rattle.i2c_spec.specs.World.{opens_hop, is_joined, has_chip}
+use Rattle.wire_spec.specs.Sites.{chips_anew, devices_anew}
 use Rattle.wire_spec.proofs.WorldLemmas.{chips_both, devices_both}
 
 -- ---- only a stop opens or closes a channel
@@ -45,7 +39,8 @@ pub get_keeps : (ack : Bool) → Keeps (get_site chip_table ack)
 get_keeps ack s ch = of_either (λ z. is_open z.state ch) (hearing s) (gets chip_table s ack) s (get_open s.state ack ch)
 
 -- a field that a start leaves to whoever is joined
-pub start_leaves : {X A : Type 0} (t : Table X) (p : Site X → A) (byte : ℕ) (s : Site X) → p (hears t s (is_reading byte)) ≡ p s → p (other t s) ≡ p s
+pub start_leaves : {X A : Type 0} (t : Table X) (p : Site X → A) (byte : ℕ) (s : Site X) → p (hears t s (is_reading byte)) ≡ p s
+    → p (other t s) ≡ p s
     → p (started t byte s) ≡ p s
 start_leaves t p byte s own others =
     of_either p s.joined (cond (is_named byte s) (hears t s (is_reading byte)) (other t s)) s
@@ -76,7 +71,8 @@ module _ (b : BoardView) (r : ℕ) (F : Site ChipView → Site ChipView) (G : Si
 
   joined_same : (s : ℕ) → is_joined new s ≡ is_joined old s
   joined_same s =
-      ap (λ x. (root_of b s == r) && x) (all_same (opens_hop new.chips) (opens_hop old.chips) (λ h. opens_same F keeps h.channel h.mux cs) (hops b s))
+      ap (λ x. (root_of b s == r) && x) (all_same (opens_hop new.chips) (opens_hop old.chips) (λ h. opens_same F keeps h.channel h.mux cs)
+      (hops b s))
 
   pub chip_same : (m : ℕ) → joins_chip new m ≡ joins_chip old m
   chip_same m = ap (λ x. has_chip b m && x) (joined_same (home_of_mux b m))
@@ -131,7 +127,8 @@ joined_append f k (x ∷ xs) ys =
     (joined_append f (k + 1) xs ys ∙ ap (λ n. joined_from f (k + 1) xs ++ joined_from f n ys) (omega arith))
 
 -- the numbers from here on, where they mean the same
-joined_as : {X Y : Type 0} (g : X → Y) (f f' : ℕ → Bool) (k k' : ℕ) (ss : List (Site X)) → ((i : ℕ) → i < length ss → f (k + i) ≡ f' (k' + i))
+joined_as : {X Y : Type 0} (g : X → Y) (f f' : ℕ → Bool) (k k' : ℕ) (ss : List (Site X)) → ((i : ℕ) → i < length ss
+    → f (k + i) ≡ f' (k' + i))
     → joined_from f k (map (site_with g) ss) ≡ map (site_with g) (joined_from f' k' ss)
 joined_as g f f' k k' [] same = refl
 joined_as g f f' k k' (s ∷ ss) same =
@@ -158,18 +155,21 @@ module _ (b : BoardView) (r : ℕ) (cs : List (Site ChipView)) (ds : List (Site 
   mask_is k =
       ap (λ xs. if nat_lt k (length xs) then joins_chip (world_by b r false xs (devices_in (both cs ds))) k else joins_device
       (world_by b r false xs (devices_in (both cs ds))) (k - length xs)) (chips_both cs ds)
-      ∙ ap (λ ys. if nat_lt k (length cs) then joins_chip (world_by b r false cs ys) k else joins_device (world_by b r false cs ys) (k - length cs))
+      ∙ ap (λ ys. if nat_lt k (length cs) then joins_chip (world_by b r false cs ys) k else joins_device (world_by b r false cs ys)
+      (k - length cs))
       (devices_both cs ds)
 
   low_mask : (i : ℕ) → i < length cs → mask_of b r (both cs ds) (0 + i) ≡ joins_chip now (0 + i)
   low_mask i lt =
       mask_is (0 + i)
-      ∙ ap (λ z. if z then joins_chip now (0 + i) else joins_device now ((0 + i) - length cs)) (below (0 + i) (length cs) (omega (arith, lt)))
+      ∙ ap (λ z. if z then joins_chip now (0 + i) else joins_device now ((0 + i) - length cs))
+      (below (0 + i) (length cs) (omega (arith, lt)))
 
   high_mask : (n i : ℕ) → n ≡ length cs → mask_of b r (both cs ds) (n + i) ≡ joins_device now (0 + i)
   high_mask n i is =
       mask_is (n + i)
-      ∙ (ap (λ z. if z then joins_chip now (n + i) else joins_device now ((n + i) - length cs)) (above (n + i) (length cs) (omega (arith, is)))
+      ∙ (ap (λ z. if z then joins_chip now (n + i) else joins_device now ((n + i) - length cs))
+      (above (n + i) (length cs) (omega (arith, is)))
       ∙ ap (joins_device now) (omega (arith, is)))
 
   -- what is joined is read anew

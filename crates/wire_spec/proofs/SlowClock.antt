@@ -1,13 +1,10 @@
 -- The acknowledge clock of an address that is Slow: someone holds SCL for more than 64 looks, and all let SDA go at the last.
-use Rattle.std.proofs.Common.{◌≡◌, ℕ, zero, suc, ◌+◌, ◌≤◌, Bool, true, false, cond, List, [], ◌∷◌, map, refl, ap, ◌∙◌, arith, inl, inr, ◌⊎◌}
-use Rattle.std.specs.Prelude.{◌||◌, not}
-use Rattle.std.proofs.lemmas.Bool.Decides.{nat_tests}
-use Rattle.i2c_base.specs.Table.{Table}
-use Rattle.wire_spec.specs.declared.mode.Mode.TheVariants.{Out}
-use Rattle.wire_spec.specs.Wires.{site_of, Site, shifted, rise, tick, hears, is_named, is_reading, stands}
-use Rattle.wire_spec.specs.Roots.{some_one, sda, where_joined}
-use Rattle.wire_spec.specs.Bus.{Counts, one_edge, Bus, Came, holds_line, scl_level, sda_level, each, rises, looked, await, bus_of, came_up, gave_up}
-use Rattle.wire_spec.specs.Started.{stays_if, stays, late_if, late, late_bus, rose}
+use Rattle.wire_spec.proofs.Cited.{◌≡◌, ℕ, zero, suc, ◌+◌, ◌≤◌, Bool, true, false, cond, List, [], ◌∷◌, map, refl, ap, ◌∙◌, arith, inl, inr}
+use Rattle.wire_spec.proofs.Cited.{◌||◌, not, nat_tests, Table, Out, site_of, Site, shifted, rise, tick, hears, is_named, is_reading}
+use Rattle.wire_spec.proofs.Cited.{stands, some_one, sda, where_joined, Counts, one_edge, Bus, Came, holds_line, scl_level, sda_level, each}
+use Rattle.wire_spec.proofs.Cited.{rises, bus_of, came_up, gave_up, stays_if, stays, late_if, late, late_bus, rose}
+use Rattle.std.proofs.Common.{◌⊎◌}
+use Rattle.wire_spec.specs.Bus.{looked, await}
 use Rattle.wire_spec.proofs.Roots.{map_step, some_map}
 use Rattle.wire_spec.proofs.AckClock.{by_busy, wait_bus, wait_level, goes_on, waiting_if, waiting}
 use Rattle.std.proofs.lemmas.Bool.{or_cases}
@@ -42,12 +39,14 @@ late_rises t byte ss c =
 pub late_level : {X : Type 0} (t : Table X) (byte : ℕ) (ss : List (Site X)) (c : Counts)
     → scl_level (late_bus t byte ss c) ≡ not (some_one (stays t byte 65) ss)
 late_level t byte ss c =
-    ap not (some_map (late t byte) holds_line (stays t byte 65) (λ s. late_holds t byte s.addr s.joined s.heard (is_named byte s) s.state) ss)
+    ap not (some_map (late t byte) holds_line (stays t byte 65) (λ s. late_holds t byte s.addr s.joined s.heard
+    (is_named byte s) s.state) ss)
 
 late_up : {X : Type 0} (t : Table X) (byte : ℕ) (ss : List (Site X)) (c : Counts)
     → cond (scl_level (late_bus t byte ss c)) (rises t (late_bus t byte ss c)) (late_bus t byte ss c)
     ≡ late_bus t byte ss (rose (some_one (stays t byte 65) ss) c)
-late_up t byte ss c = by_busy (late_bus t byte ss) c (some_one (stays t byte 65) ss) _ _ _ (late_level t byte ss c) (late_rises t byte ss c) refl
+late_up t byte ss c = by_busy (late_bus t byte ss) c (some_one (stays t byte 65) ss) _ _ _ (late_level t byte ss c)
+    (late_rises t byte ss c) refl
 
 look_late : {X : Type 0} (t : Table X) (byte j : ℕ) (ss : List (Site X)) (c : Counts) → j ≡ 64 → some_one (stays t byte j) ss ≡ true
     → looked t (wait_bus t byte 1 j ss c) ≡ late_bus t byte ss (rose (some_one (stays t byte 65) ss) c)
@@ -93,7 +92,8 @@ last_look {X} t byte v j ss c is busy =
     ∙ ap (λ u. gave_up u) (look_late t byte j ss c is busy))
 
 -- all the looks are low; SCL has risen only where the 65th was the last that someone held it for
-pub slow_clock : {X : Type 0} (t : Table X) (byte v n j : ℕ) (ss : List (Site X)) (c : Counts) → suc n + j ≡ 65 → some_one (stays t byte 64) ss ≡ true
+pub slow_clock : {X : Type 0} (t : Table X) (byte v n j : ℕ) (ss : List (Site X)) (c : Counts) → suc n + j ≡ 65
+    → some_one (stays t byte 64) ss ≡ true
     → await t v (suc n) (wait_bus t byte (suc n) j ss (rose (some_one (stays t byte j) ss) c))
     ≡ gave_up (late_bus t byte ss (rose (some_one (stays t byte 65) ss) c))
 slow_clock {X} t byte v zero j ss c sum busy =

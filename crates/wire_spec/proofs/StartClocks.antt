@@ -1,14 +1,12 @@
 -- A start on the wires, and the address byte after it.
-use Rattle.std.proofs.Common.{◌≡◌, ℕ, zero, suc, ◌%◌, ◌<◌, Bool, true, false, cond, List, [], ◌∷◌, length, map, refl, ap, sym, ◌∙◌, arith, subst}
-use Rattle.std.specs.Prelude.{◌==◌, not}
-use Rattle.i2c_base.specs.Table.{Table}
-use Rattle.wire_spec.specs.declared.mode.Mode.{Mode}
-use Rattle.wire_spec.specs.declared.mode.Mode.TheVariants.{Out}
-use Rattle.wire_spec.specs.Wires.{site_of, Site, Bit, bit, bits, shifted, value, rise, fall, pulls, holds, begin, called, other, is_named, stands}
-use Rattle.wire_spec.specs.Roots.{some_one, pulls_line, sda, where_joined, clock_all, levels, at}
-use Rattle.wire_spec.specs.Bus.{Mask, Counts, one_flip, Bus, begins, holds_line, scl_level, sda_level, each, rises, edge, finishes, pulled, await, closed, bit_step, bit_steps, bus_of, came_up, gave_up}
-use Rattle.wire_spec.specs.Started.{calling, stays, late, late_bus, rose}
-use Rattle.wire_spec.specs.Calls.{last_low}
+use Rattle.wire_spec.proofs.Cited.{◌≡◌, ℕ, zero, suc, ◌%◌, ◌<◌, Bool, true, false, cond, List, [], ◌∷◌, length, map, refl, ap, sym, ◌∙◌}
+use Rattle.wire_spec.proofs.Cited.{arith, subst, ◌==◌, not, Table, Mode, Out, site_of, Site, Bit, bit, bits, shifted, value, rise, fall}
+use Rattle.wire_spec.proofs.Cited.{holds, begin, called, other, is_named, stands, some_one, pulls_line, sda, where_joined, clock_all}
+use Rattle.wire_spec.proofs.Cited.{levels, at, Mask, Counts, one_flip, Bus, holds_line, scl_level, sda_level, each, rises, edge, finishes}
+use Rattle.wire_spec.proofs.Cited.{await, closed, bit_steps, bus_of, came_up, gave_up, calling, stays, late, late_bus, rose, last_low}
+use Rattle.wire_spec.proofs.Cited.{and_right}
+use Rattle.wire_spec.specs.Wires.{pulls}
+use Rattle.wire_spec.specs.Bus.{begins, pulled, bit_step}
 use Rattle.wire_spec.proofs.Roots.{map_step, some_map, no_one, map_map}
 use Rattle.wire_spec.proofs.Calm.{IsCalm, Calm, goes_down, sets_data, bits_calm, edges_after}
 use Rattle.wire_spec.proofs.Rests.{calm_by}
@@ -16,7 +14,6 @@ use Rattle.wire_spec.proofs.ByteLemmas.{value_bits}
 use Rattle.wire_spec.proofs.AckClock.{Acked, wait_bus, let_go, ack_clock, waiting}
 use Rattle.wire_spec.proofs.SlowClock.{slow_clock}
 use Rattle.wire_spec.proofs.Address.{call_run, call_one}
-use Rattle.std.proofs.lemmas.Bool.{and_right}
 
 -- SDA goes down while SCL is high: whatever stood there, all that is joined shifts an address in
 pub begin_run : {A X : Type 0} (t : Table X) (mask : Mask X) (f : A → Bit X) (g : A → Site X) (xs : List A) (c : Counts)
@@ -38,7 +35,8 @@ pub call_low : {X : Type 0} (n v a : ℕ) (j e : Bool) (x : X) → holds_line (c
 call_low n v a true e x = refl
 call_low n v a false e x = refl
 
-call_fall : {X : Type 0} (n v a : ℕ) (j e : Bool) (x : X) → where_joined fall (calling n v (site_of a j e x)) ≡ calling n v (site_of a j e x)
+call_fall : {X : Type 0} (n v a : ℕ) (j e : Bool) (x : X) → where_joined fall (calling n v (site_of a j e x)) ≡ calling n v
+    (site_of a j e x)
 call_fall n v a true e x = refl
 call_fall n v a false e x = refl
 
@@ -55,7 +53,8 @@ start_falls {X} t mask ss c =
     (map_step (calling 8 0) (calling 8 0) (where_joined fall) (λ s. call_fall 8 0 s.addr s.joined s.heard s.state) ss)
 
 -- from free lines and from within a message
-pub free_begin : {X : Type 0} (m : Mode) (a : ℕ) (j e : Bool) (x : X) → where_joined begin (at m (site_of a j e x)) ≡ calling 8 0 (site_of a j e x)
+pub free_begin : {X : Type 0} (m : Mode) (a : ℕ) (j e : Bool) (x : X) → where_joined begin (at m (site_of a j e x)) ≡ calling 8 0
+    (site_of a j e x)
 free_begin m a true e x = refl
 free_begin m a false e x = refl
 
@@ -71,13 +70,16 @@ named_free t byte s false = refl
 
 call_high : {X : Type 0} (t : Table X) (n v : ℕ) (l : Bool) (a : ℕ) (j e : Bool) (x : X)
     → holds_line (where_joined (λ b. rise t b l) (calling (suc n) v (site_of a j e x))) ≡ false
-call_high t zero v l a true e x = and_right _ _ (named_low t (shifted v l) (site_of a true e x) (is_named (shifted v l) (site_of a true e x)))
+call_high t zero v l a true e x = and_right _ _ (named_low t (shifted v l) (site_of a true e x)
+    (is_named (shifted v l) (site_of a true e x)))
 call_high t (suc n) v l a true e x = refl
 call_high t n v l a false e x = refl
 
 call_stays : {X : Type 0} (t : Table X) (n v : ℕ) (l : Bool) (a : ℕ) (j e : Bool) (x : X)
-    → pulls_line t (where_joined (λ b. rise t b l) (calling (suc n) v (site_of a j e x))) ≡ pulls_line t (calling (suc n) v (site_of a j e x))
-call_stays t zero v l a true e x = and_right _ _ (named_free t (shifted v l) (site_of a true e x) (is_named (shifted v l) (site_of a true e x)))
+    → pulls_line t (where_joined (λ b. rise t b l) (calling (suc n) v (site_of a j e x))) ≡ pulls_line t
+    (calling (suc n) v (site_of a j e x))
+call_stays t zero v l a true e x = and_right _ _ (named_free t (shifted v l) (site_of a true e x)
+    (is_named (shifted v l) (site_of a true e x)))
 call_stays t (suc n) v l a true e x = refl
 call_stays t n v l a false e x = refl
 
@@ -130,7 +132,8 @@ stay_high : {X : Type 0} (t : Table X) (mask : Mask X) (w : Bus X) (d : Bool)
 stay_high t mask w true = refl
 stay_high t mask w false = refl
 
-same_clock : {X : Type 0} (t : Table X) (mask : Mask X) (w : Bus X) (up : Bool) → scl_level w ≡ up → edge t mask (scl_level w) (sda_level t w) w ≡ w
+same_clock : {X : Type 0} (t : Table X) (mask : Mask X) (w : Bus X) (up : Bool) → scl_level w ≡ up
+    → edge t mask (scl_level w) (sda_level t w) w ≡ w
 same_clock {X} t mask w true is =
     ap (λ u. edge t mask u (sda_level t w) w) is
     ∙ (ap (λ u. cond {A = Bus X} u (cond (sda_level t w) (cond (sda_level t w) w (begins w)) (cond (sda_level t w) (finishes t mask w) w))

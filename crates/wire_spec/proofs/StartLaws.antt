@@ -1,21 +1,11 @@
 -- A start with its address, and a stop, on the wires: what a controller's pulls and looks come to, for any fair table.
-use Rattle.std.proofs.Common.{◌≡◌, ℕ, ◌-◌, ◌/◌, ◌<◌, ◌≤◌, Bool, true, false, cond, List, [], ◌∷◌, map, refl, ap, ◌∙◌, arith, sym}
-use Rattle.std.specs.Prelude.{◌==◌, not, ◌&&◌}
-use Rattle.std.specs.List.{AllByRecursion}
-use Rattle.std.proofs.lemmas.Bool.Decides.{nat_tests}
-use Rattle.i2c_base.specs.Bytes.{IsByte}
-use Rattle.i2c_base.specs.Table.{Table}
-use Rattle.i2c_base.specs.declared.event.Event.TheVariants.{Start}
-use Rattle.i2c_spec.specs.Targets.{IsFairTable, IsQuiet}
-use Rattle.i2c_spec.specs.World.{has_heard, is_ack, is_slow}
-use Rattle.wire_spec.specs.declared.mode.Mode.{Mode}
-use Rattle.wire_spec.specs.declared.mode.Mode.TheVariants.{Out, In}
-use Rattle.wire_spec.specs.Wires.{Site, Bit, LOOKS, bits, shifted, is_named, is_reading, stands}
-use Rattle.wire_spec.specs.Roots.{some_one, stop_site, at}
-use Rattle.wire_spec.specs.Bus.{Counts, one_edge, one_flip, Mask, Came, Bus, bit_step, then_bits, bus_of, came_up, gave_up}
-use Rattle.wire_spec.specs.Started.{stays, stays_if, late_bus, rose, started, answers_so, entered_by}
-use Rattle.wire_spec.specs.Calls.{more_edges, last_low, released, within, within_address, free, rejoin, slow_stop, sent_byte}
-use Rattle.wire_spec.specs.Laws.{SomeAreAll, UnheardIsOut, OutSeesNothing, QuietStays, RepeatedStartCallsAll, StopFreesTheLines, AddressComesUp}
+use Rattle.wire_spec.proofs.Cited.{◌≡◌, ℕ, ◌-◌, ◌/◌, ◌<◌, ◌≤◌, Bool, true, false, cond, List, [], ◌∷◌, map, refl, ap, ◌∙◌, arith, sym, ◌==◌}
+use Rattle.wire_spec.proofs.Cited.{not, ◌&&◌, AllByRecursion, nat_tests, IsByte, Table, Start, IsFairTable, IsQuiet, has_heard, is_ack}
+use Rattle.wire_spec.proofs.Cited.{is_slow, Mode, Out, In, Site, Bit, LOOKS, bits, shifted, is_named, is_reading, stands, some_one}
+use Rattle.wire_spec.proofs.Cited.{stop_site, at, Counts, one_edge, one_flip, Mask, Came, Bus, bit_step, then_bits, bus_of, came_up}
+use Rattle.wire_spec.proofs.Cited.{gave_up, stays, stays_if, late_bus, rose, started, answers_so, entered_by, more_edges, last_low}
+use Rattle.wire_spec.proofs.Cited.{released, within, within_address, free, rejoin, slow_stop, sent_byte, StopFreesTheLines}
+use Rattle.wire_spec.specs.Laws.{SomeAreAll, UnheardIsOut, OutSeesNothing, QuietStays, RepeatedStartCallsAll, AddressComesUp}
 use Rattle.wire_spec.proofs.AckClock.{settled_all, settled}
 use Rattle.wire_spec.proofs.StartClocks.{address_bits, address_ack, address_slow}
 use Rattle.wire_spec.proofs.StartLemmas.{all_out, slow_all, ack_all, not_slow}
@@ -59,7 +49,8 @@ short_hold : (heard : Bool) (h : ℕ) → h ≤ 64 → not ((cond heard h 0 - 64
 short_hold true h le = grind (arith, nat_tests)
 short_hold false h le = refl
 
-short_one : {X : Type 0} (t : Table X) (byte : ℕ) (s : Site X) (joined named : Bool) → t.hold s.state ≤ 64 → stays_if t byte 64 s joined named ≡ false
+short_one : {X : Type 0} (t : Table X) (byte : ℕ) (s : Site X) (joined named : Bool) → t.hold s.state ≤ 64
+    → stays_if t byte 64 s joined named ≡ false
 short_one t byte s true true le = short_hold (has_heard (t.answer s.state (Start (is_reading byte)))) (t.hold s.state) le
 short_one t byte s true false le = refl
 short_one t byte s false named le = refl
@@ -67,7 +58,8 @@ short_one t byte s false named le = refl
 short_all : {X : Type 0} (t : Table X) (byte : ℕ) (ss : List (Site X)) → AllByRecursion (λ (s : Site X). t.hold s.state ≤ 64) ss
     → some_one (stays t byte 64) ss ≡ false
 short_all t byte [] all = refl
-short_all t byte (s ∷ ss) all = or_from (stays t byte 64 s) _ (short_one t byte s s.joined (is_named byte s) all.0) (short_all t byte ss all.1)
+short_all t byte (s ∷ ss) all = or_from (stays t byte 64 s) _ (short_one t byte s s.joined (is_named byte s) all.0)
+    (short_all t byte ss all.1)
 
 pub held_comes_up : {X : Type 0} (t : Table X) → IsFairTable t → (mask : Mask X) (byte : ℕ) → byte < 256
     → (low : Bool) (ss : List (Site X)) (c : Counts)
@@ -108,7 +100,8 @@ rest_short true true h lt = grind (arith, nat_tests)
 rest_short true false h lt = refl
 rest_short false heard h lt = refl
 
-rest_one : {X : Type 0} (t : Table X) (byte : ℕ) (s : Site X) (joined : Bool) → t.hold s.state < 256 → held_if (left_hold t byte s) 254 joined ≡ false
+rest_one : {X : Type 0} (t : Table X) (byte : ℕ) (s : Site X) (joined : Bool) → t.hold s.state < 256
+    → held_if (left_hold t byte s) 254 joined ≡ false
 rest_one t byte s true lt = rest_short (is_named byte s) (has_heard (t.answer s.state (Start (is_reading byte)))) (t.hold s.state) lt
 rest_one t byte s false lt = refl
 
@@ -116,14 +109,16 @@ rest_all : {X : Type 0} (t : Table X) (byte : ℕ) (ss : List (Site X)) → AllB
     → some_one (held (started t byte) (left_hold t byte) 254) ss ≡ false
 rest_all t byte [] all = refl
 rest_all t byte (s ∷ ss) all =
-    or_from (held (started t byte) (left_hold t byte) 254 s) _ (rest_one t byte s (started t byte s).joined all.0) (rest_all t byte ss all.1)
+    or_from (held (started t byte) (left_hold t byte) 254 s) _ (rest_one t byte s (started t byte s).joined all.0)
+    (rest_all t byte ss all.1)
 
 pub slow_frees : {X : Type 0} (t : Table X) (mask : Mask X) (byte : ℕ) (ss : List (Site X)) (c : Counts)
     → AllByRecursion (λ (s : Site X). IsByte (t.hold s.state)) ss
     → slow_stop t mask (late_bus t byte ss c)
     ≡ (
       true,
-      free (rejoin mask (map (stop_site t) (map (started t byte) ss))) (one_flip (cond (some_one (stays t byte LOOKS) ss) (one_edge c) (one_flip c))),
+      free (rejoin mask (map (stop_site t) (map (started t byte) ss)))
+          (one_flip (cond (some_one (stays t byte LOOKS) ss) (one_edge c) (one_flip c))),
     )
 slow_frees t mask byte ss c all =
     stop_after_slow t mask byte ss c (rest_all t byte ss all) (some_one (stays t byte LOOKS) ss) refl
@@ -140,7 +135,8 @@ out_sees t s = record {
   holds = out_holds s.addr s.joined s.heard s.state;
 }
 
-quiet_by : {X : Type 0} (t : Table X) (s : Site X) (heard : Bool) → heard ≡ false → IsQuiet t s.state → QuietStays t (record s { heard = heard })
+quiet_by : {X : Type 0} (t : Table X) (s : Site X) (heard : Bool) → heard ≡ false → IsQuiet t s.state
+    → QuietStays t (record s { heard = heard })
 quiet_by t s true is quiet = cc
 quiet_by t s false is quiet = record {
   other = λ v level apart. quiet_last t v level s.addr s.joined s.state quiet apart;

@@ -1,22 +1,15 @@
 -- What a start comes to on the wires is what it comes to in the world of bytes: who is Slow, who acknowledges, who is in the message.
-use Rattle.std.proofs.Common.{◌≡◌, ◌<◌, ℕ, ◌-◌, ◌/◌, Bool, true, false, cond, List, [], ◌∷◌, ◌++◌, map, refl, ap, sym, ◌∙◌, arith, inl, inr}
-use Rattle.std.specs.Prelude.{◌==◌, ◌&&◌, ◌||◌, not, nat_lt}
-use Rattle.std.proofs.lemmas.Bool.Decides.{nat_tests}
+use Rattle.wire_spec.proofs.Cited.{◌≡◌, ◌<◌, ℕ, ◌-◌, ◌/◌, Bool, true, false, cond, List, [], ◌∷◌, ◌++◌, map, refl, ap, sym, ◌∙◌, arith, inl}
+use Rattle.wire_spec.proofs.Cited.{inr, ◌==◌, ◌&&◌, ◌||◌, not, nat_lt, nat_tests, Answer, Nothing, Table, BoardView, ChipView, chip_table}
+use Rattle.wire_spec.proofs.Cited.{TargetState, state_table, IsFairTable, IsQuiet, World, is_ack, is_slow, has_heard, some_answer}
+use Rattle.wire_spec.proofs.Cited.{start_chips, start_devices, Mode, Out, site_of, Site, is_named, is_reading, stands, some_one, hearing}
+use Rattle.wire_spec.proofs.Cited.{at, answers_so, answer_by, stays_if, stays, NodeState, Chip, Device, node_table, both, world_by}
+use Rattle.wire_spec.proofs.Cited.{AreSites}
 use Rattle.i2c_base.specs.declared.event.Event.TheVariants as event
-use Rattle.i2c_base.specs.declared.event.Answer.{Answer}
-use Rattle.i2c_base.specs.declared.event.Answer.TheVariants.{Byte, Nothing}
-use Rattle.i2c_base.specs.Table.{Table}
-use Rattle.i2c_base.specs.Board.{BoardView}
-use Rattle.i2c_spec.specs.Chips.{ChipView, chip_table}
-use Rattle.i2c_spec.specs.Targets.{TargetState, state_table, IsFairTable, IsStartAnswer, IsAckOrNack, IsQuiet}
+use Rattle.i2c_base.specs.declared.event.Answer.TheVariants.{Byte}
+use Rattle.i2c_spec.specs.Targets.{IsStartAnswer, IsAckOrNack}
 use Rattle.i2c_spec.specs.Targets.RegsDevice.{is_too_long}
-use Rattle.i2c_spec.specs.World.{World, is_ack, is_slow, has_heard, answer, some_answer, start_chips, start_devices}
-use Rattle.wire_spec.specs.declared.mode.Mode.{Mode}
-use Rattle.wire_spec.specs.declared.mode.Mode.TheVariants.{Out}
-use Rattle.wire_spec.specs.Wires.{site_of, Site, is_named, is_reading, stands}
-use Rattle.wire_spec.specs.Roots.{some_one, hearing, at}
-use Rattle.wire_spec.specs.Started.{answers_so, answer_by, stays_if, stays}
-use Rattle.wire_spec.specs.Sites.{NodeState, Chip, Device, node_table, both, world_by, AreSites}
+use Rattle.i2c_spec.specs.World.{answer}
 use Rattle.wire_spec.proofs.AckClock.{slows, slows_if, acknowledges_if, acknowledges, or_left, or_right}
 use Rattle.wire_spec.proofs.WorldLemmas.{world_answers}
 
@@ -91,7 +84,8 @@ module _ (c : IsFairTable chip_table) (d : IsFairTable state_table) where
   node_sends_last (Chip y) = c.sends_last y
   node_sends_last (Device y) = d.sends_last y
 
-  node_starts : (x : NodeState) (reading : Bool) → IsStartAnswer (is_too_long (node_table.hold x)) (node_table.answer x (event.Start reading))
+  node_starts : (x : NodeState) (reading : Bool) → IsStartAnswer (is_too_long (node_table.hold x))
+      (node_table.answer x (event.Start reading))
   node_starts (Chip y) reading = c.starts y reading
   node_starts (Device y) reading = d.starts y reading
 
@@ -140,4 +134,5 @@ out_if m s h is no_one =
 pub all_out : {X : Type 0} (m : Mode) (ss : List (Site X)) → some_one hearing ss ≡ false → map (at m) ss ≡ map (at Out) ss
 all_out m [] none = refl
 all_out m (s ∷ ss) none =
-    ap (λ b. b ∷ map (at m) ss) (out_if m s (hearing s) refl (or_left _ _ none)) ∙ ap (λ bs. at Out s ∷ bs) (all_out m ss (or_right _ _ none))
+    ap (λ b. b ∷ map (at m) ss) (out_if m s (hearing s) refl (or_left _ _ none)) ∙ ap (λ bs. at Out s ∷ bs)
+    (all_out m ss (or_right _ _ none))

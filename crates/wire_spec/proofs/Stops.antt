@@ -1,18 +1,16 @@
 -- A stop on the wires.
-use Rattle.std.proofs.Common.{◌≡◌, ℕ, ◌+◌, Bool, true, false, cond, List, [], ◌∷◌, map, refl, ap, sym, ◌∙◌}
-use Rattle.std.specs.Prelude.{not}
-use Rattle.i2c_base.specs.Table.{Table}
-use Rattle.wire_spec.specs.Wires.{Site, Bit, fall, finish}
-use Rattle.wire_spec.specs.Roots.{some_one, pulls_line, where_joined, stop_site}
-use Rattle.wire_spec.specs.Bus.{Mask, Counts, one_flip, Bus, holds_line, sda_level, each, edge, finishes, rejoin_from, rejoined, pulled, bus_of}
-use Rattle.wire_spec.specs.Calls.{released, joined_from, rejoin}
+use Rattle.wire_spec.proofs.Cited.{◌≡◌, ℕ, ◌+◌, Bool, true, false, cond, List, [], ◌∷◌, map, refl, ap, sym, ◌∙◌, not, Table, Site, Bit}
+use Rattle.wire_spec.proofs.Cited.{fall, finish, some_one, pulls_line, where_joined, stop_site, Mask, Counts, one_flip, Bus, holds_line}
+use Rattle.wire_spec.proofs.Cited.{sda_level, each, edge, finishes, bus_of, released, joined_from, rejoin}
+use Rattle.wire_spec.specs.Bus.{rejoin_from, rejoined, pulled}
 use Rattle.wire_spec.proofs.Roots.{map_step, some_map, no_one, map_map}
 
 sites_same : {X : Type 0} (ss : List (Site X)) → map {A = Bit X} (λ (c : Bit X). c.site) (map released ss) ≡ ss
 sites_same [] = refl
 sites_same (s ∷ ss) = ap (λ xs. s ∷ xs) (sites_same ss)
 
-rejoin_one : {X : Type 0} (f : ℕ → Bool) (k : ℕ) (ss : List (Site X)) → rejoin_from f k (map released ss) ≡ map released (joined_from f k ss)
+rejoin_one : {X : Type 0} (f : ℕ → Bool) (k : ℕ) (ss : List (Site X)) → rejoin_from f k (map released ss) ≡ map released
+    (joined_from f k ss)
 rejoin_one f k [] = refl
 rejoin_one f k (s ∷ ss) = ap (λ bs. released (record s { joined = f k; heard = false }) ∷ bs) (rejoin_one f (k + 1) ss)
 

@@ -1,29 +1,26 @@
 -- What the sites of a root come to in a call is what its world of bytes does.
-use Rattle.std.proofs.Common.{◌≡◌, ℕ, ◌+◌, ◌<◌, ◌≤◌, Bool, true, false, cond, List, [], ◌∷◌, ◌++◌, map, Option, Some, None, refl, ap, sym, ◌∙◌, arith, bit_and}
-use Rattle.std.specs.Prelude.{◌==◌, ◌&&◌, ◌||◌, if◌then◌else◌}
+use Rattle.wire_spec.proofs.Cited.{◌≡◌, ℕ, ◌+◌, ◌<◌, ◌≤◌, Bool, true, false, cond, List, [], ◌∷◌, ◌++◌, map, Option, Some, None, refl, ap}
+use Rattle.wire_spec.proofs.Cited.{sym, ◌∙◌, arith, ◌==◌, ◌&&◌, ◌||◌, if◌then◌else◌, nat_tests, Node, Answer, Nothing, BoardView, Table}
+use Rattle.wire_spec.proofs.Cited.{ChipView, chip_table, TargetState, state_table, IsFairTable, World, some_answer, is_ack, has_heard}
+use Rattle.wire_spec.proofs.Cited.{start_chips, start_devices, takes, gives, joins_chip, joins_device, site_of, Site, hears, other}
+use Rattle.wire_spec.proofs.Cited.{some_one, hearing, put_site, acks, get_site, sent_by, and_all, start_site, stop_site, answers_so}
+use Rattle.wire_spec.proofs.Cited.{NodeState, Chip, Device, node_table, site_with, both, devices_in, names_of, states_of, world_by, Tells}
+use Rattle.wire_spec.proofs.Cited.{AreSites, and-true}
+use Rattle.std.proofs.Common.{bit_and}
 use Rattle.std.specs.List.{list_any}
-use Rattle.std.proofs.lemmas.Bool.Decides.{nat_tests}
 use Rattle.std.proofs.lemmas.Grind.{common_steps}
 use Rattle.std.proofs.lemmas.List.Folds.{list_any-append}
-use Rattle.i2c_base.specs.declared.ids.Node.{Node}
 use Rattle.i2c_base.specs.declared.ids.Node.TheVariants as node
 use Rattle.i2c_base.specs.declared.event.Event.{Event}
 use Rattle.i2c_base.specs.declared.event.Event.TheVariants as event
-use Rattle.i2c_base.specs.declared.event.Answer.{Answer}
-use Rattle.i2c_base.specs.declared.event.Answer.TheVariants.{Nothing}
 use Rattle.i2c_base.specs.declared.port.PortCall.TheVariants as call
-use Rattle.i2c_base.specs.Board.{BoardView}
-use Rattle.i2c_base.specs.Table.{Table, byte_of}
-use Rattle.i2c_spec.specs.Chips.{ChipView, chip_table}
-use Rattle.i2c_spec.specs.Targets.{TargetState, state_table, IsFairTable}
-use Rattle.i2c_spec.specs.World.{World, feed, given, answers, answer_with, some_answer, is_ack, has_heard, heard_of, start_event, start_chips, start_devices, stop_event, to_chips, to_devices, is_chip, is_device, after, takes, gives, and_of, joins_chip, joins_device, chip_start, device_start}
-use Rattle.wire_spec.specs.Wires.{site_of, Site, hears, other}
-use Rattle.wire_spec.specs.Roots.{some_one, hearing, put_site, acks, get_site, sent_by, and_all, start_site, stop_site}
-use Rattle.wire_spec.specs.Started.{answers_so}
-use Rattle.wire_spec.specs.Sites.{NodeState, Chip, Device, node_table, site_with, both, chips_in, devices_in, names_of, states_of, world_by, Tells, AreSites}
+use Rattle.i2c_base.specs.Table.{byte_of}
+use Rattle.i2c_spec.specs.World.{feed, given, answers, answer_with, heard_of, start_event, stop_event, to_chips, to_devices, is_chip}
+use Rattle.i2c_spec.specs.World.{is_device, after, and_of, chip_start, device_start}
+use Rattle.wire_spec.specs.Sites.{chips_in}
 use Rattle.wire_spec.proofs.Roots.{map_map, some_map}
 use Rattle.wire_spec.proofs.ByteLemmas.{and_all_byte}
-use mathlib.Core.Bool.{and-false, and-true, or-false}
+use mathlib.Core.Bool.{and-false, or-false}
 
 -- ---- the chips and the devices of both are those
 pub chips_both : (cs : List (Site ChipView)) (ds : List (Site TargetState)) → chips_in (both cs ds) ≡ cs
@@ -41,13 +38,15 @@ pub feed_sites : {X : Type 0} (t : Table X) (f : ℕ → Option Event) (g : Site
     → feed t f k (states_of ss) ≡ map (λ s. given t (g s) s.state) ss
 feed_sites t f g k [] is = refl
 feed_sites t f g k (s ∷ ss) is =
-    ap (λ o. given t o s.state ∷ feed t f (k + 1) (states_of ss)) is.0 ∙ ap (λ xs. given t (g s) s.state ∷ xs) (feed_sites t f g (k + 1) ss is.1)
+    ap (λ o. given t o s.state ∷ feed t f (k + 1) (states_of ss)) is.0 ∙ ap (λ xs. given t (g s) s.state ∷ xs)
+    (feed_sites t f g (k + 1) ss is.1)
 
 abbrev pub told : {X : Type 0} → Table X → (Site X → Option Event) → ℕ → List (Site X) → List (ℕ × Answer)
 told t g k [] = []
 told t g k (s ∷ ss) = answer_with t (g s) k s.state (told t g (k + 1) ss)
 
-pub answers_sites : {X : Type 0} (t : Table X) (f : ℕ → Option Event) (g : Site X → Option Event) (k : ℕ) (ss : List (Site X)) → Tells f g k ss
+pub answers_sites : {X : Type 0} (t : Table X) (f : ℕ → Option Event) (g : Site X → Option Event) (k : ℕ) (ss : List (Site X))
+    → Tells f g k ss
     → answers t f k (states_of ss) ≡ told t g k ss
 answers_sites t f g k [] is = refl
 answers_sites t f g k (s ∷ ss) is =
@@ -164,7 +163,8 @@ pub chips_hear : (b : BoardView) (r : ℕ) (busy : Bool) (cs : List (Site ChipVi
 chips_hear b r busy cs ds =
     hears_tell is_chip node.Chip (λ m k. refl) (λ m. list_any (is_chip m) (world_by b r busy cs ds).hearing) 0 cs
     (λ m le. list_any-append (is_chip m) (names_of node.Chip 0 cs) (names_of node.Device 0 ds)
-    ∙ (ap (λ x. list_any (is_chip m) (names_of node.Chip 0 cs) || x) (other_names (is_chip m) node.Device 0 ds (λ j le. refl)) ∙ or-false _))
+    ∙ (ap (λ x. list_any (is_chip m) (names_of node.Chip 0 cs) || x) (other_names (is_chip m) node.Device 0 ds (λ j le. refl))
+    ∙ or-false _))
 
 pub devices_hear : (b : BoardView) (r : ℕ) (busy : Bool) (cs : List (Site ChipView)) (ds : List (Site TargetState))
     → Tells (λ m. list_any (is_device m) (world_by b r busy cs ds).hearing) hearing 0 ds
@@ -179,7 +179,8 @@ sent_if e s = if hearing s then Some e else None
 abbrev pub with : BoardView → ℕ → Bool → List ChipView → List TargetState → List Node → World
 with b r busy cs ds hs = record { board = b; root = r; chips = cs; devices = ds; hearing = hs; busy = busy }
 
-pub world_ap : (b : BoardView) (r : ℕ) (busy : Bool) (cs cs' : List ChipView) (ds ds' : List TargetState) (hs hs' : List Node) → cs ≡ cs' → ds ≡ ds'
+pub world_ap : (b : BoardView) (r : ℕ) (busy : Bool) (cs cs' : List ChipView) (ds ds' : List TargetState) (hs hs' : List Node) → cs ≡ cs'
+    → ds ≡ ds'
     → hs ≡ hs' → with b r busy cs ds hs ≡ with b r busy cs' ds' hs'
 world_ap b r busy cs cs' ds ds' hs hs' c d h =
     ap (λ x. with b r busy x ds hs) c ∙ (ap (λ x. with b r busy cs' x hs) d ∙ ap (λ x. with b r busy cs' ds' x) h)
@@ -189,13 +190,15 @@ tells_two : {X A B C : Type 0} (F : A → B → C) (f : ℕ → A) (f' : ℕ →
 tells_two F f f' g g' k [] is is' = tt
 tells_two F f f' g g' k (s ∷ ss) is is' = (ap (λ x. F x (f' k)) is.0 ∙ ap (F (g s)) is'.0, tells_two F f f' g g' (k + 1) ss is.1 is'.1)
 
-pub chips_start : (b : BoardView) (r : ℕ) (cs : List (Site ChipView)) (ds : List (Site TargetState)) → AreSites b r cs ds → (a : ℕ) (reading : Bool)
+pub chips_start : (b : BoardView) (r : ℕ) (cs : List (Site ChipView)) (ds : List (Site TargetState)) → AreSites b r cs ds
+    → (a : ℕ) (reading : Bool)
     → a < 128
     → Tells (chip_start (world_by b r false cs ds) a reading) (λ s. start_event s.joined (a == s.addr) reading) 0 cs
 chips_start b r cs ds is a reading lt =
     tells_two (λ j h. start_event j h reading) _ _ (λ s. s.joined) (λ s. a == s.addr) 0 cs is.chips_joined (is.addresses.chips_at a lt)
 
-pub devices_start : (b : BoardView) (r : ℕ) (cs : List (Site ChipView)) (ds : List (Site TargetState)) → AreSites b r cs ds → (a : ℕ) (reading : Bool)
+pub devices_start : (b : BoardView) (r : ℕ) (cs : List (Site ChipView)) (ds : List (Site TargetState)) → AreSites b r cs ds
+    → (a : ℕ) (reading : Bool)
     → a < 128
     → Tells (device_start (world_by b r false cs ds) a reading) (λ s. start_event s.joined (a == s.addr) reading) 0 ds
 devices_start b r cs ds is a reading lt =
@@ -208,7 +211,8 @@ put_state t byte a true true x = refl
 put_state t byte a true false x = refl
 put_state t byte a false e x = refl
 
-put_hears : {X : Type 0} (t : Table X) (byte a : ℕ) (j e : Bool) (x : X) → hearing (put_site t byte (site_of a j e x)) ≡ hearing (site_of a j e x)
+put_hears : {X : Type 0} (t : Table X) (byte a : ℕ) (j e : Bool) (x : X) → hearing (put_site t byte (site_of a j e x)) ≡ hearing
+    (site_of a j e x)
 put_hears t byte a true true x = refl
 put_hears t byte a true false x = refl
 put_hears t byte a false e x = refl
@@ -218,7 +222,8 @@ states_same : {X : Type 0} (F : Site X → Site X) (v : Site X → X) → ((s : 
 states_same F v is [] = refl
 states_same F v is (s ∷ ss) = ap (λ x. x ∷ map v ss) (is s) ∙ ap (λ xs. (F s).state ∷ xs) (states_same F v is ss)
 
-names_same : {X : Type 0} (F : Site X → Site X) (name : ℕ → Node) → ((s : Site X) → hearing (F s) ≡ hearing s) → (k : ℕ) (ss : List (Site X))
+names_same : {X : Type 0} (F : Site X → Site X) (name : ℕ → Node) → ((s : Site X) → hearing (F s) ≡ hearing s)
+    → (k : ℕ) (ss : List (Site X))
     → names_of name k (map F ss) ≡ names_of name k ss
 names_same F name is k [] = refl
 names_same F name is k (s ∷ ss) =
@@ -235,7 +240,8 @@ module _ (b : BoardView) (r : ℕ) (busy : Bool) (cs : List (Site ChipView)) (ds
   devices_sent : (e : Event) → Tells (to_devices here e) (sent_if e) 0 ds
   devices_sent e = tells_with (λ h. if h then Some e else None) _ hearing 0 ds (devices_hear b r busy cs ds)
 
-  pub world_put : (byte : ℕ) → world_by b r busy (map (put_site chip_table byte) cs) (map (put_site state_table byte) ds) ≡ after here (call.Put byte)
+  pub world_put : (byte : ℕ) → world_by b r busy (map (put_site chip_table byte) cs) (map (put_site state_table byte) ds) ≡ after here
+      (call.Put byte)
   world_put byte =
       sym (world_ap b r busy _ _ _ _ _ _
       (feed_sites chip_table (to_chips here (event.Put byte)) (sent_if (event.Put byte)) 0 cs (chips_sent (event.Put byte))
@@ -298,7 +304,8 @@ and_told t fair k [] rest ns is = is
 and_told t fair k (s ∷ ss) rest ns is =
     let ih : and_of (told t (sent_if (event.Get true)) (k + 1) ss ++ rest) ≡ and_all (map (sent_by t) ss ++ ns) =
     and_told t fair (k + 1) ss rest ns is in
-    let small : and_of (told t (sent_if (event.Get true)) (k + 1) ss ++ rest) < 256 = omega (arith, ih, and_all_byte (map (sent_by t) ss ++ ns)) in
+    let small : and_of (told t (sent_if (event.Get true)) (k + 1) ss ++ rest) < 256 = omega
+    (arith, ih, and_all_byte (map (sent_by t) ss ++ ns)) in
     ap and_of (with_append t (sent_if (event.Get true) s) k s.state (told t (sent_if (event.Get true)) (k + 1) ss) rest)
     ∙ (and_one_more t fair k s.addr s.joined s.heard s.state (told t (sent_if (event.Get true)) (k + 1) ss ++ rest) small
     ∙ ap (bit_and (sent_by t s)) ih)
@@ -316,12 +323,14 @@ module _ (b : BoardView) (r : ℕ) (busy : Bool) (cs : List (Site ChipView)) (ds
   abbrev there : World
   there = world_by b r busy cs ds
 
-  pub world_get : (ack : Bool) → world_by b r busy (map (get_site chip_table ack) cs) (map (get_site state_table ack) ds) ≡ after there (call.Get ack)
+  pub world_get : (ack : Bool) → world_by b r busy (map (get_site chip_table ack) cs) (map (get_site state_table ack) ds) ≡ after there
+      (call.Get ack)
   world_get ack =
       sym (world_ap b r busy _ _ _ _ _ _
       (feed_sites chip_table (to_chips there (event.Get ack)) (sent_if (event.Get ack)) 0 cs (chips_sent b r busy cs ds (event.Get ack))
       ∙ states_same (get_site chip_table ack) _ (λ s. get_state chip_table ack s.addr s.joined s.heard s.state) cs)
-      (feed_sites state_table (to_devices there (event.Get ack)) (sent_if (event.Get ack)) 0 ds (devices_sent b r busy cs ds (event.Get ack))
+      (feed_sites state_table (to_devices there (event.Get ack)) (sent_if (event.Get ack)) 0 ds
+      (devices_sent b r busy cs ds (event.Get ack))
       ∙ states_same (get_site state_table ack) _ (λ s. get_state state_table ack s.addr s.joined s.heard s.state) ds)
       (ap (λ ns. ns ++ names_of node.Device 0 ds) (sym (names_same (get_site chip_table ack) node.Chip
       (λ s. get_hears chip_table ack s.addr s.joined s.heard s.state) 0 cs))
@@ -359,7 +368,8 @@ start_heard t fair name reading k a true e false x rest =
     ap (λ z. if has_heard z then name k ∷ heard_of name rest else heard_of name rest) (fair.other x)
 start_heard t fair name reading k a false e h x rest = refl
 
-start_test : {X : Type 0} (t : Table X) → IsFairTable t → (test : Answer → Bool) → test Nothing ≡ false → (reading : Bool) (j h : Bool) (x : X)
+start_test : {X : Type 0} (t : Table X) → IsFairTable t → (test : Answer → Bool) → test Nothing ≡ false
+    → (reading : Bool) (j h : Bool) (x : X)
     → test_of t test (start_event j h reading) x ≡ (j && (h && test (t.answer x (event.Start reading))))
 start_test t fair test no_answer reading true true x = refl
 start_test t fair test no_answer reading true false x = ap test (fair.other x) ∙ no_answer
@@ -381,18 +391,22 @@ module _ (b : BoardView) (r : ℕ) (busy : Bool) (cs : List (Site ChipView)) (ds
   before = world_by b r busy cs ds
 
   pub world_start : (a : ℕ) (reading : Bool) → a < 128
-      → world_by b r true (map (start_site chip_table a reading) cs) (map (start_site state_table a reading) ds) ≡ after before (call.Start a reading)
+      → world_by b r true (map (start_site chip_table a reading) cs) (map (start_site state_table a reading) ds) ≡ after before
+      (call.Start a reading)
   world_start a reading lt =
       sym (world_ap b r true _ _ _ _ _ _
       (feed_sites chip_table (chip_start before a reading) (start_if a reading) 0 cs (chips_start b r cs ds is a reading lt)
-      ∙ states_same (start_site chip_table a reading) _ (λ s. start_state chip_table reading s.addr s.joined s.heard (a == s.addr) s.state) cs)
+      ∙ states_same (start_site chip_table a reading) _ (λ s. start_state chip_table reading s.addr s.joined s.heard
+      (a == s.addr) s.state) cs)
       (feed_sites state_table (device_start before a reading) (start_if a reading) 0 ds (devices_start b r cs ds is a reading lt)
-      ∙ states_same (start_site state_table a reading) _ (λ s. start_state state_table reading s.addr s.joined s.heard (a == s.addr) s.state) ds)
+      ∙ states_same (start_site state_table a reading) _ (λ s. start_state state_table reading s.addr s.joined s.heard
+      (a == s.addr) s.state) ds)
       (ap (λ xs. heard_of node.Chip xs ++ heard_of node.Device (start_devices before a reading))
       (answers_sites chip_table _ (start_if a reading) 0 cs (chips_start b r cs ds is a reading lt))
       ∙ (ap (λ ys. heard_of node.Chip (told chip_table (start_if a reading) 0 cs) ++ heard_of node.Device ys)
       (answers_sites state_table _ (start_if a reading) 0 ds (devices_start b r cs ds is a reading lt))
-      ∙ (ap (λ ns. ns ++ heard_of node.Device (told state_table (start_if a reading) 0 ds)) (heard_names chip_table chips node.Chip a reading 0 cs)
+      ∙ (ap (λ ns. ns ++ heard_of node.Device (told state_table (start_if a reading) 0 ds))
+      (heard_names chip_table chips node.Chip a reading 0 cs)
       ∙ ap (λ ns. names_of node.Chip 0 (map (start_site chip_table a reading) cs) ++ ns)
       (heard_names state_table devices node.Device a reading 0 ds)))))
 
@@ -401,7 +415,8 @@ module _ (b : BoardView) (r : ℕ) (busy : Bool) (cs : List (Site ChipView)) (ds
       → some_one (answers_so node_table test a reading) (both cs ds)
       ≡ some_answer test (start_chips before a reading ++ start_devices before a reading)
   world_answers test no_answer a reading lt =
-      some_both (answers_so node_table test a reading) (answers_so chip_table test a reading) (answers_so state_table test a reading) (λ s. refl)
+      some_both (answers_so node_table test a reading) (answers_so chip_table test a reading) (answers_so state_table test a reading)
+      (λ s. refl)
       (λ s. refl) cs ds
       ∙ sym (list_any-append (λ z. test z.1) (start_chips before a reading) (start_devices before a reading)
       ∙ (ap (λ z. z || some_answer test (start_devices before a reading))
@@ -426,7 +441,8 @@ pub no_names : {X : Type 0} (F : Site X → Site X) (name : ℕ → Node) → ((
     → names_of name k (map F ss) ≡ []
 no_names F name quiet k [] = refl
 no_names F name quiet k (s ∷ ss) =
-    ap (λ z. if z then name k ∷ names_of name (k + 1) (map F ss) else names_of name (k + 1) (map F ss)) (quiet s) ∙ no_names F name quiet (k + 1) ss
+    ap (λ z. if z then name k ∷ names_of name (k + 1) (map F ss) else names_of name (k + 1) (map F ss)) (quiet s)
+    ∙ no_names F name quiet (k + 1) ss
 
 module _ (b : BoardView) (r : ℕ) (busy : Bool) (cs : List (Site ChipView)) (ds : List (Site TargetState)) (is : AreSites b r cs ds) where
   abbrev until : World

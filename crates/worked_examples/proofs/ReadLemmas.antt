@@ -17,7 +17,8 @@ none_rose ps still =
     omega (arith, sum_by-le (λ (p : BitPortView). p.counts.edges) 0 ps none)
 
 -- where it rose so often on the first of them alone, it rose so often on all
-pub edges_of_one : (ps : List BitPortView) (old new : BitPortView) (n : ℕ) → 0 < length ps → All IsStill ps → n < 256 → old ≡ get_or ps 0 old
+pub edges_of_one : (ps : List BitPortView) (old new : BitPortView) (n : ℕ) → 0 < length ps → All IsStill ps → n < 256
+    → old ≡ get_or ps 0 old
     → new.counts.edges ≡ old.counts.edges + n → edges_of (set ps 0 new) ≡ n
 edges_of_one ps old new n some still small first rose =
     let was = ap (λ c. c.edges) (All-get_or IsStill ps 0 old some still) in

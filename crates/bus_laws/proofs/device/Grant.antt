@@ -1,27 +1,18 @@
 -- The address of a caller's message leads to the device that its bus grants. The inductions go over hops, and over the
 -- devices of the board.
-use Rattle.std.proofs.Common.{◌≡◌, ℕ, zero, suc, ◌+◌, Bool, true, false, cond, not, ◌&&◌, ◌||◌, List, [], ◌∷◌, Option, Some, None, eqb, refl, sym, ◌∙◌, ap, subst, ◌⊎◌, inl, inr, arith, add-zero, zero-add}
-use Rattle.std.specs.Prelude.{slice_get, unwrap_or}
-use Rattle.std.specs.List.{list_any, list_all, position_from}
-use Rattle.std.specs.Option.{option_map}
-use Rattle.std.proofs.lemmas.Bool.{eqb-true, eq-eqb, and_from}
-use Rattle.i2c_base.specs.declared.board.MuxSpec.{MuxSpec}
-use Rattle.i2c_base.specs.declared.ids.Node.{Node}
+use Rattle.bus_laws.proofs.Cited.{◌≡◌, ℕ, zero, suc, ◌+◌, Bool, true, false, cond, not, ◌&&◌, ◌||◌, List, [], ◌∷◌, Option, Some, None, eqb}
+use Rattle.bus_laws.proofs.Cited.{refl, sym, ◌∙◌, ap, subst, ◌⊎◌, inl, inr, arith, add-zero, zero-add, slice_get, unwrap_or, list_any}
+use Rattle.bus_laws.proofs.Cited.{list_all, option_map, eqb-true, eq-eqb, MuxSpec, Node, Grant, BoardView, DeviceView, Hop, hops, root_of}
+use Rattle.bus_laws.proofs.Cited.{of_device, is_below, is_on_path, is_aside, Crosses, IsAmongHops, IsOver, IsAlong, MayJoin, IsTree}
+use Rattle.bus_laws.proofs.Cited.{home_of, addr_of, has_address, some_chip, some_device, grant_of, named_of, granted_on, World, opens_hop}
+use Rattle.bus_laws.proofs.Cited.{is_joined, joins_device, LeadsTo, or-true, and_first, and_last, any_passes_from_place}
+use Rattle.std.specs.List.{position_from}
+use Rattle.std.proofs.lemmas.Bool.{and_from}
 use Rattle.i2c_base.specs.declared.ids.Node.TheVariants as node
-use Rattle.i2c_base.specs.declared.tree.Grant.{Grant}
 use Rattle.i2c_base.specs.declared.tree.Grant.TheVariants as grant
-use Rattle.i2c_base.specs.Board.{BoardView, DeviceView}
-use Rattle.i2c_spec.specs.Tree.{Hop, hops, root_of, of_device, is_below, is_on_path, is_aside, Crosses, IsAmongHops, IsOver, IsAlong, MayJoin}
-use Rattle.i2c_spec.specs.TreeFacts.{IsTree, home_of, addr_of}
-use Rattle.i2c_spec.specs.Grant.{has_address, some_chip, some_device, some_bound, named_by, grant_of, named_of}
-use Rattle.i2c_spec.specs.Flat.{granted_on}
-use Rattle.i2c_spec.specs.World.{World, opens_hop, is_joined, joins_device}
-use Rattle.bus_laws.specs.Alike.{LeadsTo}
+use Rattle.i2c_spec.specs.Grant.{some_bound, named_by}
 use Rattle.bus_laws.proofs.world.Reach.{aside_apart, address_is}
 use Rattle.bus_laws.proofs.world.Calls.{on_or_below, busy_below, busy_aside, no_chip}
-use Rattle.std.proofs.Math.Bool.{or-true}
-use Rattle.i2c_base.proofs.Booleans.{and_first, and_last}
-use Rattle.std.proofs.lemmas.Map.Keys.{any_passes_from_place}
 use Rattle.i2c_base.proofs.ListLemmas.{any_none}
 
 -- two buses over one bus lie along each other

@@ -1,14 +1,8 @@
 -- What a list of targets says where one of them alone has something to say. The inductions go over the list.
-use Rattle.std.proofs.Common.{◌≡◌, ℕ, suc, ◌+◌, Bool, true, false, cond, ◌||◌, List, [], ◌∷◌, Option, Some, None, refl, sym, ◌∙◌, ap, arith, add-zero, zero-add}
-use Rattle.std.specs.Prelude.{slice_get}
-use Rattle.std.specs.Option.{option_map}
-use Rattle.i2c_base.specs.declared.event.Event.{Event}
-use Rattle.i2c_base.specs.declared.event.Answer.{Answer}
-use Rattle.i2c_base.specs.declared.ids.Node.{Node}
-use Rattle.i2c_base.specs.Table.{Table}
-use Rattle.i2c_spec.specs.World.{given, feed, answers, answer_with, has_heard, heard_of, some_answer}
+use Rattle.bus_laws.proofs.Cited.{◌≡◌, ℕ, suc, ◌+◌, Bool, true, false, cond, ◌||◌, List, [], ◌∷◌, Option, Some, None, refl, sym, ◌∙◌, ap}
+use Rattle.bus_laws.proofs.Cited.{arith, add-zero, zero-add, slice_get, option_map, Event, Answer, Node, Table, given, feed, answers}
+use Rattle.bus_laws.proofs.Cited.{answer_with, has_heard, heard_of, some_answer, TargetState, state_table}
 use Rattle.bus_laws.proofs.world.Feed.{hears, feed-get, answers-one, heard-none, heard-one, some_answer-at, GivesOne}
-use Rattle.i2c_spec.specs.Targets.{TargetState, state_table}
 
 -- a target of the list, after its event
 pub fed-at : {X : Type 0} (t : Table X) (f : ℕ → Option Event) (xs : List X) (i : ℕ)

@@ -1,18 +1,11 @@
 -- Who hears a start whose address leads to one device, or to none. No induction.
-use Rattle.std.proofs.Common.{◌≡◌, ℕ, ◌+◌, Bool, true, false, cond, [], ◌∷◌, Option, Some, None, eqb, refl, sym, ◌∙◌, ap}
-use Rattle.std.specs.Prelude.{slice_get}
-use Rattle.std.specs.Option.{option_map_or}
-use Rattle.i2c_base.specs.declared.event.Event.{Event}
+use Rattle.bus_laws.proofs.Cited.{◌≡◌, ℕ, ◌+◌, Bool, true, false, cond, [], ◌∷◌, Option, Some, None, eqb, refl, sym, ◌∙◌, ap, slice_get}
+use Rattle.bus_laws.proofs.Cited.{option_map_or, Event, Answer, DeviceView, of_device, TargetState, state_table, state_answer, World}
+use Rattle.bus_laws.proofs.Cited.{joins_device, start_event, device_start, start_devices, has_heard, heard_of, answer_of, listening}
+use Rattle.bus_laws.proofs.Cited.{LeadsTo}
 use Rattle.i2c_base.specs.declared.event.Event.TheVariants as event
-use Rattle.i2c_base.specs.declared.event.Answer.{Answer}
 use Rattle.i2c_base.specs.declared.event.Answer.TheVariants as answer
 use Rattle.i2c_base.specs.declared.ids.Node.TheVariants as node
-use Rattle.i2c_base.specs.Board.{DeviceView}
-use Rattle.i2c_spec.specs.Tree.{of_device}
-use Rattle.i2c_spec.specs.Targets.{TargetState, state_table, state_answer}
-use Rattle.i2c_spec.specs.World.{World, joins_device, start_event, device_start, start_devices, has_heard, heard_of}
-use Rattle.i2c_spec.specs.Flat.{answer_of}
-use Rattle.bus_laws.specs.Alike.{listening, LeadsTo}
 use Rattle.bus_laws.proofs.world.Feed.{hears, heard-none}
 use Rattle.bus_laws.proofs.world.Reach.{start_heard, other_state}
 use Rattle.bus_laws.proofs.device.Hears.{heard-alone, heard-missing}

@@ -1,36 +1,17 @@
 -- What is known where a message or a line step comes next in a stepwise past: of which transfer it is, where its address
 -- leads, and what it decides.
-use Rattle.std.proofs.Common.{◌≡◌, ℕ, zero, suc, Bool, true, false, cond, not, List, [], ◌∷◌, Option, Some, sym, ◌∙◌, ap, subst, inl, inr}
+use Rattle.bus_laws.proofs.Cited.{◌≡◌, ℕ, zero, suc, Bool, true, false, cond, not, List, [], ◌∷◌, Option, Some, sym, ◌∙◌, ap, subst, inl}
+use Rattle.bus_laws.proofs.Cited.{inr, Entry, End, Errno, Cut, BoardView, TransferView, Hop, hops, root_of, addr_of_mux, is_absent, IsTree}
+use Rattle.bus_laws.proofs.Cited.{IsHop, IsPlainBoard, MessageView, hearers, granted_on, block_limit, Asks, Job, Call, Select, SwitchOff}
+use Rattle.bus_laws.proofs.Cited.{Off, off_bus, off_mux, off_kind, Act, Send, Shift, Settle, ActOutcome, Sent, Lined, Note, WalkTree, Then}
+use Rattle.bus_laws.proofs.Cited.{job_bus, job_purpose, message_of, chip_address, job_outcome, verdict_of, decides, after_job, first_act}
+use Rattle.bus_laws.proofs.Cited.{rest_of, message_cut, Now, current, now, talk_of, cut_of, IsNext, IsStepwise, InLocks, IsCall, CanSend}
+use Rattle.bus_laws.proofs.Cited.{MaySend, Runs, LinesAreLocked, CallerStands, Stands, AsksForMessages, EndsJob, IsDecided, GoesOn, Settles}
+use Rattle.bus_laws.proofs.Cited.{CallsOf, IsAsked, LeadsTo, IsControl}
 use Rattle.i2c_base.specs.declared.ids.LockId.TheVariants as lock
 use Rattle.i2c_base.specs.declared.ids.Node.TheVariants as node
-use Rattle.i2c_base.specs.declared.entry.Entry.{Entry}
-use Rattle.i2c_base.specs.declared.entry.End.{End}
 use Rattle.i2c_base.specs.declared.entry.Purpose.TheVariants as purpose
-use Rattle.i2c_base.specs.declared.errno.Errno.{Errno}
-use Rattle.i2c_base.specs.declared.reply.Cut.{Cut}
 use Rattle.i2c_base.specs.declared.reply.Cut.TheVariants as cut_at
-use Rattle.i2c_base.specs.Board.{BoardView}
-use Rattle.i2c_base.specs.Transfer.{TransferView}
-use Rattle.i2c_spec.specs.Tree.{Hop, hops, root_of, addr_of_mux, is_absent}
-use Rattle.i2c_spec.specs.TreeFacts.{IsTree, IsHop}
-use Rattle.i2c_spec.specs.Plain.{IsPlainBoard}
-use Rattle.i2c_spec.specs.Messages.{MessageView}
-use Rattle.i2c_spec.specs.World.{hearers}
-use Rattle.i2c_spec.specs.Flat.{granted_on, block_limit}
-use Rattle.i2c_spec.specs.History.{Asks}
-use Rattle.bus_spec.specs.Walk.{Job, Call, Select, SwitchOff, Off, off_bus, off_mux, off_kind, Act, Send, Shift, Settle, ActOutcome, Sent, Lined, Note, WalkTree, Then, job_bus, job_purpose, message_of, chip_address, job_outcome, verdict_of, decides}
-use Rattle.bus_spec.specs.Slots.{after_job}
-use Rattle.bus_spec.specs.Grammar.{first_act, rest_of}
-use Rattle.bus_spec.specs.Readings.{message_cut}
-use Rattle.bus_spec.specs.Past.{Now, current, now, talk_of, cut_of}
-use Rattle.bus_spec.specs.Stepwise.{IsNext, IsStepwise}
-use Rattle.bus_laws.specs.Runs.{InLocks, IsCall, CanSend, MaySend, Runs}
-use Rattle.bus_laws.specs.Lines.{LinesAreLocked}
-use Rattle.bus_laws.specs.Stands.{CallerStands, Stands}
-use Rattle.bus_laws.specs.Reach.{AsksForMessages}
-use Rattle.bus_laws.specs.Settles.{EndsJob, IsDecided, GoesOn, Settles}
-use Rattle.bus_laws.specs.Calls.{CallsOf, IsAsked}
-use Rattle.bus_laws.specs.Alike.{LeadsTo, IsControl}
 use Rattle.bus_laws.proofs.past.StandsFacts.{current-stands}
 use Rattle.bus_laws.proofs.past.StandsStep.{send_known}
 use Rattle.bus_laws.proofs.past.StandsEntries.{first_is}

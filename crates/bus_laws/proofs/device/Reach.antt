@@ -1,35 +1,18 @@
 -- Whom each message of a walk reaches: the device that its bus and address grant, its mux chip, or nobody. No induction.
-use Rattle.std.proofs.Common.{◌≡◌, ℕ, zero, suc, Bool, true, false, cond, not, List, [], ◌∷◌, ◌++◌, Option, Some, None, refl, sym, ◌∙◌, ap, subst, ◌⊎◌, inl, inr}
-use Rattle.std.specs.Prelude.{slice_get}
-use Rattle.i2c_base.specs.declared.board.MuxKind.{MuxKind}
+use Rattle.bus_laws.proofs.Cited.{◌≡◌, ℕ, zero, suc, Bool, true, false, cond, not, List, [], ◌∷◌, ◌++◌, Option, Some, None, refl, sym, ◌∙◌}
+use Rattle.bus_laws.proofs.Cited.{ap, subst, ◌⊎◌, inl, inr, slice_get, MuxKind, End, Purpose, LockId, Node, Grant, BoardView, TransferView}
+use Rattle.bus_laws.proofs.Cited.{Hop, hops, root_of, home_of_mux, addr_of_mux, is_absent, IsAmongHops, IsTree, IsHop, IsPlainBoard}
+use Rattle.bus_laws.proofs.Cited.{grant_of, named_of, TargetState, MessageView, World, start_devices, has_heard, heard_of, hearers}
+use Rattle.bus_laws.proofs.Cited.{answer_of, granted_on, Mark, Job, Call, Select, SwitchOff, off_bus, off_mux, off_kind, job_bus}
+use Rattle.bus_laws.proofs.Cited.{job_purpose, message_of, chip_address, is_gpio, Slots, MessageEntry, heard_list, starts, by_purpose}
+use Rattle.bus_laws.proofs.Cited.{IsOpenOn, IsMuxOf, MaySend, WorldTold, listening, LeadsTo, IsControl}
 use Rattle.i2c_base.specs.declared.event.Event.TheVariants as event
-use Rattle.i2c_base.specs.declared.entry.End.{End}
 use Rattle.i2c_base.specs.declared.entry.End.TheVariants as end
-use Rattle.i2c_base.specs.declared.entry.Purpose.{Purpose}
 use Rattle.i2c_base.specs.declared.entry.Purpose.TheVariants as purpose
-use Rattle.i2c_base.specs.declared.ids.LockId.{LockId}
-use Rattle.i2c_base.specs.declared.ids.Node.{Node}
 use Rattle.i2c_base.specs.declared.ids.Node.TheVariants as node
-use Rattle.i2c_base.specs.declared.tree.Grant.{Grant}
 use Rattle.i2c_base.specs.declared.tree.Grant.TheVariants as grant
-use Rattle.i2c_base.specs.Board.{BoardView}
-use Rattle.i2c_base.specs.Transfer.{TransferView}
-use Rattle.i2c_spec.specs.Tree.{Hop, hops, root_of, home_of_mux, addr_of_mux, is_absent, IsAmongHops}
-use Rattle.i2c_spec.specs.TreeFacts.{IsTree, IsHop}
-use Rattle.i2c_spec.specs.Plain.{IsPlainBoard}
-use Rattle.i2c_spec.specs.Grant.{grant_of, named_of}
-use Rattle.i2c_spec.specs.Targets.{TargetState}
-use Rattle.i2c_spec.specs.Messages.{MessageView}
-use Rattle.i2c_spec.specs.World.{World, start_devices, has_heard, heard_of, hearers}
-use Rattle.i2c_spec.specs.Flat.{answer_of, granted_on}
-use Rattle.bus_spec.specs.Walk.{Mark, Job, Call, Select, SwitchOff, off_bus, off_mux, off_kind, job_bus, job_purpose, message_of, chip_address, is_gpio}
-use Rattle.bus_spec.specs.Slots.{Slots}
-use Rattle.bus_spec.specs.Readings.{MessageEntry}
-use Rattle.bus_spec.specs.Tells.{HearsIn, heard_list}
-use Rattle.bus_spec.specs.Legal.{starts, start_failed, IsHeardBy, IsHeardByChip, by_purpose}
-use Rattle.bus_laws.specs.Runs.{IsOpenOn, IsMuxOf, MaySend}
-use Rattle.bus_laws.specs.Told.{WorldTold}
-use Rattle.bus_laws.specs.Alike.{listening, LeadsTo, IsControl}
+use Rattle.bus_spec.specs.Tells.{HearsIn}
+use Rattle.bus_spec.specs.Legal.{start_failed, IsHeardBy, IsHeardByChip}
 use Rattle.bus_laws.proofs.world.Reach.{world_of}
 use Rattle.bus_laws.proofs.world.Hears.{control_hearers}
 use Rattle.bus_laws.proofs.world.Law.{world-is, along_here, joined_here}

@@ -1,42 +1,32 @@
 -- A root's world and the flat world stay the same at the devices of the root: through a start, a byte, and a stop.
-use Rattle.std.proofs.Common.{◌≡◌, ℕ, ◌+◌, Bool, true, false, cond, ◌||◌, List, [], ◌++◌, Option, Some, None, eqb, refl, sym, ◌∙◌, ap, subst, mod-eq_of_lt}
-use Rattle.std.specs.Prelude.{bit_and, slice_get}
-use Rattle.std.specs.List.{list_any, list_all}
-use Rattle.std.specs.Option.{option_map}
-use Rattle.std.proofs.lemmas.Bool.{eqb-true, ne_eqb}
+use Rattle.bus_laws.proofs.Cited.{◌≡◌, ℕ, ◌+◌, Bool, true, false, cond, ◌||◌, List, [], ◌++◌, Option, Some, None, eqb, refl, sym, ◌∙◌, ap}
+use Rattle.bus_laws.proofs.Cited.{subst, bit_and, slice_get, list_any, list_all, option_map, eqb-true, ne_eqb, Event, Answer, PortCall}
+use Rattle.bus_laws.proofs.Cited.{Node, BoardView, DeviceView, IsByte, AreBytes, root_of, hops, of_device, ChipView, chip_table}
+use Rattle.bus_laws.proofs.Cited.{TargetState, HoldsBytes, IsQuiet, state_table, state_answer, MessageView, World, opens_hop, joins_device}
+use Rattle.bus_laws.proofs.Cited.{given, feed, answers, is_ack, is_slow, has_heard, start_event, device_start, start_chips, start_devices}
+use Rattle.bus_laws.proofs.Cited.{heard_of, hearers, some_answer, is_chip, is_device, to_chips, to_devices, takes, and_of, gives}
+use Rattle.bus_laws.proofs.Cited.{stop_event, after, FlatListener, is_member, put_named, flat_start, to_current, to_named, answer_of}
+use Rattle.bus_laws.proofs.Cited.{flat_after, flat_listener, world_listener, talk, is_it, IsOf, listening, Same, LeadsTo, ToldAlike}
+use Rattle.bus_laws.proofs.Cited.{IsFollowing, or-false, and_first}
+use Rattle.std.proofs.Common.{mod-eq_of_lt}
 use Rattle.std.proofs.lemmas.Grind.{and_numeral}
 use Rattle.std.proofs.lemmas.List.Elements.{recursion_from_All}
-use Rattle.i2c_base.specs.declared.event.Event.{Event}
 use Rattle.i2c_base.specs.declared.event.Event.TheVariants as event
-use Rattle.i2c_base.specs.declared.event.Answer.{Answer}
 use Rattle.i2c_base.specs.declared.event.Answer.TheVariants as answer
-use Rattle.i2c_base.specs.declared.port.PortCall.{PortCall}
 use Rattle.i2c_base.specs.declared.port.PortCall.TheVariants as call
-use Rattle.i2c_base.specs.declared.ids.Node.{Node}
 use Rattle.i2c_base.specs.declared.ids.Node.TheVariants as node
-use Rattle.i2c_base.specs.Board.{BoardView, DeviceView}
-use Rattle.i2c_base.specs.Bytes.{IsByte, AreBytes}
-use Rattle.i2c_spec.specs.Tree.{root_of, hops, of_device}
-use Rattle.i2c_spec.specs.Chips.{ChipView, chip_table}
-use Rattle.i2c_spec.specs.Targets.{TargetState, HoldsBytes, IsByteEvent, IsQuiet, state_table, state_answer}
-use Rattle.i2c_spec.specs.Messages.{MessageView}
+use Rattle.i2c_spec.specs.Targets.{IsByteEvent}
 use Rattle.i2c_base.specs.Table.{byte_of}
-use Rattle.i2c_spec.specs.World.{World, opens_hop, joins_device, given, feed, answers, is_ack, is_slow, has_heard, start_event, device_start, start_chips, start_devices, heard_of, hearers, some_answer, answer as world_answer, is_chip, is_device, to_chips, to_devices, hearing_answers, takes, and_of, gives, stop_event, after}
-use Rattle.i2c_spec.specs.Flat.{FlatListener, is_member, put_named, flat_start, to_current, to_named, answer_of, acknowledged, flat_after, flat_listener}
-use Rattle.i2c_spec.specs.Conversation.{world_listener, talk}
-use Rattle.bus_laws.specs.Alike.{IsOf, listening, Same, LeadsTo, ToldAlike}
+use Rattle.i2c_spec.specs.World.{answer as world_answer, hearing_answers}
+use Rattle.i2c_spec.specs.Flat.{acknowledged}
 use Rattle.bus_laws.proofs.world.Feed.{feed-same, unheard, some_answer-append}
 use Rattle.bus_laws.proofs.world.Control.{started-chips}
 use Rattle.bus_laws.proofs.device.Talk.{talk-alike}
 use Rattle.i2c_spec.proofs.StateLemmas.{stopped-quiet, after-bytes, sends-byte}
 use Rattle.bus_laws.proofs.device.Hears.{fed-at, map-alike, map-from, answers-quiet, answers-alone, one_answer, heard-missing, answer-alone}
-use Rattle.i2c_spec.proofs.MessageLemmas.{IsFollowing}
-use Rattle.i2c_spec.specs.Conversation.{is_it}
 use Rattle.i2c_spec.proofs.MessageLemmas.{is_it-some, is_it-at}
-use Rattle.std.proofs.Math.Bool.{or-false}
 use Rattle.bus_laws.proofs.world.Hears.{slow_is_heard, ack_is_heard}
 use Rattle.bus_laws.proofs.device.Leads.{answer_at, starts_at, only_hears, devices_heard}
-use Rattle.i2c_base.proofs.Booleans.{and_first}
 
 -- ANSWERS
 -- the AND of a byte and the idle wires

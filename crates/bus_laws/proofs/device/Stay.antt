@@ -1,28 +1,19 @@
 -- Which devices a message leaves alone: all of them, where it is a control message that finds the root's devices quiet;
 -- and those of other roots. The inductions go over the list of those who hear.
-use Rattle.std.proofs.Common.{◌≡◌, ℕ, zero, suc, ◌+◌, Bool, true, false, cond, ◌||◌, List, [], ◌∷◌, ◌++◌, map, Option, Some, None, eqb, refl, sym, ◌∙◌, ap, subst, zero-add, inl}
-use Rattle.std.proofs.lemmas.Bool.{eqb-true}
-use Rattle.std.specs.Prelude.{slice_get}
-use Rattle.std.specs.List.{list_any}
-use Rattle.std.specs.Option.{option_map}
-use Rattle.i2c_base.specs.declared.event.Event.{Event}
+use Rattle.bus_laws.proofs.Cited.{◌≡◌, ℕ, zero, suc, ◌+◌, Bool, true, false, cond, ◌||◌, List, [], ◌∷◌, ◌++◌, map, Option, Some, None, eqb}
+use Rattle.bus_laws.proofs.Cited.{refl, sym, ◌∙◌, ap, subst, zero-add, inl, eqb-true, slice_get, list_any, option_map, Event, Answer}
+use Rattle.bus_laws.proofs.Cited.{PortCall, Node, BoardView, DeviceView, Table, of_device, home_of_mux, addr_of_mux, MayJoin, IsTree}
+use Rattle.bus_laws.proofs.Cited.{IsPlainBoard, TargetState, HoldsBytes, IsQuiet, state_table, MessageView, World, is_joined, joins_device}
+use Rattle.bus_laws.proofs.Cited.{given, feed, answers, answer_with, has_heard, start_event, device_start, start_chips, start_devices}
+use Rattle.bus_laws.proofs.Cited.{heard_of, hearers, is_device, to_devices, stop_event, after, opening_world, FlatListener, idle, is_member}
+use Rattle.bus_laws.proofs.Cited.{put_named, answer_of, flat_start, to_current, to_named, flat_after, flat_listener, world_listener, talk}
+use Rattle.bus_laws.proofs.Cited.{is_it, IsOf, Same, IsControl, IsLater}
 use Rattle.i2c_base.specs.declared.event.Event.TheVariants as event
-use Rattle.i2c_base.specs.declared.event.Answer.{Answer}
-use Rattle.i2c_base.specs.declared.port.PortCall.{PortCall}
 use Rattle.i2c_base.specs.declared.port.PortCall.TheVariants as call
-use Rattle.i2c_base.specs.declared.ids.Node.{Node}
 use Rattle.i2c_base.specs.declared.ids.Node.TheVariants as node
-use Rattle.i2c_base.specs.Board.{BoardView, DeviceView}
-use Rattle.i2c_base.specs.Table.{Table}
-use Rattle.i2c_spec.specs.Tree.{of_device, home_of_mux, addr_of_mux, MayJoin}
-use Rattle.i2c_spec.specs.TreeFacts.{IsTree}
-use Rattle.i2c_spec.specs.Plain.{IsPlainBoard, IsPlainDevice}
-use Rattle.i2c_spec.specs.Targets.{TargetState, HoldsBytes, IsQuiet, state_table, opening_state}
-use Rattle.i2c_spec.specs.Messages.{MessageView}
-use Rattle.i2c_spec.specs.World.{World, is_joined, joins_device, given, feed, answers, answer_with, has_heard, start_event, device_start, start_chips, start_devices, heard_of, hearers, is_device, to_devices, stop_event, after, opening_world}
-use Rattle.i2c_spec.specs.Flat.{FlatListener, idle, is_member, put_named, answer_of, flat_start, to_current, to_named, flat_after, flat_listener}
-use Rattle.i2c_spec.specs.Conversation.{world_listener, talk}
-use Rattle.bus_laws.specs.Alike.{IsOf, Same, IsControl, IsUnnamed}
+use Rattle.i2c_spec.specs.Plain.{IsPlainDevice}
+use Rattle.i2c_spec.specs.Targets.{opening_state}
+use Rattle.bus_laws.specs.Alike.{IsUnnamed}
 use Rattle.bus_laws.proofs.world.TalkLaws.{talk-keeps}
 use Rattle.bus_laws.proofs.world.Feed.{hears, feed-same, heard-none, none-named}
 use Rattle.bus_laws.proofs.world.Reach.{control_alone, start_heard, other_state}
@@ -32,8 +23,6 @@ use Rattle.i2c_spec.proofs.StateLemmas.{opening-quiet, opening-bytes}
 use Rattle.bus_laws.proofs.device.Hears.{fed-at, map-same}
 use Rattle.bus_laws.proofs.device.Same.{joined_of, stop-same}
 use Rattle.bus_laws.proofs.device.Stops.{world-settled}
-use Rattle.i2c_spec.proofs.MessageLemmas.{IsLater}
-use Rattle.i2c_spec.specs.Conversation.{is_it}
 
 any_append : (test : Node → Bool) (xs ys : List Node) → list_any test xs ≡ false → list_any test ys ≡ false
     → list_any test (xs ++ ys) ≡ false

@@ -1,16 +1,12 @@
 -- How a message ends: with a stop, or a call that failed, where it is the last of its transfer, or didn't go through.
 -- The inductions go over the bytes of a write, and over the bytes that are left to read.
-use Rattle.std.proofs.Common.{◌≡◌, ℕ, zero, suc, ◌+◌, ◌-◌, Bool, true, false, cond, ◌||◌, List, [], ◌∷◌, length, Option, eqb, ltb, refl, ◌∙◌, inl, inr}
-use Rattle.i2c_base.specs.declared.event.Answer.{Answer}
+use Rattle.bus_laws.proofs.Cited.{◌≡◌, ℕ, zero, suc, ◌+◌, ◌-◌, Bool, true, false, cond, ◌||◌, List, [], ◌∷◌, length, Option, eqb, ltb, refl}
+use Rattle.bus_laws.proofs.Cited.{◌∙◌, inl, inr, Answer, PortCall, End, MessageView, World, FlatListener, idle, flat_listener, Listener}
+use Rattle.bus_laws.proofs.Cited.{world_listener, Said, TalkTold, is_it, silence, say, with_byte, told, call_then, ended, puts, gets}
+use Rattle.bus_laws.proofs.Cited.{gets_counted, by_answer, talk}
 use Rattle.i2c_base.specs.declared.event.Answer.TheVariants as answer
-use Rattle.i2c_base.specs.declared.port.PortCall.{PortCall}
 use Rattle.i2c_base.specs.declared.port.PortCall.TheVariants as call
-use Rattle.i2c_base.specs.declared.entry.End.{End}
 use Rattle.i2c_base.specs.declared.entry.End.TheVariants as end
-use Rattle.i2c_spec.specs.Messages.{MessageView}
-use Rattle.i2c_spec.specs.World.{World}
-use Rattle.i2c_spec.specs.Flat.{FlatListener, idle, flat_listener}
-use Rattle.i2c_spec.specs.Conversation.{Listener, world_listener, Said, TalkTold, is_it, silence, say, with_byte, told, call_then, ended, puts, gets, gets_counted, by_answer, talk}
 use Rattle.bus_laws.specs.Alike.{EndsTransfer}
 
 module _ {W : Type 0} (l : Listener W) (Q : W → Type 0) (stops : (u : W) → Q (l.after u call.Stop)) (faults : (u : W)

@@ -1,17 +1,12 @@
 -- One message over two listeners that answer alike. The inductions go over the bytes of a write, and over the bytes
 -- that are left to read.
-use Rattle.std.proofs.Common.{◌≡◌, ℕ, zero, suc, ◌+◌, ◌-◌, Bool, true, false, cond, ◌||◌, List, [], ◌∷◌, ◌++◌, length, Option, eqb, ltb, refl, ◌∙◌, ap, subst}
-use Rattle.std.specs.List.{AllByRecursion}
-use Rattle.i2c_base.specs.declared.event.Answer.{Answer}
+use Rattle.bus_laws.proofs.Cited.{◌≡◌, ℕ, zero, suc, ◌+◌, ◌-◌, Bool, true, false, cond, ◌||◌, List, [], ◌∷◌, ◌++◌, length, Option, eqb, ltb}
+use Rattle.bus_laws.proofs.Cited.{refl, ◌∙◌, ap, subst, AllByRecursion, Answer, PortCall, End, MessageView, Listener, Said, TalkTold, is_it}
+use Rattle.bus_laws.proofs.Cited.{silence, say, with_byte, told, call_then, ended, puts, gets, gets_counted, by_answer, talk, ToldAlike}
+use Rattle.bus_laws.proofs.Cited.{IsFollowing}
 use Rattle.i2c_base.specs.declared.event.Answer.TheVariants as answer
-use Rattle.i2c_base.specs.declared.port.PortCall.{PortCall}
 use Rattle.i2c_base.specs.declared.port.PortCall.TheVariants as call
-use Rattle.i2c_base.specs.declared.entry.End.{End}
 use Rattle.i2c_base.specs.declared.entry.End.TheVariants as end
-use Rattle.i2c_spec.specs.Messages.{MessageView}
-use Rattle.i2c_spec.specs.Conversation.{Listener, Said, TalkTold, is_it, silence, say, with_byte, told, call_then, ended, puts, gets, gets_counted, by_answer, talk}
-use Rattle.bus_laws.specs.Alike.{ToldAlike}
-use Rattle.i2c_spec.proofs.MessageLemmas.{IsFollowing}
 
 -- what two messages have said so far
 record SaidAlike {W V : Type 0} (R : W → V → Type 0) (t : Said W) (u : Said V) : Type 0 where

@@ -1,32 +1,17 @@
 -- What each caller's walk is of, and whom its messages reach. The inductions go over the entries.
-use Rattle.std.proofs.Common.{◌≡◌, ℕ, Bool, true, false, cond, List, [], ◌∷◌, ◌++◌, Option, Some, None, eqb, refl, sym, ◌∙◌, ap, subst, inl, inr}
-use Rattle.std.proofs.lemmas.Bool.Decides.{eqb_tells}
-use Rattle.i2c_base.specs.declared.entry.End.{End}
-use Rattle.i2c_base.specs.declared.entry.Entry.{Entry}
+use Rattle.bus_laws.proofs.Cited.{◌≡◌, ℕ, Bool, true, false, cond, List, [], ◌∷◌, ◌++◌, Option, Some, None, eqb, refl, sym, ◌∙◌, ap, subst}
+use Rattle.bus_laws.proofs.Cited.{inl, inr, eqb_tells, End, Entry, Purpose, Reply, BoardView, TransferView, root_of, IsTree, IsPlainBoard}
+use Rattle.bus_laws.proofs.Cited.{World, Asks, changed_at, Mark, Job, Call, Select, SwitchOff, Act, Take, Free, Send, Shift, Settle}
+use Rattle.bus_laws.proofs.Cited.{ActOutcome, Passed, Sent, Lined, Note, WalkTree, Ends, Look, Then, job_bus, job_purpose, Slots, answer_to}
+use Rattle.bus_laws.proofs.Cited.{after_job, walk_for, seen, is_over, first_act, first_note, rest_of, MessageEntry, replies, Now, begun}
+use Rattle.bus_laws.proofs.Cited.{current, opening, step, now, sent_by, lined_by, May, IsNext, IsStepwise, TellsMessage, by_purpose}
+use Rattle.bus_laws.proofs.Cited.{IsGranted, CanSend, MaySend, Runs, LinesAreLocked, CallerStands, Stands, AsksForMessages, Settles}
+use Rattle.bus_laws.proofs.Cited.{IsBefore, CallsOf, IsAsked}
 use Rattle.i2c_base.specs.declared.entry.Entry.TheVariants as entry
-use Rattle.i2c_base.specs.declared.entry.Purpose.{Purpose}
-use Rattle.i2c_base.specs.declared.reply.Reply.{Reply}
-use Rattle.i2c_base.specs.Board.{BoardView}
-use Rattle.i2c_base.specs.Transfer.{TransferView}
-use Rattle.i2c_spec.specs.Tree.{root_of}
-use Rattle.i2c_spec.specs.TreeFacts.{IsTree}
-use Rattle.i2c_spec.specs.Plain.{IsPlainBoard}
-use Rattle.i2c_spec.specs.World.{World}
-use Rattle.i2c_spec.specs.History.{Asks, changed_at}
-use Rattle.bus_spec.specs.Walk.{Mark, Job, Call, Select, SwitchOff, Act, Take, Free, Send, Shift, Settle, ActOutcome, Passed, Sent, Lined, Note, WalkTree, Ends, Look, Then, job_bus, job_purpose}
-use Rattle.bus_spec.specs.Slots.{Slots, answer_to, after_job}
-use Rattle.bus_spec.specs.Grammar.{walk_for, seen, is_over, first_act, first_note, rest_of}
-use Rattle.bus_spec.specs.Readings.{MessageEntry, OfMessage, replies}
-use Rattle.bus_spec.specs.Past.{Now, begun, current, opening, step, now, world_at, sent_by, lined_by}
-use Rattle.bus_spec.specs.Stepwise.{May, IsNext, IsStepwise}
-use Rattle.bus_spec.specs.Tells.{TellsMessage}
-use Rattle.bus_spec.specs.Legal.{by_purpose, is_forced, ReachAt, Reaches}
-use Rattle.bus_laws.specs.Runs.{IsGranted, CanSend, MaySend, Runs}
-use Rattle.bus_laws.specs.Lines.{LinesAreLocked}
-use Rattle.bus_laws.specs.Stands.{CallerStands, Stands}
-use Rattle.bus_laws.specs.Reach.{AsksForMessages, HasItsPath, KeepsPathsOpen}
-use Rattle.bus_laws.specs.Settles.{Settles, IsBefore}
-use Rattle.bus_laws.specs.Calls.{CallsOf, IsAsked}
+use Rattle.bus_spec.specs.Readings.{OfMessage}
+use Rattle.bus_spec.specs.Past.{world_at}
+use Rattle.bus_spec.specs.Legal.{is_forced, ReachAt, Reaches}
+use Rattle.bus_laws.specs.Reach.{HasItsPath, KeepsPathsOpen}
 use Rattle.bus_laws.proofs.past.StandsFacts.{current-stands}
 use Rattle.bus_laws.proofs.past.StandsStep.{at_same, at_other, send_known}
 use Rattle.bus_laws.proofs.past.StandsEntries.{first_is}

@@ -1,14 +1,9 @@
 -- How many bytes a message adds to what was read, how many a reply gives, and that the reply of a settle fits. No induction.
-use Rattle.std.proofs.Common.{◌≡◌, ℕ, ◌+◌, ◌≤◌, Bool, true, false, cond, List, length, Option, Some, None, refl, arith, length-append}
-use Rattle.std.specs.List.{list_any}
-use Rattle.i2c_base.specs.declared.errno.Errno.{Errno}
+use Rattle.bus_laws.proofs.Cited.{◌≡◌, ℕ, ◌+◌, ◌≤◌, Bool, true, false, cond, List, length, Option, Some, None, refl, arith, length-append}
+use Rattle.bus_laws.proofs.Cited.{list_any, Errno, FitsReads, TransferView, is_read, Job, Call, Select, SwitchOff, got_after, reply_by}
 use Rattle.i2c_base.specs.declared.reply.Reply.TheVariants as reply
-use Rattle.i2c_base.specs.Fitting.{Fits, FitsReads}
+use Rattle.i2c_base.specs.Fitting.{Fits}
 use Rattle.i2c_base.specs.Need.{bytes_given}
-use Rattle.i2c_base.specs.Transfer.{TransferView, is_read}
-use Rattle.bus_spec.specs.Walk.{Job, Call, Select, SwitchOff}
-use Rattle.bus_spec.specs.Past.{got_after}
-use Rattle.bus_spec.specs.Stepwise.{reply_by}
 
 -- a message adds its own bytes at most
 pub got-grows : (job : Job) (reading : Bool) (bytes got : List ℕ) → length (got_after job reading bytes got) ≤ length got + length bytes

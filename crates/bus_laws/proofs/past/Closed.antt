@@ -1,35 +1,21 @@
 -- Each mux has exactly the channel open that it keeps, unless it is marked; and one that disconnects keeps a channel only while
 -- the caller that switched it last has the lock of its bus. The induction goes over the entries.
-use Rattle.std.proofs.Common.{◌≡◌, ℕ, zero, suc, Bool, true, false, cond, List, [], ◌∷◌, Option, Some, None, eqb, refl, sym, ◌∙◌, ap, subst, ◌⊎◌, inl, inr}
-use Rattle.std.proofs.lemmas.Bool.Decides.{eqb_tells}
-use Rattle.i2c_base.specs.declared.ids.LockId.{LockId}
+use Rattle.bus_laws.proofs.Cited.{◌≡◌, ℕ, zero, suc, Bool, true, false, cond, List, [], ◌∷◌, Option, Some, None, eqb, refl, sym, ◌∙◌, ap}
+use Rattle.bus_laws.proofs.Cited.{subst, ◌⊎◌, inl, inr, eqb_tells, LockId, End, Entry, Purpose, BoardView, TransferView, home_of_mux}
+use Rattle.bus_laws.proofs.Cited.{is_left_open, IsTree, IsPlainBoard, Asks, Mark, Job, Call, Select, SwitchOff, off_bus, off_mux, Act, Sent}
+use Rattle.bus_laws.proofs.Cited.{Lined, Note, job_purpose, line_mux, Slots, At, MuxSlot, Clean, Marked, Polled, Found, mark_in, turned}
+use Rattle.bus_laws.proofs.Cited.{set_marks, polled_slot, after_job, first_act, first_note, holder, Now, current, now, kept_channel}
+use Rattle.bus_laws.proofs.Cited.{sent_by, lined_by, IsStepwise, InLocks, MayFail, MaySend, MayShift, LinesAreLocked, AsksForMessages}
+use Rattle.bus_laws.proofs.Cited.{eqb-true}
 use Rattle.i2c_base.specs.declared.ids.LockId.TheVariants as lock
-use Rattle.i2c_base.specs.declared.entry.End.{End}
 use Rattle.i2c_base.specs.declared.entry.End.TheVariants as end
-use Rattle.i2c_base.specs.declared.entry.Entry.{Entry}
 use Rattle.i2c_base.specs.declared.entry.Entry.TheVariants as entry
-use Rattle.i2c_base.specs.declared.entry.Purpose.{Purpose}
-use Rattle.i2c_base.specs.Board.{BoardView}
-use Rattle.i2c_base.specs.Transfer.{TransferView}
-use Rattle.i2c_spec.specs.Tree.{home_of_mux, is_left_open}
-use Rattle.i2c_spec.specs.TreeFacts.{IsTree}
-use Rattle.i2c_spec.specs.Plain.{IsPlainBoard}
-use Rattle.i2c_spec.specs.History.{Asks}
-use Rattle.bus_spec.specs.Walk.{Mark, Job, Call, Select, SwitchOff, off_bus, off_mux, Act, Sent, Lined, Note, job_purpose, line_mux}
-use Rattle.bus_spec.specs.Slots.{Slots, At, MuxSlot, Clean, Marked, Polled, Found, mark_in, turned, set_marks, polled_slot, after_job}
-use Rattle.bus_spec.specs.Grammar.{first_act, first_note}
-use Rattle.bus_spec.specs.Readings.{holder}
-use Rattle.bus_spec.specs.Past.{Now, current, now, kept_channel, sent_by, lined_by}
 use Rattle.bus_spec.specs.Places.{switches, switched_by}
-use Rattle.bus_spec.specs.Stepwise.{IsStepwise}
-use Rattle.bus_laws.specs.Runs.{InLocks, MayFail, MaySend, MayShift}
-use Rattle.bus_laws.specs.Lines.{LinesAreLocked}
-use Rattle.bus_laws.specs.Reach.{AsksForMessages, KeepsItsChannel, KeepsClosed}
+use Rattle.bus_laws.specs.Reach.{KeepsItsChannel, KeepsClosed}
 use Rattle.bus_laws.proofs.tree.Slots.{turned-same, turned-other}
 use Rattle.bus_laws.proofs.world.Slots.{kept_own, kept_other, set_marks-only}
 use Rattle.bus_laws.proofs.past.StandsStep.{lock_tells}
 use Rattle.bus_laws.proofs.past.Laws.{sent_holder, lined_holder, holder-told, past-stands, cur, sends, shifts}
-use Rattle.std.proofs.lemmas.Bool.{eqb-true}
 
 -- a mux is the mark of its bus, or it isn't
 marked_or : (s : MuxSlot) (m : ℕ) → (s ≡ Marked m) ⊎ (s ≡ Marked m → ⊥)

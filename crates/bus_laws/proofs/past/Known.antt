@@ -1,19 +1,10 @@
 -- An entry that may come is its caller's next step; and who asks for nothing never steps. The induction goes over the past.
-use Rattle.std.proofs.Common.{◌≡◌, ℕ, ◌<◌, ◌≤◌, Bool, List, [], ◌∷◌, Some, None, refl, sym, ◌∙◌, ap, subst, arith, inl, inr}
+use Rattle.bus_laws.proofs.Cited.{◌≡◌, ℕ, ◌<◌, ◌≤◌, Bool, List, [], ◌∷◌, Some, None, refl, sym, ◌∙◌, ap, subst, arith, inl, inr, LockId}
+use Rattle.bus_laws.proofs.Cited.{Entry, Reply, BoardView, Asks, Act, Take, Free, Send, Shift, Settle, WalkTree, Ends, line_mux, line_level}
+use Rattle.bus_laws.proofs.Cited.{first_act, seen, MessageEntry, caller_of, Now, begun, current, now, step, TellsMessage, May, IsNext}
+use Rattle.bus_laws.proofs.Cited.{IsStepwise, reply_by, ahead, CallerTold}
 use Rattle.std.proofs.lemmas.Bool.Decides.{leb_tells}
-use Rattle.i2c_base.specs.declared.ids.LockId.{LockId}
-use Rattle.i2c_base.specs.declared.entry.Entry.{Entry}
 use Rattle.i2c_base.specs.declared.entry.Entry.TheVariants as entry
-use Rattle.i2c_base.specs.declared.reply.Reply.{Reply}
-use Rattle.i2c_base.specs.Board.{BoardView}
-use Rattle.i2c_spec.specs.History.{Asks}
-use Rattle.bus_spec.specs.Walk.{Act, Take, Free, Send, Shift, Settle, WalkTree, Ends, line_mux, line_level}
-use Rattle.bus_spec.specs.Grammar.{first_act, seen}
-use Rattle.bus_spec.specs.Readings.{MessageEntry, caller_of}
-use Rattle.bus_spec.specs.Past.{Now, begun, current, now, step}
-use Rattle.bus_spec.specs.Tells.{TellsMessage}
-use Rattle.bus_spec.specs.Stepwise.{May, IsNext, IsStepwise, reply_by}
-use Rattle.bus_laws.specs.Others.{ahead, CallerTold}
 use Rattle.bus_laws.proofs.past.Others.{others-stay}
 
 abbrev pub message_entry : MessageEntry → Entry

@@ -1,29 +1,20 @@
 -- Each mark is on the bus that its mux stands on, that is a bus of the board, and the mux keeps no channel. The inductions
 -- go over the muxes, the marks of one step, and the entries.
-use Rattle.std.proofs.Common.{◌≡◌, ℕ, zero, suc, ◌-◌, ◌<◌, Bool, true, false, cond, List, [], ◌∷◌, length, reverse, get_or, Option, Some, None, eqb, refl, sym, ◌∙◌, ap, subst, inl, inr, arith}
-use Rattle.std.proofs.lemmas.Bool.Decides.{eqb_tells}
+use Rattle.bus_laws.proofs.Cited.{◌≡◌, ℕ, zero, suc, ◌-◌, ◌<◌, Bool, true, false, cond, List, [], ◌∷◌, length, Option, Some, None, eqb}
+use Rattle.bus_laws.proofs.Cited.{refl, sym, ◌∙◌, ap, subst, inl, inr, arith, eqb_tells, slice_get, unwrap_or, option_map, MuxSpec, LockId}
+use Rattle.bus_laws.proofs.Cited.{Entry, BoardView, Hop, buses, home_of_mux, IsTree, IsPlainBoard, Asks, changed_at, Mark, Job, Call}
+use Rattle.bus_laws.proofs.Cited.{Select, SwitchOff, off_bus, off_mux, Act, ActOutcome, Passed, Sent, Lined, Note, first_byte, Slots, At}
+use Rattle.bus_laws.proofs.Cited.{MuxSlot, Clean, Marked, Polled, Found, mark_in, turned, turned_at, set_marks, polled_slot, select_told}
+use Rattle.bus_laws.proofs.Cited.{after_select, after_off, after_job, first_note, current, now, kept_channel, sent_by, lined_by, IsStepwise}
+use Rattle.bus_laws.proofs.Cited.{MayFail, LinesAreLocked, AsksForMessages}
+use Rattle.std.proofs.Common.{reverse, get_or}
 use Rattle.std.proofs.lemmas.List.{get_or-reverse, length-reverse}
-use Rattle.std.specs.Prelude.{slice_get, unwrap_or}
-use Rattle.std.specs.Option.{option_map}
-use Rattle.i2c_base.specs.declared.board.MuxSpec.{MuxSpec}
-use Rattle.i2c_base.specs.declared.ids.LockId.{LockId}
 use Rattle.i2c_base.specs.declared.entry.End.TheVariants as end
-use Rattle.i2c_base.specs.declared.entry.Entry.{Entry}
 use Rattle.i2c_base.specs.declared.entry.Entry.TheVariants as entry
-use Rattle.i2c_base.specs.Board.{BoardView}
-use Rattle.i2c_spec.specs.Tree.{Hop, buses, buses_of, home_of_mux}
-use Rattle.i2c_spec.specs.TreeFacts.{IsTree}
-use Rattle.i2c_spec.specs.Plain.{IsPlainBoard, IsPlanted}
-use Rattle.i2c_spec.specs.History.{Asks, changed_at}
+use Rattle.i2c_spec.specs.Tree.{buses_of}
+use Rattle.i2c_spec.specs.Plain.{IsPlanted}
 use Rattle.i2c_spec.proofs.HopLemmas.{buses_of-cons, buses_of-reverse}
-use Rattle.bus_spec.specs.Walk.{Mark, Job, Call, Select, SwitchOff, off_bus, off_mux, Act, ActOutcome, Passed, Sent, Lined, Note, first_byte}
-use Rattle.bus_spec.specs.Slots.{Slots, At, MuxSlot, Clean, Marked, Polled, Found, mark_in, turned, turned_at, set_marks, polled_slot, select_told, after_select, after_off, after_job}
-use Rattle.bus_spec.specs.Grammar.{first_note}
-use Rattle.bus_spec.specs.Past.{current, now, mark, kept_channel, sent_by, lined_by}
-use Rattle.bus_spec.specs.Stepwise.{IsStepwise}
-use Rattle.bus_laws.specs.Runs.{MayFail}
-use Rattle.bus_laws.specs.Lines.{LinesAreLocked}
-use Rattle.bus_laws.specs.Reach.{AsksForMessages}
+use Rattle.bus_spec.specs.Past.{mark}
 use Rattle.bus_laws.proofs.world.BoardFacts.{get_within}
 use Rattle.bus_laws.proofs.world.Slots.{kept_own}
 use Rattle.bus_laws.proofs.tree.Slots.{changed-same, changed-other, marked_slot}

@@ -1,33 +1,16 @@
 -- Whom a message will reach that comes next. The inductions go over lists of answers.
-use Rattle.std.proofs.Common.{◌≡◌, ℕ, ◌<◌, Bool, true, false, not, ◌||◌, cond, List, [], ◌∷◌, ◌++◌, Option, Some, None, refl, sym, ◌∙◌, ap, subst}
-use Rattle.std.proofs.lemmas.Bool.{ltb-true}
-use Rattle.std.specs.Prelude.{is_some, slice_get}
-use Rattle.std.specs.Option.{option_map_or}
+use Rattle.bus_laws.proofs.Cited.{◌≡◌, ℕ, ◌<◌, Bool, true, false, not, ◌||◌, cond, List, [], ◌∷◌, ◌++◌, Option, Some, None, refl, sym, ◌∙◌}
+use Rattle.bus_laws.proofs.Cited.{ap, subst, ltb-true, is_some, slice_get, option_map_or, Answer, Entry, Node, BoardView, buses, root_of}
+use Rattle.bus_laws.proofs.Cited.{is_absent, IsTree, IsPlainBoard, TargetState, state_answer, MessageView, World, is_ack, is_slow}
+use Rattle.bus_laws.proofs.Cited.{has_heard, start_chips, start_devices, heard_of, hearers, some_answer, answer_of, granted_on, Asks, Job}
+use Rattle.bus_laws.proofs.Cited.{Call, Send, job_bus, job_purpose, message_of, now, IsNext, IsStepwise, heard_list, starts, LinesAreLocked}
+use Rattle.bus_laws.proofs.Cited.{AsksForMessages, listening, LeadsTo}
 use Rattle.i2c_base.specs.declared.event.Event.TheVariants as event
-use Rattle.i2c_base.specs.declared.event.Answer.{Answer}
 use Rattle.i2c_base.specs.declared.event.Answer.TheVariants as answer
-use Rattle.i2c_base.specs.declared.entry.Entry.{Entry}
 use Rattle.i2c_base.specs.declared.entry.Purpose.TheVariants as purpose
-use Rattle.i2c_base.specs.declared.ids.Node.{Node}
 use Rattle.i2c_base.specs.declared.ids.Node.TheVariants as node
-use Rattle.i2c_base.specs.Board.{BoardView}
-use Rattle.i2c_spec.specs.Tree.{buses, root_of, is_absent}
-use Rattle.i2c_spec.specs.TreeFacts.{IsTree}
-use Rattle.i2c_spec.specs.Plain.{IsPlainBoard}
-use Rattle.i2c_spec.specs.Targets.{TargetState, state_answer}
-use Rattle.i2c_spec.specs.Messages.{MessageView}
-use Rattle.i2c_spec.specs.World.{World, is_ack, is_slow, has_heard, start_chips, start_devices, heard_of, hearers, some_answer, answer as world_answer}
+use Rattle.i2c_spec.specs.World.{answer as world_answer}
 use Rattle.i2c_spec.specs.Conversation.{is_empty}
-use Rattle.i2c_spec.specs.Flat.{answer_of, granted_on}
-use Rattle.i2c_spec.specs.History.{Asks}
-use Rattle.bus_spec.specs.Walk.{Job, Call, Send, job_bus, job_purpose, message_of}
-use Rattle.bus_spec.specs.Past.{now}
-use Rattle.bus_spec.specs.Stepwise.{IsNext, IsStepwise}
-use Rattle.bus_spec.specs.Tells.{heard_list}
-use Rattle.bus_spec.specs.Legal.{starts}
-use Rattle.bus_laws.specs.Lines.{LinesAreLocked}
-use Rattle.bus_laws.specs.Reach.{AsksForMessages}
-use Rattle.bus_laws.specs.Alike.{listening, LeadsTo}
 use Rattle.bus_laws.specs.Next.{heard_where, who_hears, WillReach, chip_where, WillSwitch}
 use Rattle.bus_laws.proofs.world.Feed.{some_answer-append}
 use Rattle.bus_laws.proofs.device.Reach.{leads-hearers}

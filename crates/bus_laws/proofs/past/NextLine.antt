@@ -1,20 +1,10 @@
 -- A line step that comes next is of a gpio mux on that root, to a level that it has. No induction.
-use Rattle.std.proofs.Common.{◌≡◌, ℕ, ◌<◌, ◌≤◌, true, false, zero, Some, sym, ◌∙◌, ap, subst, arith}
-use Rattle.i2c_base.specs.declared.board.MuxKind.{MuxKind}
+use Rattle.bus_laws.proofs.Cited.{◌≡◌, ℕ, ◌<◌, ◌≤◌, true, false, zero, Some, sym, ◌∙◌, ap, subst, arith, MuxKind, BoardView, root_of}
+use Rattle.bus_laws.proofs.Cited.{of_mux, IsTree, IsHop, Asks, Job, Call, Select, SwitchOff, off_kind, Shift, WalkTree, Then, job_bus}
+use Rattle.bus_laws.proofs.Cited.{is_line, line_mux, line_level, Slots, first_act, Now, current, LinesAreLocked, AsksForMessages, Runs}
+use Rattle.bus_laws.proofs.Cited.{Finds, Stands}
 use Rattle.i2c_base.specs.declared.board.MuxKind.TheVariants as mux_kind
-use Rattle.i2c_base.specs.Board.{BoardView}
 use Rattle.i2c_base.proofs.MuxLemmas.{gpio_only}
-use Rattle.i2c_spec.specs.Tree.{root_of, of_mux}
-use Rattle.i2c_spec.specs.TreeFacts.{IsTree, IsHop}
-use Rattle.i2c_spec.specs.History.{Asks}
-use Rattle.bus_spec.specs.Walk.{Job, Call, Select, SwitchOff, off_kind, Shift, WalkTree, Then, job_bus, is_line, line_mux, line_level}
-use Rattle.bus_spec.specs.Slots.{Slots}
-use Rattle.bus_spec.specs.Grammar.{first_act}
-use Rattle.bus_spec.specs.Past.{Now, current}
-use Rattle.bus_laws.specs.Lines.{LinesAreLocked}
-use Rattle.bus_laws.specs.Reach.{AsksForMessages}
-use Rattle.bus_laws.specs.Runs.{Runs, Finds}
-use Rattle.bus_laws.specs.Stands.{Stands}
 use Rattle.bus_laws.proofs.past.StandsFacts.{current-stands}
 use Rattle.bus_laws.proofs.past.StandsEntries.{first_is}
 use Rattle.bus_laws.specs.Next.{HasLineIn}

@@ -1,19 +1,10 @@
 -- An entry of one caller leaves what is told of each other caller. No induction.
-use Rattle.std.proofs.Common.{◌≡◌, ℕ, Bool, cond, List, Option, Some, None, refl, ◌∙◌, ap}
-use Rattle.i2c_base.specs.declared.entry.End.{End}
-use Rattle.i2c_base.specs.declared.entry.Entry.{Entry}
+use Rattle.bus_laws.proofs.Cited.{◌≡◌, ℕ, Bool, cond, List, Option, Some, None, refl, ◌∙◌, ap, End, Entry, Reply, Cut, BoardView, Asks, Act}
+use Rattle.bus_laws.proofs.Cited.{Take, Free, Send, Shift, Settle, Passed, Sent, Lined, Note, WalkTree, is_over, first_act, first_note}
+use Rattle.bus_laws.proofs.Cited.{rest_of, caller_of, cut_told, Now, begun, current, step, sent_by, lined_by, got_after, CallerTold}
 use Rattle.i2c_base.specs.declared.entry.Entry.TheVariants as entry
-use Rattle.i2c_base.specs.declared.reply.Reply.{Reply}
-use Rattle.i2c_base.specs.declared.reply.Cut.{Cut}
-use Rattle.i2c_base.specs.Board.{BoardView}
-use Rattle.i2c_spec.specs.History.{Asks}
-use Rattle.bus_spec.specs.Walk.{Act, Take, Free, Send, Shift, Settle, Passed, Sent, Lined, Note, WalkTree}
-use Rattle.bus_spec.specs.Grammar.{is_over, first_act, first_note, rest_of}
-use Rattle.bus_spec.specs.Readings.{caller_of, cut_told}
-use Rattle.bus_spec.specs.Past.{Now, begun, current, step, sent_by, lined_by, got_after}
 use Rattle.bus_laws.proofs.past.StandsStep.{at_other}
 use Rattle.bus_laws.proofs.past.Asked.{sent_settled, lined_settled}
-use Rattle.bus_laws.specs.Others.{CallerTold}
 
 -- what a message leaves of what another has read
 sent_got : (b : BoardView) (n : Now) (d : ℕ) (o : Option Act) (note : Note) (reading : Bool) (bytes : List ℕ) (e : End) (c : ℕ)

@@ -1,27 +1,15 @@
 -- Each settle stands directly after the message or line step that decides it, and tells that entry's cut. The
 -- inductions go over the entries.
-use Rattle.std.proofs.Common.{◌≡◌, ℕ, zero, suc, ◌<◌, Bool, true, false, cond, List, [], ◌∷◌, Option, Some, None, eqb, refl, sym, ◌∙◌, ap, subst, ◌⊎◌, inl, inr}
-use Rattle.std.proofs.lemmas.Bool.{eq-eqb, ne_eqb}
-use Rattle.std.proofs.lemmas.Bool.Decides.{eqb_tells}
-use Rattle.i2c_base.specs.declared.errno.Errno.{Errno}
-use Rattle.i2c_base.specs.declared.entry.Entry.{Entry}
+use Rattle.bus_laws.proofs.Cited.{◌≡◌, ℕ, zero, suc, ◌<◌, Bool, true, false, cond, List, [], ◌∷◌, Option, Some, None, eqb, refl, sym, ◌∙◌}
+use Rattle.bus_laws.proofs.Cited.{ap, subst, ◌⊎◌, inl, inr, eq-eqb, ne_eqb, eqb_tells, Errno, Entry, Reply, Cut, BoardView, TransferView}
+use Rattle.bus_laws.proofs.Cited.{refusal, Asks, changed_at, Job, Call, Select, SwitchOff, Act, Take, Free, Send, Shift, Settle, ActOutcome}
+use Rattle.bus_laws.proofs.Cited.{Passed, Sent, Lined, Note, WalkTree, Ends, Look, Then, goes, verdict_of, Slots, answer_to, seen, is_over}
+use Rattle.bus_laws.proofs.Cited.{first_act, first_note, rest_of, caller_of, replies, cut_told, Now, begun, current, step, now, is_on}
+use Rattle.bus_laws.proofs.Cited.{is_due, sent_by, lined_by, with_due, moved, IsNext, May, IsStepwise, is_stepping, AsksForMessages}
+use Rattle.bus_laws.proofs.Cited.{NoSettle, IsDecided, GoesOn, Settles, IsAsked}
 use Rattle.i2c_base.specs.declared.entry.Entry.TheVariants as entry
-use Rattle.i2c_base.specs.declared.reply.Reply.{Reply}
-use Rattle.i2c_base.specs.declared.reply.Cut.{Cut}
-use Rattle.i2c_base.specs.Board.{BoardView}
-use Rattle.i2c_base.specs.Transfer.{TransferView}
-use Rattle.i2c_spec.specs.Flat.{refusal}
-use Rattle.i2c_spec.specs.History.{Asks, changed_at}
-use Rattle.bus_spec.specs.Walk.{Job, Call, Select, SwitchOff, Act, Take, Free, Send, Shift, Settle, ActOutcome, Passed, Sent, Lined, Note, WalkTree, Ends, Look, Then, goes, verdict_of}
-use Rattle.bus_spec.specs.Slots.{Slots, answer_to}
-use Rattle.bus_spec.specs.Grammar.{seen, is_over, first_act, first_note, rest_of}
-use Rattle.bus_spec.specs.Readings.{caller_of, replies, last_cut, cut_told}
-use Rattle.bus_spec.specs.Past.{Now, begun, current, step, now, is_on, is_due, sent_by, lined_by, with_due, moved}
-use Rattle.bus_spec.specs.Stepwise.{IsNext, May, IsStepwise}
-use Rattle.bus_spec.specs.Legal.{is_stepping, IsDirectlyBehind, IsPlaced, SettleAt, KeepsSettles}
-use Rattle.bus_laws.specs.Reach.{AsksForMessages}
-use Rattle.bus_laws.specs.Settles.{NoSettle, IsDecided, GoesOn, Settles}
-use Rattle.bus_laws.specs.Calls.{IsAsked}
+use Rattle.bus_spec.specs.Readings.{last_cut}
+use Rattle.bus_spec.specs.Legal.{IsDirectlyBehind, IsPlaced, SettleAt, KeepsSettles}
 use Rattle.bus_laws.proofs.past.StandsStep.{at_same, at_other}
 use Rattle.bus_laws.proofs.past.StandsEntries.{first_is}
 use Rattle.bus_laws.proofs.walk.SettleLaw.{walk-starts}

@@ -1,24 +1,11 @@
 -- Some caller always waits for nothing: who waits for a lock waits for a caller that waits for none, or for a lock of a lower
 -- rank. The induction goes over the rank.
-use Rattle.std.proofs.Common.{◌≡◌, ℕ, zero, suc, ◌<◌, ◌≤◌, Bool, true, false, cond, List, [], ◌∷◌, Option, Some, None, refl, sym, ◌∙◌, subst, ◌⊎◌, inl, inr, arith}
-use Rattle.std.proofs.lemmas.Bool.Decides.{eqb_tells}
-use Rattle.i2c_base.specs.declared.ids.LockId.{LockId}
-use Rattle.i2c_base.specs.declared.entry.Entry.{Entry}
+use Rattle.bus_laws.proofs.Cited.{◌≡◌, ℕ, zero, suc, ◌<◌, ◌≤◌, Bool, true, false, cond, List, [], ◌∷◌, Option, Some, None, refl, sym, ◌∙◌}
+use Rattle.bus_laws.proofs.Cited.{subst, ◌⊎◌, inl, inr, arith, eqb_tells, LockId, Entry, BoardView, IsTree, IsPlainBoard, Asks, Act, Take}
+use Rattle.bus_laws.proofs.Cited.{Free, Send, Shift, Settle, Passed, WalkTree, Ends, Look, Then, Slots, At, answer_to, seen, is_over}
+use Rattle.bus_laws.proofs.Cited.{first_act, rank, holder, is_lock, Now, begun, current, now, IsBelow, IsNext, IsStepwise, InLocks, RestOf}
+use Rattle.bus_laws.proofs.Cited.{taken_slots, Runs, LinesAreLocked, CallerStands, Stands, AsksForMessages}
 use Rattle.i2c_base.specs.declared.entry.Entry.TheVariants as entry
-use Rattle.i2c_base.specs.Board.{BoardView}
-use Rattle.i2c_spec.specs.TreeFacts.{IsTree}
-use Rattle.i2c_spec.specs.Plain.{IsPlainBoard}
-use Rattle.i2c_spec.specs.History.{Asks}
-use Rattle.bus_spec.specs.Walk.{Act, Take, Free, Send, Shift, Settle, Passed, WalkTree, Ends, Look, Then}
-use Rattle.bus_spec.specs.Slots.{Slots, At, answer_to}
-use Rattle.bus_spec.specs.Grammar.{seen, is_over, first_act}
-use Rattle.bus_spec.specs.Readings.{rank, holder, is_lock}
-use Rattle.bus_spec.specs.Past.{Now, begun, current, now}
-use Rattle.bus_spec.specs.Stepwise.{IsBelow, IsNext, IsStepwise}
-use Rattle.bus_laws.specs.Runs.{InLocks, RestOf, taken_slots, Runs}
-use Rattle.bus_laws.specs.Lines.{LinesAreLocked}
-use Rattle.bus_laws.specs.Stands.{CallerStands, Stands}
-use Rattle.bus_laws.specs.Reach.{AsksForMessages}
 use Rattle.bus_laws.specs.Ready.{HasFinished}
 use Rattle.bus_laws.proofs.past.StandsFacts.{current-stands}
 use Rattle.bus_laws.proofs.past.StandsEntries.{first_is}

@@ -1,28 +1,14 @@
 -- One more entry keeps what stands, entry by entry.
-use Rattle.std.proofs.Common.{◌≡◌, ℕ, Bool, cond, List, ◌∷◌, Option, Some, None, refl, sym, ◌∙◌, ap, subst, inl, inr}
-use Rattle.std.proofs.lemmas.Bool.Decides.{eqb_tells}
-use Rattle.i2c_base.specs.declared.ids.LockId.{LockId}
+use Rattle.bus_laws.proofs.Cited.{◌≡◌, ℕ, Bool, cond, List, ◌∷◌, Option, Some, None, refl, sym, ◌∙◌, ap, subst, inl, inr, eqb_tells, LockId}
+use Rattle.bus_laws.proofs.Cited.{End, Entry, BoardView, root_of, IsTree, IsPlainBoard, World, after, block_limit, Asks, changed_at, Mark}
+use Rattle.bus_laws.proofs.Cited.{Job, Act, Take, Free, Send, Shift, Settle, ActOutcome, Passed, Sent, Lined, Note, WalkTree, Ends, Look}
+use Rattle.bus_laws.proofs.Cited.{Then, job_bus, Slots, At, after_job, first_act, first_note, rest_of, Now, current, step, talk_of, without}
+use Rattle.bus_laws.proofs.Cited.{line_call, cut_of, moved, with_due, sent_by, lined_by, May, InLocks, IsRest, RestOf, LeavesShut}
+use Rattle.bus_laws.proofs.Cited.{taken_slots, CanSend, CanShift, MaySend, MayShift, Runs, WorldTold, LinesAreLocked, AsksForMessages}
+use Rattle.bus_laws.proofs.Cited.{CallerStands, StandsIn, Stands, IsOnce}
 use Rattle.i2c_base.specs.declared.ids.LockId.TheVariants as lock
-use Rattle.i2c_base.specs.declared.entry.End.{End}
-use Rattle.i2c_base.specs.declared.entry.Entry.{Entry}
 use Rattle.i2c_base.specs.declared.entry.Entry.TheVariants as entry
-use Rattle.i2c_base.specs.Board.{BoardView}
-use Rattle.i2c_spec.specs.Tree.{root_of}
-use Rattle.i2c_spec.specs.TreeFacts.{IsTree}
-use Rattle.i2c_spec.specs.Plain.{IsPlainBoard}
-use Rattle.i2c_spec.specs.World.{World, after}
-use Rattle.i2c_spec.specs.Flat.{block_limit}
-use Rattle.i2c_spec.specs.History.{Asks, changed_at}
-use Rattle.bus_spec.specs.Walk.{Mark, Job, Act, Take, Free, Send, Shift, Settle, ActOutcome, Passed, Sent, Lined, Note, WalkTree, Ends, Look, Then, job_bus}
-use Rattle.bus_spec.specs.Slots.{Slots, At, after_job}
-use Rattle.bus_spec.specs.Grammar.{first_act, first_note, rest_of}
-use Rattle.bus_spec.specs.Past.{Now, current, step, talk_of, held_by, without, line_call, cut_of, moved, with_due, sent_by, lined_by}
-use Rattle.bus_spec.specs.Stepwise.{May}
-use Rattle.bus_laws.specs.Runs.{InLocks, IsRest, RestOf, LeavesShut, taken_slots, CanSend, CanShift, MaySend, MayShift, Runs}
-use Rattle.bus_laws.specs.Told.{WorldTold}
-use Rattle.bus_laws.specs.Lines.{LinesAreLocked}
-use Rattle.bus_laws.specs.Reach.{AsksForMessages}
-use Rattle.bus_laws.specs.Stands.{CallerStands, StandsIn, Stands, IsOnce}
+use Rattle.bus_spec.specs.Past.{held_by}
 use Rattle.bus_laws.proofs.tree.Slots.{changed-same, changed-other}
 use Rattle.bus_laws.proofs.world.Sends.{told-send}
 use Rattle.bus_laws.proofs.world.Lines.{told-shift}

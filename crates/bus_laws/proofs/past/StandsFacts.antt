@@ -1,20 +1,9 @@
 -- One caller and the others: what a step of a walk does to the locks and to what is known of the buses.
-use Rattle.std.proofs.Common.{◌≡◌, ℕ, Bool, true, false, cond, List, [], Option, Some, None, refl, sym, ap, subst}
-use Rattle.i2c_base.specs.declared.ids.LockId.{LockId}
+use Rattle.bus_laws.proofs.Cited.{◌≡◌, ℕ, Bool, true, false, cond, List, [], Option, Some, None, refl, sym, ap, subst, LockId, BoardView}
+use Rattle.bus_laws.proofs.Cited.{TransferView, IsTree, Asks, Ask, MarkOf, KeptOf, ask_bus, WalkTree, Ends, Look, Then, Slots, At}
+use Rattle.bus_laws.proofs.Cited.{answer_to, mark_in, walk_for, seen, is_over, Now, begun, current, InLocks, Runs, LinesAreLocked}
+use Rattle.bus_laws.proofs.Cited.{AsksForMessages, CallerStands, Stands, ahead}
 use Rattle.i2c_base.specs.declared.ids.LockId.TheVariants as lock
-use Rattle.i2c_base.specs.Board.{BoardView}
-use Rattle.i2c_base.specs.Transfer.{TransferView}
-use Rattle.i2c_spec.specs.TreeFacts.{IsTree}
-use Rattle.i2c_spec.specs.History.{Asks}
-use Rattle.bus_spec.specs.Walk.{Ask, MarkOf, KeptOf, ask_bus, WalkTree, Ends, Look, Then}
-use Rattle.bus_spec.specs.Slots.{Slots, At, answer_to, mark_in}
-use Rattle.bus_spec.specs.Grammar.{walk_for, seen, is_over}
-use Rattle.bus_spec.specs.Past.{Now, begun, current}
-use Rattle.bus_laws.specs.Runs.{InLocks, Runs}
-use Rattle.bus_laws.specs.Lines.{LinesAreLocked}
-use Rattle.bus_laws.specs.Reach.{AsksForMessages}
-use Rattle.bus_laws.specs.Stands.{CallerStands, Stands}
-use Rattle.bus_laws.specs.Others.{ahead}
 use Rattle.bus_laws.proofs.tree.Law.{walk-runs}
 
 -- what answers a question is told of its bus

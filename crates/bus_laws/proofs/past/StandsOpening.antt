@@ -1,19 +1,11 @@
 -- What stands at the opening: nobody has a lock, and every channel is closed.
-use Rattle.std.proofs.Common.{◌≡◌, ℕ, true, false, map, Option, Some, None, refl, sym, ◌∙◌, ap, subst, arith}
-use Rattle.std.specs.Prelude.{slice_get, unwrap_or}
-use Rattle.std.specs.Option.{option_map}
+use Rattle.bus_laws.proofs.Cited.{◌≡◌, ℕ, true, false, map, Option, Some, None, refl, sym, ◌∙◌, ap, subst, arith, slice_get, unwrap_or}
+use Rattle.bus_laws.proofs.Cited.{option_map, MuxSpec, facts_of, BoardView, TransferView, ChipView, is_open, opening_world, Clean, Marked}
+use Rattle.bus_laws.proofs.Cited.{Polled, Found, opening, IsChipOf, WorldTold, Stands}
 use Rattle.std.proofs.lemmas.Option.{slice_get-map}
 use Rattle.std.proofs.lemmas.List.{length-map}
-use Rattle.i2c_base.specs.declared.board.MuxSpec.{MuxSpec}
-use Rattle.i2c_base.specs.Muxes.{facts_of}
-use Rattle.i2c_base.specs.Board.{BoardView}
-use Rattle.i2c_base.specs.Transfer.{TransferView}
-use Rattle.i2c_spec.specs.Chips.{ChipView, is_open, chip_opening}
-use Rattle.i2c_spec.specs.World.{opening_world}
-use Rattle.bus_spec.specs.Slots.{Clean, Marked, Polled, Found, all_clean}
-use Rattle.bus_spec.specs.Past.{opening}
-use Rattle.bus_laws.specs.Told.{IsChipOf, WorldTold}
-use Rattle.bus_laws.specs.Stands.{Stands}
+use Rattle.i2c_spec.specs.Chips.{chip_opening}
+use Rattle.bus_spec.specs.Slots.{all_clean}
 use Rattle.bus_laws.proofs.world.ChipLaws.{shut_at_zero}
 
 -- the chip of a number, as it is opened

@@ -1,21 +1,13 @@
 -- One more entry keeps what stands: a step of one caller, and all the others as they were.
-use Rattle.std.proofs.Common.{◌≡◌, ℕ, zero, suc, Bool, true, false, cond, List, [], ◌∷◌, Option, Some, None, refl, sym, ◌∙◌, ap, subst, ◌⊎◌, inl, inr}
-use Rattle.std.proofs.lemmas.Bool.Decides.{eqb_tells}
-use Rattle.i2c_base.specs.declared.ids.LockId.{LockId}
+use Rattle.bus_laws.proofs.Cited.{◌≡◌, ℕ, zero, suc, Bool, true, false, cond, List, [], ◌∷◌, Option, Some, None, refl, sym, ◌∙◌, ap, subst}
+use Rattle.bus_laws.proofs.Cited.{◌⊎◌, inl, inr, eqb_tells, LockId, BoardView, TransferView, Hop, World, changed_at, Mark, Job, Call}
+use Rattle.bus_laws.proofs.Cited.{Select, SwitchOff, off_bus, off_mux, ActOutcome, Passed, Sent, Lined, WalkTree, is_arbitrator, Slots, At}
+use Rattle.bus_laws.proofs.Cited.{MuxSlot, Clean, Marked, polled_slot, turned_at, set_marks, select_told, after_job, after_select}
+use Rattle.bus_laws.proofs.Cited.{after_off, is_lock, IsOpenOn, InLocks, IsRest, IsOfMux, FindsOpen, FindsSelect, Finds, MayFail, Owns}
+use Rattle.bus_laws.proofs.Cited.{MaySend, MayShift, CallerStands, StandsIn, IsOnce, WorldTold}
 use Rattle.i2c_base.specs.declared.ids.LockId.TheVariants as lock
 use Rattle.i2c_base.specs.declared.entry.End.TheVariants as end
-use Rattle.i2c_base.specs.Board.{BoardView}
-use Rattle.i2c_base.specs.Transfer.{TransferView}
-use Rattle.i2c_spec.specs.Tree.{Hop}
-use Rattle.i2c_spec.specs.World.{World}
-use Rattle.i2c_spec.specs.History.{changed_at}
-use Rattle.bus_spec.specs.Walk.{Mark, Job, Call, Select, SwitchOff, off_bus, off_mux, ActOutcome, Passed, Sent, Lined, WalkTree, is_arbitrator}
-use Rattle.bus_spec.specs.Slots.{Slots, At, MuxSlot, Clean, Marked, polled_slot, turned_at, set_marks, select_told, after_job, after_select, after_off}
 use Rattle.bus_spec.specs.Slots as slots
-use Rattle.bus_spec.specs.Readings.{is_lock}
-use Rattle.bus_laws.specs.Runs.{IsOpenOn, InLocks, IsRest, IsOfMux, FindsOpen, FindsSelect, Finds, MayFail, Owns, MaySend, MayShift}
-use Rattle.bus_laws.specs.Stands.{CallerStands, StandsIn, IsOnce}
-use Rattle.bus_laws.specs.Told.{WorldTold}
 use Rattle.bus_laws.proofs.tree.Slots.{changed-other, turned-other, turned-along, set_marks-along}
 
 -- the test of two locks tells whether they are one

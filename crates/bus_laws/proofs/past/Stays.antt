@@ -1,28 +1,14 @@
 -- What a caller does next stays while others step. No induction but over the looks in front of a walk.
-use Rattle.std.proofs.Common.{◌≡◌, ℕ, Bool, List, Option, Some, refl, sym, ◌∙◌, ap, subst}
-use Rattle.i2c_base.specs.declared.ids.LockId.{LockId}
+use Rattle.bus_laws.proofs.Cited.{◌≡◌, ℕ, Bool, List, Option, Some, refl, sym, ◌∙◌, ap, subst, LockId, End, Entry, BoardView, TransferView}
+use Rattle.bus_laws.proofs.Cited.{IsTree, Asks, Job, Act, Send, Shift, ActOutcome, Sent, Lined, ask_bus, WalkTree, Ends, Look, Then, Slots}
+use Rattle.bus_laws.proofs.Cited.{answer_to, after_job, seen, first_act, first_note, caller_of, Now, current, step, sent_by, lined_by, May}
+use Rattle.bus_laws.proofs.Cited.{InLocks, MaySend, MayShift, CanSend, CanShift, Runs, LinesAreLocked, AsksForMessages, Stands, ahead}
+use Rattle.bus_laws.proofs.Cited.{CallerTold}
 use Rattle.i2c_base.specs.declared.ids.LockId.TheVariants as lock
-use Rattle.i2c_base.specs.declared.entry.End.{End}
-use Rattle.i2c_base.specs.declared.entry.Entry.{Entry}
 use Rattle.i2c_base.specs.declared.entry.Entry.TheVariants as entry
-use Rattle.i2c_base.specs.Board.{BoardView}
-use Rattle.i2c_base.specs.Transfer.{TransferView}
-use Rattle.i2c_spec.specs.TreeFacts.{IsTree}
-use Rattle.i2c_spec.specs.History.{Asks}
-use Rattle.bus_spec.specs.Walk.{Job, Act, Send, Shift, ActOutcome, Sent, Lined, ask_bus, WalkTree, Ends, Look, Then}
-use Rattle.bus_spec.specs.Slots.{Slots, answer_to, after_job}
-use Rattle.bus_spec.specs.Grammar.{seen, first_act, first_note}
-use Rattle.bus_spec.specs.Readings.{caller_of}
-use Rattle.bus_spec.specs.Past.{Now, current, step, sent_by, lined_by}
-use Rattle.bus_spec.specs.Stepwise.{May}
-use Rattle.bus_laws.specs.Runs.{InLocks, MaySend, MayShift, CanSend, CanShift, Runs}
-use Rattle.bus_laws.specs.Lines.{LinesAreLocked}
-use Rattle.bus_laws.specs.Reach.{AsksForMessages}
-use Rattle.bus_laws.specs.Stands.{Stands}
 use Rattle.bus_laws.proofs.past.StandsFacts.{answer_alike, ahead-stands, current-stands}
 use Rattle.bus_laws.proofs.past.StandsStep.{job_off, send_known, shift_known}
 use Rattle.bus_laws.proofs.past.StandsEntries.{first_is}
-use Rattle.bus_laws.specs.Others.{ahead, CallerTold}
 use Rattle.bus_laws.proofs.past.Others.{others-stay}
 
 -- the looks of a walk that runs find the same where the buses whose locks it holds are as they were

@@ -1,43 +1,27 @@
 -- No other message or line step of a root stands between two messages of one transfer: whoever is inside holds the
 -- root's lock and sends next. The inductions go over the entries.
-use Rattle.std.proofs.Common.{◌≡◌, ℕ, zero, suc, Bool, true, false, cond, ◌&&◌, List, [], ◌∷◌, ◌++◌, Option, Some, None, eqb, refl, sym, ◌∙◌, ap, subst, ◌⊎◌, inl, inr, arith}
-use Rattle.std.specs.List.{list_any, AllByRecursion}
-use Rattle.std.proofs.lemmas.Bool.{eqb-true, eq-eqb, ne_eqb}
-use Rattle.std.proofs.lemmas.Bool.Decides.{eqb_tells}
-use Rattle.i2c_base.specs.declared.ids.LockId.{LockId}
+use Rattle.bus_laws.proofs.Cited.{◌≡◌, ℕ, zero, suc, Bool, true, false, cond, ◌&&◌, List, [], ◌∷◌, ◌++◌, Option, Some, None, eqb, refl, sym}
+use Rattle.bus_laws.proofs.Cited.{◌∙◌, ap, subst, ◌⊎◌, inl, inr, arith, list_any, AllByRecursion, eqb-true, eq-eqb, ne_eqb, or_parts}
+use Rattle.bus_laws.proofs.Cited.{eqb_tells, LockId, End, Entry, Purpose, BoardView, root_of, home_of_mux, IsTree, IsPlainBoard}
+use Rattle.bus_laws.proofs.Cited.{MessageView, Asks, changed_at, Mark, Job, Call, Select, SwitchOff, off_bus, Act, Take, Free, Send, Shift}
+use Rattle.bus_laws.proofs.Cited.{Settle, ActOutcome, Passed, Sent, Lined, WalkTree, Ends, Look, Then, goes, verdict_of, job_bus}
+use Rattle.bus_laws.proofs.Cited.{job_purpose, line_mux, is_line, Slots, after_job, seen, is_over, first_act, first_note, rest_of, Now}
+use Rattle.bus_laws.proofs.Cited.{begun, current, step, now, is_on, is_due, sent_by, lined_by, with_due, moved, without, IsNext, May}
+use Rattle.bus_laws.proofs.Cited.{IsStepwise, InLocks, CanSend, CanShift, MaySend, MayShift, Runs, LinesAreLocked, CallerStands, Stands}
+use Rattle.bus_laws.proofs.Cited.{AsksForMessages, Settles, IsAsked, same_Some}
+use Rattle.std.proofs.lemmas.Bool.{and_parts}
 use Rattle.i2c_base.specs.declared.ids.LockId.TheVariants as lock
-use Rattle.i2c_base.specs.declared.entry.End.{End}
 use Rattle.i2c_base.specs.declared.entry.End.TheVariants as end
-use Rattle.i2c_base.specs.declared.entry.Entry.{Entry}
 use Rattle.i2c_base.specs.declared.entry.Entry.TheVariants as entry
-use Rattle.i2c_base.specs.declared.entry.Purpose.{Purpose}
-use Rattle.i2c_base.specs.Board.{BoardView}
-use Rattle.i2c_spec.specs.Tree.{root_of, home_of_mux}
-use Rattle.i2c_spec.specs.TreeFacts.{IsTree}
-use Rattle.i2c_spec.specs.Plain.{IsPlainBoard}
-use Rattle.i2c_spec.specs.Messages.{MessageView}
-use Rattle.i2c_spec.specs.History.{Asks, changed_at}
-use Rattle.bus_spec.specs.Walk.{Mark, Job, Call, Select, SwitchOff, off_bus, Act, Take, Free, Send, Shift, Settle, ActOutcome, Passed, Sent, Lined, WalkTree, Ends, Look, Then, goes, verdict_of, job_bus, job_purpose, line_mux, is_line}
-use Rattle.bus_spec.specs.Slots.{Slots, after_job}
-use Rattle.bus_spec.specs.Grammar.{seen, is_over, first_act, first_note, rest_of}
 use Rattle.bus_spec.specs.Readings.{is_call, is_call_of, is_settle_of, is_on_root}
-use Rattle.bus_spec.specs.Past.{Now, begun, current, step, now, is_on, is_due, inside_after, sent_by, lined_by, with_due, moved, without}
-use Rattle.bus_spec.specs.Stepwise.{IsNext, May, IsStepwise}
+use Rattle.bus_spec.specs.Past.{inside_after}
 use Rattle.bus_spec.specs.Legal.{KeepsWhole}
-use Rattle.bus_laws.specs.Runs.{InLocks, CanSend, CanShift, MaySend, MayShift, Runs}
-use Rattle.bus_laws.specs.Lines.{LinesAreLocked}
-use Rattle.bus_laws.specs.Stands.{CallerStands, Stands}
-use Rattle.bus_laws.specs.Reach.{AsksForMessages}
-use Rattle.bus_laws.specs.Settles.{Settles, CallGoesOn}
-use Rattle.bus_laws.specs.Calls.{IsAsked}
+use Rattle.bus_laws.specs.Settles.{CallGoesOn}
 use Rattle.bus_laws.proofs.past.StandsFacts.{current-stands}
 use Rattle.bus_laws.proofs.past.StandsStep.{at_same, at_other}
 use Rattle.bus_laws.proofs.past.StandsEntries.{first_is}
 use Rattle.bus_laws.proofs.past.Laws.{past-stands}
 use Rattle.bus_laws.proofs.past.Asked.{current-asked, past-asked}
-use Rattle.std.proofs.lemmas.Bool.{and_parts}
-use Rattle.std.proofs.lemmas.Option.{same_Some}
-use Rattle.std.proofs.lemmas.Bool.{or_parts}
 
 -- whose messages have begun and not ended sends the next one next, and holds the root's lock
 pub record IsInside (b : BoardView) (r : ℕ) (walk : WalkTree) (held : List LockId) : Type 0 where

@@ -1,27 +1,12 @@
 -- Who is stuck is not ready, whatever comes later. The induction goes over the steps that come.
-use Rattle.std.proofs.Common.{◌≡◌, ℕ, Bool, true, false, not, cond, List, [], ◌∷◌, ◌++◌, Option, Some, None, refl, sym, ◌∙◌, ap, subst, inl, inr}
-use Rattle.std.specs.Prelude.{reverse, MatchBool, ◌==◌}
+use Rattle.bus_laws.proofs.Cited.{◌≡◌, ℕ, Bool, true, false, not, cond, List, [], ◌∷◌, ◌++◌, Option, Some, None, refl, sym, ◌∙◌, ap, subst}
+use Rattle.bus_laws.proofs.Cited.{inl, inr, reverse, MatchBool, ◌==◌, option_map_or, eqb_tells, LockId, Entry, BoardView, IsTree}
+use Rattle.bus_laws.proofs.Cited.{IsPlainBoard, Asks, Take, WalkTree, first_act, caller_of, holder, current, now, May, IsNext, IsStepwise}
+use Rattle.bus_laws.proofs.Cited.{Turn, is_ready, past_after, FollowsWords, LinesAreLocked, AsksForMessages, IsStuck, IsTurn, Comes}
 use Rattle.std.specs.List.{find}
-use Rattle.std.specs.Option.{option_map_or}
-use Rattle.std.proofs.lemmas.Bool.Decides.{eqb_tells}
-use Rattle.i2c_base.specs.declared.ids.LockId.{LockId}
-use Rattle.i2c_base.specs.declared.entry.Entry.{Entry}
 use Rattle.i2c_base.specs.declared.entry.Entry.TheVariants as entry
-use Rattle.i2c_base.specs.Board.{BoardView}
-use Rattle.i2c_spec.specs.TreeFacts.{IsTree}
-use Rattle.i2c_spec.specs.Plain.{IsPlainBoard}
-use Rattle.i2c_spec.specs.History.{Asks}
-use Rattle.bus_spec.specs.Walk.{Take, WalkTree}
-use Rattle.bus_spec.specs.Grammar.{first_act}
-use Rattle.bus_spec.specs.Readings.{caller_of, holder}
-use Rattle.bus_spec.specs.Past.{current, now}
-use Rattle.bus_spec.specs.Stepwise.{May, IsNext, IsStepwise}
-use Rattle.bus_spec.specs.Schedule.{Turn, waits_for, is_taken, is_ready, past_after, FollowsWords}
-use Rattle.bus_laws.specs.Lines.{LinesAreLocked}
-use Rattle.bus_laws.specs.Reach.{AsksForMessages}
+use Rattle.bus_spec.specs.Schedule.{waits_for, is_taken}
 use Rattle.bus_laws.proofs.past.Laws.{past-stands}
-use Rattle.bus_laws.specs.Ready.{IsStuck}
-use Rattle.bus_laws.specs.Coming.{IsTurn, Comes}
 use Rattle.bus_laws.proofs.past.Known.{takes, never}
 use Rattle.bus_laws.proofs.past.Stays.{next-stays}
 

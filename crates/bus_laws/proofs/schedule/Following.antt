@@ -1,20 +1,9 @@
 -- One word, one step after the last word, and the end of a loop over a schedule. No induction.
-use Rattle.std.proofs.Common.{◌≡◌, ℕ, ◌<◌, true, List, [], ◌∷◌, ◌++◌, None, refl, sym, ◌∙◌, ap, subst}
-use Rattle.std.specs.Prelude.{reverse}
-use Rattle.std.proofs.lemmas.List.{reverse-append, reverse-reverse, append_assoc, append-nil}
-use Rattle.i2c_base.specs.declared.entry.Entry.{Entry}
-use Rattle.i2c_base.specs.Board.{BoardView}
-use Rattle.i2c_spec.specs.TreeFacts.{IsTree}
-use Rattle.i2c_spec.specs.Plain.{IsPlainBoard}
-use Rattle.i2c_spec.specs.History.{Asks}
-use Rattle.bus_spec.specs.Past.{now}
-use Rattle.bus_spec.specs.Stepwise.{IsStepwise}
-use Rattle.bus_spec.specs.Schedule.{Turn, turns, is_ready, past_after, FollowsWords}
-use Rattle.bus_laws.specs.Lines.{LinesAreLocked}
-use Rattle.bus_laws.specs.Reach.{AsksForMessages}
+use Rattle.bus_laws.proofs.Cited.{◌≡◌, ℕ, ◌<◌, true, List, [], ◌∷◌, ◌++◌, None, refl, sym, ◌∙◌, ap, subst, reverse, reverse-append}
+use Rattle.bus_laws.proofs.Cited.{append_assoc, Entry, BoardView, IsTree, IsPlainBoard, Asks, now, IsStepwise, Turn, turns, is_ready}
+use Rattle.bus_laws.proofs.Cited.{past_after, FollowsWords, LinesAreLocked, AsksForMessages, IsStuck, IsTurn, Comes}
+use Rattle.std.proofs.lemmas.List.{reverse-reverse, append-nil}
 use Rattle.bus_laws.proofs.past.Laws.{holder-told}
-use Rattle.bus_laws.specs.Ready.{IsStuck}
-use Rattle.bus_laws.specs.Coming.{IsTurn, Comes}
 use Rattle.bus_laws.specs.Following.{GoesOnBy, KeepsTo}
 use Rattle.bus_laws.proofs.schedule.Coming.{stuck-waits, turn-ready, word-made, word-passed}
 use Rattle.bus_laws.proofs.schedule.Turns.{turns-behind}

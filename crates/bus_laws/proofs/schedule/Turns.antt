@@ -1,34 +1,18 @@
 -- A journal and one step more: its steps are those before and that one.
-use Rattle.std.proofs.Common.{◌≡◌, ℕ, Bool, true, false, cond, ◌&&◌, List, [], ◌∷◌, ◌++◌, Option, Some, None, refl, sym, ◌∙◌, ap, subst, inl, inr}
-use Rattle.std.specs.Prelude.{reverse, ◌==◌}
-use Rattle.std.proofs.lemmas.Bool.{eq-eqb, eqb-true}
+use Rattle.bus_laws.proofs.Cited.{◌≡◌, ℕ, Bool, true, false, cond, ◌&&◌, List, [], ◌∷◌, ◌++◌, Option, Some, None, refl, sym, ◌∙◌, ap, subst}
+use Rattle.bus_laws.proofs.Cited.{inl, inr, reverse, ◌==◌, eq-eqb, eqb-true, LockId, Entry, End, BoardView, root_of, IsTree, IsPlainBoard}
+use Rattle.bus_laws.proofs.Cited.{Asks, Job, Act, Take, Free, Send, Shift, Settle, Note, WalkTree, Then, job_bus, is_over, first_act}
+use Rattle.bus_laws.proofs.Cited.{first_note, caller_of, is_stepping, Now, current, now, step, is_due, sent_by, lined_by, begun, May}
+use Rattle.bus_laws.proofs.Cited.{IsStepwise, Turn, turns, LinesAreLocked, AsksForMessages, Runs, InLocks, CallerStands, Stands, ahead}
+use Rattle.bus_laws.proofs.Cited.{IsTurn}
 use mathlib.Core.List.{reverse-cons}
-use Rattle.i2c_base.specs.declared.ids.LockId.{LockId}
 use Rattle.i2c_base.specs.declared.ids.LockId.TheVariants as lock
-use Rattle.i2c_base.specs.declared.entry.Entry.{Entry}
 use Rattle.i2c_base.specs.declared.entry.Entry.TheVariants as entry
-use Rattle.i2c_base.specs.declared.entry.End.{End}
-use Rattle.i2c_base.specs.Board.{BoardView}
-use Rattle.i2c_spec.specs.Tree.{root_of}
-use Rattle.i2c_spec.specs.TreeFacts.{IsTree}
-use Rattle.i2c_spec.specs.Plain.{IsPlainBoard}
-use Rattle.i2c_spec.specs.History.{Asks}
-use Rattle.bus_spec.specs.Walk.{Job, Act, Take, Free, Send, Shift, Settle, Note, WalkTree, Then, job_bus}
-use Rattle.bus_spec.specs.Grammar.{is_over, first_act, first_note}
-use Rattle.bus_spec.specs.Readings.{caller_of}
-use Rattle.bus_spec.specs.Legal.{is_stepping}
-use Rattle.bus_spec.specs.Past.{Now, current, now, step, is_due, sent_by, lined_by, begun}
-use Rattle.bus_spec.specs.Stepwise.{May, IsStepwise}
-use Rattle.bus_spec.specs.Schedule.{Turn, turns, turn_of, with_entry, joins, is_settle}
-use Rattle.bus_laws.specs.Lines.{LinesAreLocked}
-use Rattle.bus_laws.specs.Reach.{AsksForMessages}
-use Rattle.bus_laws.specs.Runs.{Runs, InLocks}
-use Rattle.bus_laws.specs.Stands.{CallerStands, Stands}
+use Rattle.bus_spec.specs.Schedule.{turn_of, with_entry, joins, is_settle}
 use Rattle.bus_laws.proofs.past.Laws.{past-stands}
 use Rattle.bus_laws.proofs.past.StandsFacts.{over_ends, current-stands}
 use Rattle.bus_laws.proofs.past.StandsEntries.{first_is}
-use Rattle.bus_laws.specs.Others.{ahead}
-use Rattle.bus_laws.specs.Coming.{IsOne, IsTwo, IsTurn}
+use Rattle.bus_laws.specs.Coming.{IsOne, IsTwo}
 
 -- an entry before steps takes the first of them in
 abbrev joins_head : Entry → List Turn → Bool

@@ -1,23 +1,17 @@
 -- A job on the bus itself: one line step, or its messages. The induction goes over the messages that may follow.
-use Rattle.std.proofs.Common.{◌≡◌, ℕ, zero, suc, ◌<◌, Bool, true, false, cond, ◌&&◌, List, [], ◌∷◌, Option, Some, None, eqb, refl, sym, ◌∙◌, ap, subst, inl, inr, arith}
-use Rattle.std.proofs.lemmas.Bool.{eqb-false, eq-eqb, ne_eqb}
-use Rattle.std.proofs.lemmas.Bool.Decides.{eqb_tells}
-use Rattle.i2c_spec.specs.History.{changed_at}
-use Rattle.std.proofs.Math.Path.{fun_ext}
-use Rattle.i2c_base.specs.declared.ids.LockId.{LockId}
+use Rattle.bus_laws.proofs.Cited.{◌≡◌, ℕ, zero, suc, ◌<◌, Bool, true, false, cond, ◌&&◌, List, [], ◌∷◌, Option, Some, None, eqb, refl, sym}
+use Rattle.bus_laws.proofs.Cited.{◌∙◌, ap, subst, inl, inr, arith, eqb-false, eq-eqb, ne_eqb, eqb_tells, changed_at, fun_ext, LockId, End}
+use Rattle.bus_laws.proofs.Cited.{Errno, BoardView, TransferView, Hop, hops, root_of, Crosses, IsAmongHops, buses, IsTree, MessageView}
+use Rattle.bus_laws.proofs.Cited.{Mark, Job, Call, Select, SwitchOff, Off, off_bus, off_mux, off_kind, ActOutcome, Passed, Sent, Lined}
+use Rattle.bus_laws.proofs.Cited.{JobOutcome, Good, Refused, Failed, Note, WalkTree, Go, On, Last, Over, goes, first_byte, job_outcome}
+use Rattle.bus_laws.proofs.Cited.{sent_outcome, verdict_of, decides, is_gpio, is_arbitrator, Slots, At, MuxSlot, Clean, Marked, Polled}
+use Rattle.bus_laws.proofs.Cited.{Found, turned, turned_at, set_marks, after_job, settled, over, by_go, messages, IsOpenOn, InLocks}
+use Rattle.bus_laws.proofs.Cited.{CanSend, CanSelect, FindsSelect, CanGoThrough, HeadsMarks, IsUnmarked, IsOfMux, MayFail, Owns, MaySend}
+use Rattle.bus_laws.proofs.Cited.{Runs}
 use Rattle.i2c_base.specs.declared.ids.LockId.TheVariants as lock
-use Rattle.i2c_base.specs.declared.entry.End.{End}
 use Rattle.i2c_base.specs.declared.entry.End.TheVariants as end
-use Rattle.i2c_base.specs.declared.errno.Errno.{Errno}
-use Rattle.i2c_base.specs.Board.{BoardView}
-use Rattle.i2c_base.specs.Transfer.{TransferView}
-use Rattle.i2c_spec.specs.Tree.{Hop, hops, root_of, Crosses, IsAmongHops, buses}
-use Rattle.i2c_spec.specs.TreeFacts.{IsTree}
-use Rattle.i2c_spec.specs.Messages.{MessageView}
-use Rattle.bus_spec.specs.Walk.{Mark, Job, Call, Select, SwitchOff, Off, off_bus, off_mux, off_kind, ActOutcome, Passed, Sent, Lined, JobOutcome, Good, Refused, Failed, Note, WalkTree, Go, On, Last, Over, goes, first_byte, job_outcome, sent_outcome, verdict_of, decides, is_gpio, is_arbitrator}
-use Rattle.bus_spec.specs.Slots.{Slots, At, MuxSlot, Clean, Marked, Polled, Found, turned, turned_at, set_marks, shut, after_job}
-use Rattle.bus_spec.specs.Grammar.{settled, over, by_go, messages}
-use Rattle.bus_laws.specs.Runs.{IsOpenOn, InLocks, answers, CanSend, CanSelect, FindsSelect, CanGoThrough, HeadsMarks, IsUnmarked, IsOfMux, MayFail, Owns, MaySend, Runs}
+use Rattle.bus_spec.specs.Slots.{shut}
+use Rattle.bus_laws.specs.Runs.{answers}
 use Rattle.bus_laws.proofs.world.BoardFacts.{absent_silent, held_silent}
 use Rattle.bus_laws.proofs.tree.Slots.{turned-same, turned-other, set_marks-along}
 use Rattle.bus_laws.proofs.tree.Doers.{After, CanJob, job_after}

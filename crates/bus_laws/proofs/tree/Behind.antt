@@ -1,32 +1,22 @@
 -- A job behind one mux: the close of a marked mux, the select, the job, the deselect. What does a job on the bus that
 -- the mux stands on is given, and runs.
-use Rattle.std.proofs.Common.{◌≡◌, ℕ, ◌<◌, ◌&&◌, Bool, cond, eqb, true, false, List, [], ◌∷◌, Option, Some, None, refl, sym, ◌∙◌, ap, subst, ◌⊎◌, inl, inr, arith}
-use Rattle.std.specs.Prelude.{unwrap_or, slice_get}
-use Rattle.std.specs.Option.{option_map}
-use Rattle.std.specs.List.{AllByRecursion}
-use Rattle.i2c_base.specs.declared.ids.LockId.{LockId}
+use Rattle.bus_laws.proofs.Cited.{◌≡◌, ℕ, ◌<◌, ◌&&◌, Bool, cond, eqb, true, false, List, [], ◌∷◌, Option, Some, None, refl, sym, ◌∙◌, ap}
+use Rattle.bus_laws.proofs.Cited.{subst, ◌⊎◌, inl, inr, arith, unwrap_or, slice_get, option_map, AllByRecursion, LockId, MuxKind, Pca9548}
+use Rattle.bus_laws.proofs.Cited.{MuxSpec, BoardView, TransferView, Hop, hops, buses, root_of, locks_of, home_of_mux, Crosses, IsAmongHops}
+use Rattle.bus_laws.proofs.Cited.{is_left_open, IsTree, IsHop, changed_at, eqb-true, eqb_tells, Look, KeptOf, Mark, Job, Select, SwitchOff}
+use Rattle.bus_laws.proofs.Cited.{Deselect, Close, JobOutcome, Good, Refused, Unsent, Failed, Note, WalkTree, job_bus, is_line, is_gpio}
+use Rattle.bus_laws.proofs.Cited.{is_arbitrator, Slots, At, MuxSlot, Clean, Marked, mark_in, turned, turned_at, set_marks, Doer, aside}
+use Rattle.bus_laws.proofs.Cited.{with_mark, if_sent, if_good, kind_of, closing, left_behind, opened, chosen, crossed, behind, IsOpenOn}
+use Rattle.bus_laws.proofs.Cited.{InLocks, IsShut, IsRest, IsMuxOf, IsUnmarked, IsOfMux, MayFail, Owns, IsGranted, Runs, LinesAreLocked}
+use Rattle.bus_laws.proofs.Cited.{and_first, and_last}
 use Rattle.i2c_base.specs.declared.ids.LockId.TheVariants as lock
-use Rattle.i2c_base.specs.declared.board.MuxKind.{MuxKind}
-use Rattle.i2c_base.specs.declared.board.MuxKind.TheVariants.{Pca9548}
-use Rattle.i2c_base.specs.declared.board.MuxSpec.{MuxSpec}
-use Rattle.i2c_base.specs.Board.{BoardView}
-use Rattle.i2c_base.specs.Transfer.{TransferView}
-use Rattle.i2c_spec.specs.Tree.{Hop, hops, buses, root_of, locks_of, home_of_mux, Crosses, IsAmongHops}
-use Rattle.i2c_spec.specs.TreeFacts.{IsTree, IsHop}
-use Rattle.i2c_spec.specs.Tree.{is_left_open}
-use Rattle.i2c_spec.specs.History.{changed_at}
-use Rattle.std.proofs.lemmas.Bool.{eqb-true}
-use Rattle.std.proofs.lemmas.Bool.Decides.{eqb_tells}
-use Rattle.bus_spec.specs.Walk.{Look, KeptOf, Mark, Job, Select, SwitchOff, Deselect, Close, JobOutcome, Good, Refused, Unsent, Failed, Note, WalkTree, job_bus, is_line, is_gpio, is_arbitrator}
-use Rattle.bus_spec.specs.Slots.{Slots, At, MuxSlot, Clean, Marked, mark_in, turned, turned_at, set_marks}
-use Rattle.bus_spec.specs.Grammar.{Doer, aside, with_mark, if_sent, if_good, kind_of, closing, left_behind, opened, chosen, crossed, behind}
-use Rattle.bus_laws.specs.Runs.{answers, IsOpenOn, OthersKept, IsKept, InLocks, IsShut, IsRest, IsMuxOf, IsUnmarked, IsOfMux, MayFail, Owns, IsGranted, Runs}
-use Rattle.bus_laws.specs.Lines.{LinesAreLocked}
+use Rattle.bus_laws.specs.Runs.{answers, OthersKept, IsKept}
 use Rattle.bus_laws.proofs.tree.Slots.{changed-other, turned-same, turned-other, set_marks-along, set_marks-head, shut_clean, marked_slot}
-use Rattle.bus_laws.proofs.tree.Doers.{Responds, AllRespond, CanJob, job_after, OwnsOff, FindsFirst, CallUnmarked, IsPassed, Before, After, DoerRuns}
+use Rattle.bus_laws.proofs.tree.Doers.{Responds, AllRespond, CanJob, job_after, OwnsOff, FindsFirst, CallUnmarked, IsPassed, Before, After}
+use Rattle.bus_laws.proofs.tree.Doers.{DoerRuns}
 use Rattle.bus_laws.proofs.tree.Base.{crosses_below}
-use Rattle.bus_laws.proofs.tree.Path.{job_after-off, job_after-along, job_after-unsent, job_after-failed, finds_along, fail_along, unmarked_off, marks_tail, owns_off_tail, own_crosses, can_more, bus_among, sub_locks}
-use Rattle.i2c_base.proofs.Booleans.{and_first, and_last}
+use Rattle.bus_laws.proofs.tree.Path.{job_after-off, job_after-along, job_after-unsent, job_after-failed, finds_along, fail_along}
+use Rattle.bus_laws.proofs.tree.Path.{unmarked_off, marks_tail, owns_off_tail, own_crosses, can_more, bus_among, sub_locks}
 use Rattle.bus_laws.proofs.world.Slots.{kept_other, kept_own}
 
 -- the kind that a board tells of a mux

@@ -1,17 +1,12 @@
 -- What does a job at the end of some hops, and what it needs and leaves. `ls` are the locks of these hops that are
 -- held, `floor` the least rank among the held ones.
-use Rattle.std.proofs.Common.{◌≡◌, ℕ, ◌<◌, ◌≤◌, Bool, true, false, List, [], ◌∷◌, Some, None, ◌⊎◌}
-use Rattle.std.specs.List.{AllByRecursion}
-use Rattle.i2c_base.specs.declared.ids.LockId.{LockId}
+use Rattle.bus_laws.proofs.Cited.{◌≡◌, ℕ, ◌<◌, ◌≤◌, Bool, true, false, List, [], ◌∷◌, Some, None, ◌⊎◌, AllByRecursion, LockId, BoardView}
+use Rattle.bus_laws.proofs.Cited.{TransferView, Hop, hops, buses, root_of, locks_of, Crosses, IsAmongHops, Mark, Job, Call, Select}
+use Rattle.bus_laws.proofs.Cited.{SwitchOff, off_bus, off_mux, JobOutcome, Good, Refused, Unsent, Failed, Note, WalkTree, job_bus, is_line}
+use Rattle.bus_laws.proofs.Cited.{is_gpio, is_arbitrator, Slots, At, Clean, turned, set_marks, Doer, rank, IsOpenOn, InLocks, IsRest, Owns}
+use Rattle.bus_laws.proofs.Cited.{MayFail, IsGranted, Runs}
 use Rattle.i2c_base.specs.declared.ids.LockId.TheVariants as lock
-use Rattle.i2c_base.specs.Board.{BoardView}
-use Rattle.i2c_base.specs.Transfer.{TransferView}
-use Rattle.i2c_spec.specs.Tree.{Hop, hops, buses, root_of, locks_of, Crosses, IsAmongHops}
-use Rattle.bus_spec.specs.Walk.{Mark, Job, Call, Select, SwitchOff, off_bus, off_mux, JobOutcome, Good, Refused, Unsent, Failed, Note, WalkTree, job_bus, is_line, is_gpio, is_arbitrator}
-use Rattle.bus_spec.specs.Slots.{Slots, At, Clean, turned, set_marks}
-use Rattle.bus_spec.specs.Grammar.{Doer}
-use Rattle.bus_spec.specs.Readings.{rank}
-use Rattle.bus_laws.specs.Runs.{IsOpenOn, InLocks, answers, IsRest, FindsOff, Owns, MayFail, IsGranted, Runs}
+use Rattle.bus_laws.specs.Runs.{answers, FindsOff}
 
 -- a hop lets a job through: a line always does, a chip where it answers
 abbrev pub Responds : BoardView → Hop → Type 0

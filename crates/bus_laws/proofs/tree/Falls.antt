@@ -1,13 +1,8 @@
 -- Locks in falling rank, as those of a path are. The inductions go over the locks, and over the hops.
-use Rattle.std.proofs.Common.{◌≡◌, ℕ, ◌+◌, ◌<◌, Bool, true, false, cond, List, [], ◌∷◌, length, refl, ◌∙◌, ap, ◌⊎◌, inl, inr, arith, add-one}
-use Rattle.i2c_base.specs.declared.ids.LockId.{LockId}
+use Rattle.bus_laws.proofs.Cited.{◌≡◌, ℕ, ◌+◌, ◌<◌, Bool, true, false, cond, List, [], ◌∷◌, length, refl, ◌∙◌, ap, ◌⊎◌, inl, inr, arith}
+use Rattle.bus_laws.proofs.Cited.{LockId, BoardView, Hop, hops, locks_of, IsTree, rank, IsBelow, InLocks}
+use Rattle.std.proofs.Common.{add-one}
 use Rattle.i2c_base.specs.declared.ids.LockId.TheVariants as lock
-use Rattle.i2c_base.specs.Board.{BoardView}
-use Rattle.i2c_spec.specs.Tree.{Hop, hops, locks_of}
-use Rattle.i2c_spec.specs.TreeFacts.{IsTree}
-use Rattle.bus_spec.specs.Readings.{rank}
-use Rattle.bus_spec.specs.Stepwise.{IsBelow}
-use Rattle.bus_laws.specs.Runs.{InLocks}
 use Rattle.bus_laws.proofs.tree.Path.{ground}
 
 -- locks in falling rank, all below a floor; the floor that they leave

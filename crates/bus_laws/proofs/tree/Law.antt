@@ -1,30 +1,18 @@
 -- The tree law: the whole walk of a transfer runs. The inductions go over the locks, and over the hops.
-use Rattle.std.proofs.Common.{◌≡◌, ℕ, suc, ◌<◌, ◌≤◌, Bool, true, false, cond, not, ◌&&◌, List, [], ◌∷◌, length, Option, Some, None, ltb, refl, sym, ◌∙◌, ap, subst, ◌⊎◌, inl, inr, arith}
-use Rattle.std.specs.List.{list_any}
-use Rattle.std.proofs.lemmas.Bool.{ltb-true}
-use Rattle.std.proofs.lemmas.Bool.Decides.{eqb_tells}
-use Rattle.i2c_base.specs.declared.ids.LockId.{LockId}
+use Rattle.bus_laws.proofs.Cited.{◌≡◌, ℕ, suc, ◌<◌, ◌≤◌, Bool, true, false, cond, not, ◌&&◌, List, [], ◌∷◌, length, Option, Some, None, ltb}
+use Rattle.bus_laws.proofs.Cited.{refl, sym, ◌∙◌, ap, subst, ◌⊎◌, inl, inr, arith, list_any, ltb-true, eqb_tells, LockId, Errno, Msg}
+use Rattle.bus_laws.proofs.Cited.{BoardView, TransferView, Hop, hops, buses, root_of, locks_of, Crosses, IsAmongHops, IsTree, messages_of}
+use Rattle.bus_laws.proofs.Cited.{refusal, grant_of, is_busy, Mark, Job, Call, Select, SwitchOff, JobOutcome, Note, WalkTree, Ends, Then}
+use Rattle.bus_laws.proofs.Cited.{Free, is_line, Slots, At, Doer, plain, locked, part, inner, behind, at_bus, walk_by, walk_for, rank}
+use Rattle.bus_laws.proofs.Cited.{IsOpenOn, InLocks, IsRest, RestOf, LeavesShut, taken_slots, Owns, MayFail, Runs, LinesAreLocked}
+use Rattle.bus_laws.proofs.Cited.{changed_at}
 use Rattle.i2c_base.specs.declared.ids.LockId.TheVariants as lock
-use Rattle.i2c_base.specs.declared.errno.Errno.{Errno}
 use Rattle.i2c_base.specs.declared.errno.Errno.TheVariants as errno
-use Rattle.i2c_base.specs.declared.transfer.Msg.{Msg}
-use Rattle.i2c_base.specs.Board.{BoardView}
-use Rattle.i2c_base.specs.Transfer.{TransferView}
-use Rattle.i2c_spec.specs.Tree.{Hop, hops, buses, root_of, locks_of, Crosses, IsAmongHops}
-use Rattle.i2c_spec.specs.TreeFacts.{IsTree}
-use Rattle.i2c_spec.specs.Messages.{messages_of}
-use Rattle.i2c_spec.specs.Flat.{refusal, is_plain, is_smbus_only}
-use Rattle.i2c_spec.specs.Grant.{grant_of, is_busy}
-use Rattle.bus_spec.specs.Walk.{Mark, Job, Call, Select, SwitchOff, JobOutcome, Note, WalkTree, Ends, Then, Free, is_line}
-use Rattle.bus_spec.specs.Slots.{Slots, At}
-use Rattle.bus_spec.specs.Grammar.{Doer, plain, locked, part, inner, behind, at_bus, walk_by, walk_for}
-use Rattle.bus_spec.specs.Readings.{rank}
-use Rattle.bus_laws.specs.Runs.{IsOpenOn, InLocks, IsRest, RestOf, LeavesShut, taken_slots, Owns, MayFail, Runs}
-use Rattle.bus_laws.specs.Lines.{LinesAreLocked}
-use Rattle.i2c_spec.specs.History.{changed_at}
+use Rattle.i2c_spec.specs.Flat.{is_plain, is_smbus_only}
 use Rattle.bus_laws.proofs.tree.Slots.{changed-same, changed-other}
 use Rattle.bus_laws.proofs.tree.Doers.{Before, After, DoerRuns}
-use Rattle.bus_laws.proofs.tree.Path.{job_after-along, finds_along, fail_along, own_crosses, locks_cross, bus_runs, line_runs, ground, sub_locks}
+use Rattle.bus_laws.proofs.tree.Path.{job_after-along, finds_along, fail_along, own_crosses, locks_cross, bus_runs, line_runs, ground}
+use Rattle.bus_laws.proofs.tree.Path.{sub_locks}
 use Rattle.bus_laws.proofs.tree.Falls.{Falls, floor_after, gathered, is_below_all, in_gathered, of_gathered, path_falls, path_floor}
 use Rattle.bus_laws.proofs.tree.Behind.{behind-runs}
 

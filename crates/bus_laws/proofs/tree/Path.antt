@@ -1,17 +1,11 @@
 -- A job at the end of a path of hops. The induction goes over the hops.
-use Rattle.std.proofs.Common.{◌≡◌, ℕ, zero, suc, ◌-◌, Bool, true, false, cond, List, [], ◌∷◌, length, Some, None, refl, sym, ap, subst, inl, inr}
-use Rattle.std.specs.List.{AllByRecursion}
-use Rattle.i2c_base.specs.declared.ids.LockId.{LockId}
+use Rattle.bus_laws.proofs.Cited.{◌≡◌, ℕ, zero, suc, ◌-◌, Bool, true, false, cond, List, [], ◌∷◌, length, Some, None, refl, sym, ap, subst}
+use Rattle.bus_laws.proofs.Cited.{inl, inr, AllByRecursion, LockId, line_row, BoardView, TransferView, Hop, hops, root_of, locks_of}
+use Rattle.bus_laws.proofs.Cited.{Crosses, IsAmongHops, IsTree, Mark, Job, Call, Select, SwitchOff, off_bus, off_mux, Shift, ActOutcome}
+use Rattle.bus_laws.proofs.Cited.{Passed, Sent, Lined, JobOutcome, Good, Refused, Unsent, Failed, Note, WalkTree, Then, job_bus, is_line}
+use Rattle.bus_laws.proofs.Cited.{is_arbitrator, more_of, Slots, At, MuxSlot, Clean, turned, set_marks, after_job, over, messages, at_bus}
+use Rattle.bus_laws.proofs.Cited.{IsOpenOn, InLocks, IsRest, CanShift, Finds, FindsOpen, FindsSelect, IsUnmarked, IsOfMux, MayFail, Runs}
 use Rattle.i2c_base.specs.declared.ids.LockId.TheVariants as lock
-use Rattle.i2c_base.proofs.MuxLemmas.{line_row}
-use Rattle.i2c_base.specs.Board.{BoardView}
-use Rattle.i2c_base.specs.Transfer.{TransferView}
-use Rattle.i2c_spec.specs.Tree.{Hop, hops, root_of, locks_of, Crosses, IsAmongHops}
-use Rattle.i2c_spec.specs.TreeFacts.{IsTree}
-use Rattle.bus_spec.specs.Walk.{Mark, Job, Call, Select, SwitchOff, off_bus, off_mux, Shift, ActOutcome, Passed, Sent, Lined, JobOutcome, Good, Refused, Unsent, Failed, Note, WalkTree, Then, job_bus, is_line, is_arbitrator, more_of}
-use Rattle.bus_spec.specs.Slots.{Slots, At, MuxSlot, Clean, turned, set_marks, after_job}
-use Rattle.bus_spec.specs.Grammar.{over, messages, at_bus}
-use Rattle.bus_laws.specs.Runs.{IsOpenOn, InLocks, IsRest, CanShift, Finds, FindsOpen, FindsSelect, IsUnmarked, IsOfMux, MayFail, Runs}
 use Rattle.bus_laws.proofs.tree.Slots.{turned-other, turned-along, set_marks-other, set_marks-along}
 use Rattle.bus_laws.proofs.tree.Doers.{IsFresh, Responds, CanJob, job_after, OwnsOff, FindsFirst, CallUnmarked, Before, After}
 use Rattle.bus_laws.proofs.tree.Base.{over-runs, call_runs, select_runs, off_runs}

@@ -1,11 +1,7 @@
 -- What a change at one bus leaves at the others. The inductions go over a list of marks.
-use Rattle.std.proofs.Common.{◌≡◌, ℕ, cond, List, [], ◌∷◌, Option, Some, None, refl, sym, ◌∙◌, ap, inl, inr}
-use Rattle.std.proofs.lemmas.Bool.{eq-eqb, ne_eqb}
-use Rattle.std.proofs.lemmas.Bool.Decides.{eqb_tells}
-use Rattle.i2c_spec.specs.History.{changed_at}
-use Rattle.bus_spec.specs.Walk.{Mark}
-use Rattle.bus_spec.specs.Slots.{Slots, At, MuxSlot, Clean, Marked, Polled, Found, turned, turned_at, set_marks, mark_in}
-use Rattle.bus_laws.specs.Runs.{IsShut, IsUnmarked}
+use Rattle.bus_laws.proofs.Cited.{◌≡◌, ℕ, cond, List, [], ◌∷◌, Option, Some, None, refl, sym, ◌∙◌, ap, inl, inr, eq-eqb, ne_eqb, eqb_tells}
+use Rattle.bus_laws.proofs.Cited.{changed_at, Mark, Slots, At, MuxSlot, Clean, Marked, Polled, Found, turned, turned_at, set_marks, mark_in}
+use Rattle.bus_laws.proofs.Cited.{IsShut, IsUnmarked}
 
 pub changed-same : (v : Slots) (p : ℕ) (x : At) → changed_at v p x p ≡ x
 changed-same v p x = ap (λ t. cond t x (v p)) (eq-eqb p p refl)

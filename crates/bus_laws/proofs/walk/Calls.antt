@@ -1,14 +1,7 @@
 -- The caller's messages in a walk are those of its transfer, and each select on the way to them is on its path.
-use Rattle.std.proofs.Common.{◌≡◌, ◌<◌, false, true, length, refl}
-use Rattle.i2c_base.specs.declared.ids.LockId.{LockId}
-use Rattle.i2c_base.specs.Board.{BoardView}
-use Rattle.i2c_base.specs.Transfer.{TransferView}
-use Rattle.i2c_spec.specs.Tree.{Hop, hops, IsAmongHops}
-use Rattle.bus_spec.specs.Walk.{Job, Note, WalkTree, Ends, Look, Then}
-use Rattle.bus_spec.specs.Slots.{Slots, answer_to}
-use Rattle.bus_spec.specs.Grammar.{walk_for, seen}
-use Rattle.bus_laws.specs.Runs.{IsGranted}
-use Rattle.bus_laws.specs.Calls.{IsOnWay, CallsOf}
+use Rattle.bus_laws.proofs.Cited.{◌≡◌, ◌<◌, false, true, length, refl, LockId, BoardView, TransferView, Hop, hops, IsAmongHops, Job, Note}
+use Rattle.bus_laws.proofs.Cited.{WalkTree, Ends, Look, Then, Slots, answer_to, walk_for, seen, IsGranted, CallsOf}
+use Rattle.bus_laws.specs.Calls.{IsOnWay}
 use Rattle.bus_laws.proofs.walk.Keeps.{GoesOver, GoesOverHop, walk-keeps}
 
 -- what a job needs: it is granted, and on the way

@@ -1,35 +1,27 @@
 -- No walk weighs more than its transfer's cost. The inductions go over the tree of a walk, over the messages of a
 -- job, over the locks of a path, and over its hops.
-use Rattle.std.proofs.Common.{◌≡◌, ℕ, zero, suc, ◌+◌, ◌*◌, ◌-◌, ◌<◌, ◌≤◌, Bool, true, false, cond, not, ◌&&◌, List, [], ◌∷◌, ◌++◌, length, Option, Some, None, refl, sym, ◌∙◌, ap, inl, inr, arith, append_assoc}
-use Rattle.std.specs.Prelude.{unwrap_or, drop}
+use Rattle.bus_laws.proofs.Cited.{◌≡◌, ℕ, zero, suc, ◌+◌, ◌*◌, ◌-◌, ◌<◌, ◌≤◌, Bool, true, false, cond, not, ◌&&◌, List, [], ◌∷◌, ◌++◌}
+use Rattle.bus_laws.proofs.Cited.{length, Option, Some, None, refl, sym, ◌∙◌, ap, inl, inr, arith, unwrap_or, drop, option_map, LockId}
+use Rattle.bus_laws.proofs.Cited.{MuxSpec, Errno, MuxKind, BoardView, Msg, TransferView, written_of, Hop, hops, root_of, locks_of}
+use Rattle.bus_laws.proofs.Cited.{is_parent, IsTree, IsHop, MeetsRules, wants_parent, MessageView, messages_from, messages_of, bytes_most}
+use Rattle.bus_laws.proofs.Cited.{refusal, block_limit, Job, Call, Select, SwitchOff, Deselect, Close, Free, Send, Shift, ActOutcome}
+use Rattle.bus_laws.proofs.Cited.{JobOutcome, Good, Refused, Unsent, Failed, Note, KeptOf, WalkTree, Ends, Look, Then, Go, On, Last, Over}
+use Rattle.bus_laws.proofs.Cited.{goes, job_outcome, verdict_of, decides, is_line, is_gpio, is_arbitrator, more_of, nth_message, Doer}
+use Rattle.bus_laws.proofs.Cited.{plain, settled, over, by_go, messages, at_bus, locked, part, with_mark, aside, if_sent, if_good, kind_of}
+use Rattle.bus_laws.proofs.Cited.{closing, left_behind, opened, chosen, keeps, crossed, behind, inner, walk_by, walk_for, weight_at}
+use Rattle.bus_laws.proofs.Cited.{IsWithin, length-messages, same_Some}
+use Rattle.std.proofs.Common.{append_assoc}
 use Rattle.std.specs.List.{sum_by}
 use Rattle.std.proofs.lemmas.List.Sums.{sum_by-cons}
-use Rattle.std.specs.Option.{option_map}
-use Rattle.i2c_base.specs.declared.ids.LockId.{LockId}
-use Rattle.i2c_base.specs.declared.board.MuxSpec.{MuxSpec}
-use Rattle.i2c_base.specs.declared.errno.Errno.{Errno}
-use Rattle.i2c_base.specs.declared.board.MuxKind.{MuxKind}
-use Rattle.i2c_base.specs.Board.{BoardView}
 use Rattle.i2c_base.proofs.MuxLemmas.{arbitrator_row}
-use Rattle.i2c_base.specs.declared.transfer.Msg.{Msg}
-use Rattle.i2c_base.specs.Transfer.{TransferView, written_of}
-use Rattle.i2c_spec.specs.Tree.{Hop, hops, root_of, locks_of, is_parent}
-use Rattle.i2c_spec.specs.TreeFacts.{IsTree, IsHop}
-use Rattle.i2c_spec.specs.Rules.{MeetsRules, wants_parent}
-use Rattle.i2c_spec.specs.Messages.{MessageView, messages_from, messages_of}
-use Rattle.i2c_spec.specs.Flat.{refusal, block_limit}
 use Rattle.i2c_spec.specs.Cost.{lock_steps, behind_by, behind_cost, inner_cost, full_cost, bytes_of, steps_of, cost_of}
 use Rattle.i2c_base.specs.Limits.{POLLS}
-use Rattle.bus_spec.specs.Walk.{Job, Call, Select, SwitchOff, Deselect, Close, Free, Send, Shift, ActOutcome, JobOutcome, Good, Refused, Unsent, Failed, Note, KeptOf, WalkTree, Ends, Look, Then, Go, On, Last, Over, goes, job_outcome, verdict_of, decides, is_line, is_gpio, is_arbitrator, more_of, nth_message}
-use Rattle.bus_spec.specs.Grammar.{Doer, plain, settled, over, by_go, messages, at_bus, locked, part, with_mark, aside, if_sent, if_good, kind_of, closing, left_behind, opened, chosen, keeps, crossed, behind, inner, full, walk_by, walk_for}
-use Rattle.i2c_spec.specs.Messages.{bytes_most}
-use Rattle.bus_laws.specs.Costs.{weight_at, IsWithin, ArbitratorsArePassed}
+use Rattle.bus_spec.specs.Grammar.{full}
+use Rattle.bus_laws.specs.Costs.{ArbitratorsArePassed}
 use Rattle.bus_laws.proofs.tree.Law.{refusal-none}
 use Rattle.bus_laws.proofs.world.BoardFacts.{mux_at}
 use Rattle.bus_laws.proofs.world.LineFacts.{wanted}
 use Rattle.bus_laws.proofs.walk.MessageFacts.{nth-next}
-use Rattle.i2c_spec.proofs.MessageLemmas.{length-messages}
-use Rattle.std.proofs.lemmas.Option.{same_Some}
 use Rattle.i2c_spec.proofs.CostLemmas.{inner_more}
 
 -- more is enough where less is

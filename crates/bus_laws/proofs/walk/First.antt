@@ -1,19 +1,13 @@
 -- The caller's messages in a walk begin with the first one. The inductions go over the messages of a job, over locks, and
 -- over hops.
-use Rattle.std.proofs.Common.{◌≡◌, ℕ, zero, suc, Bool, true, false, cond, ◌&&◌, List, [], ◌∷◌, Option, Some, None, refl}
-use Rattle.i2c_base.specs.declared.ids.LockId.{LockId}
-use Rattle.i2c_base.specs.declared.errno.Errno.{Errno}
-use Rattle.i2c_base.specs.Board.{BoardView}
-use Rattle.i2c_base.specs.Transfer.{TransferView}
-use Rattle.i2c_spec.specs.Tree.{Hop, hops, root_of, locks_of}
-use Rattle.i2c_spec.specs.Messages.{MessageView, messages_of}
-use Rattle.i2c_spec.specs.Flat.{refusal}
-use Rattle.bus_spec.specs.Walk.{Job, Call, Select, SwitchOff, Deselect, Close, Take, Free, Send, Shift, Settle, ActOutcome, Passed, Sent, Lined, JobOutcome, Note, KeptOf, WalkTree, Ends, Look, Then, goes, job_outcome, verdict_of, decides, is_line, more_of}
-use Rattle.bus_spec.specs.Slots.{Slots, answer_to}
-use Rattle.bus_spec.specs.Grammar.{Doer, settled, over, by_go, messages, at_bus, locked, part, with_mark, aside, if_sent, if_good, kind_of, closing, left_behind, opened, chosen, keeps, crossed, behind, inner, walk_by, walk_for, plain, seen}
-use Rattle.bus_laws.specs.Settles.{Settles}
+use Rattle.bus_laws.proofs.Cited.{◌≡◌, ℕ, zero, suc, Bool, true, false, cond, ◌&&◌, List, [], ◌∷◌, Option, Some, None, refl, LockId, Errno}
+use Rattle.bus_laws.proofs.Cited.{BoardView, TransferView, Hop, hops, root_of, locks_of, MessageView, messages_of, refusal, Job, Call}
+use Rattle.bus_laws.proofs.Cited.{Select, SwitchOff, Deselect, Close, Take, Free, Send, Shift, Settle, ActOutcome, Passed, Sent, Lined}
+use Rattle.bus_laws.proofs.Cited.{JobOutcome, Note, KeptOf, WalkTree, Ends, Look, Then, goes, job_outcome, verdict_of, decides, is_line}
+use Rattle.bus_laws.proofs.Cited.{more_of, Slots, answer_to, Doer, settled, over, by_go, messages, at_bus, locked, part, with_mark, aside}
+use Rattle.bus_laws.proofs.Cited.{if_sent, if_good, kind_of, closing, left_behind, opened, chosen, keeps, crossed, behind, inner, walk_by}
+use Rattle.bus_laws.proofs.Cited.{walk_for, plain, seen, Settles, FirstCalls}
 use Rattle.bus_laws.proofs.walk.Keeps.{by_go-keeps, if_good-keeps, if_sent-keeps}
-use Rattle.bus_laws.specs.Calls.{FirstCalls}
 
 -- after the settle none is sent
 pub settled-first : (w : WalkTree) → Settles true w → FirstCalls w

@@ -1,32 +1,20 @@
 -- The locks of a whole walk. The inductions go over the messages of a job, over the locks of a path, and over its hops.
-use Rattle.std.proofs.Common.{◌≡◌, ℕ, zero, suc, ◌<◌, ◌≤◌, Bool, true, false, cond, ◌&&◌, List, [], ◌∷◌, length, Option, Some, None, refl, sym, ◌∙◌, ap, subst, inl, inr, arith}
-use Rattle.std.specs.Prelude.{unwrap_or}
-use Rattle.std.specs.List.{AllByRecursion}
-use Rattle.std.specs.Option.{option_map}
-use Rattle.std.proofs.lemmas.Bool.{ltb-true}
-use Rattle.i2c_base.specs.declared.board.MuxSpec.{MuxSpec}
-use Rattle.i2c_base.specs.declared.board.MuxKind.TheVariants.{Pca9548}
-use Rattle.i2c_base.specs.declared.ids.LockId.{LockId}
+use Rattle.bus_laws.proofs.Cited.{◌≡◌, ℕ, zero, suc, ◌<◌, ◌≤◌, Bool, true, false, cond, ◌&&◌, List, [], ◌∷◌, length, Option, Some, None}
+use Rattle.bus_laws.proofs.Cited.{refl, sym, ◌∙◌, ap, subst, inl, inr, arith, unwrap_or, AllByRecursion, option_map, ltb-true, MuxSpec}
+use Rattle.bus_laws.proofs.Cited.{Pca9548, LockId, Errno, BoardView, TransferView, Hop, hops, buses, root_of, locks_of, home_of_mux}
+use Rattle.bus_laws.proofs.Cited.{IsAmongHops, IsTree, messages_of, refusal, Mark, Job, Call, Select, SwitchOff, Deselect, Close, Free}
+use Rattle.bus_laws.proofs.Cited.{Send, Shift, ActOutcome, JobOutcome, Note, KeptOf, WalkTree, Ends, Look, Then, goes, job_bus, job_outcome}
+use Rattle.bus_laws.proofs.Cited.{verdict_of, decides, is_line, is_gpio, more_of, Doer, plain, settled, over, messages, at_bus, locked}
+use Rattle.bus_laws.proofs.Cited.{part, with_mark, aside, if_sent, if_good, kind_of, closing, left_behind, opened, chosen, keeps, crossed}
+use Rattle.bus_laws.proofs.Cited.{behind, inner, walk_by, walk_for, rank, InLocks, IsUnmarked, LinesAreLocked, IsMarkOn, HoldsLocks}
 use Rattle.i2c_base.specs.declared.ids.LockId.TheVariants as lock
-use Rattle.i2c_base.specs.declared.errno.Errno.{Errno}
-use Rattle.i2c_base.specs.Board.{BoardView}
-use Rattle.i2c_base.specs.Transfer.{TransferView}
-use Rattle.i2c_spec.specs.Tree.{Hop, hops, buses, root_of, locks_of, home_of_mux, IsAmongHops}
-use Rattle.i2c_spec.specs.TreeFacts.{IsTree}
-use Rattle.i2c_spec.specs.Messages.{messages_of}
-use Rattle.i2c_spec.specs.Flat.{refusal}
-use Rattle.bus_spec.specs.Walk.{Mark, Job, Call, Select, SwitchOff, Deselect, Close, Free, Send, Shift, ActOutcome, JobOutcome, Note, KeptOf, WalkTree, Ends, Look, Then, goes, job_bus, job_outcome, verdict_of, decides, is_line, is_gpio, more_of}
-use Rattle.bus_spec.specs.Grammar.{Doer, plain, settled, over, messages, at_bus, locked, part, with_mark, aside, if_sent, if_good, kind_of, closing, left_behind, opened, chosen, keeps, crossed, behind, inner, walk_by, walk_for}
-use Rattle.bus_spec.specs.Readings.{rank}
-use Rattle.bus_laws.specs.Runs.{InLocks, IsUnmarked}
-use Rattle.bus_laws.specs.Lines.{LinesAreLocked}
 use Rattle.bus_laws.proofs.world.BoardFacts.{mux_at}
 use Rattle.bus_laws.proofs.tree.Law.{refusal-none}
 use Rattle.bus_laws.proofs.tree.Path.{ground, sub_locks, bus_among}
 use Rattle.bus_laws.proofs.tree.Falls.{Falls, floor_after, gathered, is_below_all, in_gathered, path_falls, path_floor}
 use Rattle.bus_laws.proofs.walk.Keeps.{by_go-keeps, if_good-keeps, if_sent-keeps}
 use Rattle.bus_laws.proofs.walk.Jobs.{hop_before}
-use Rattle.bus_laws.specs.Holds.{IsLockOf, IsMarkOn, OwnHeld, MarksHeld, AreApart, SendsIn, HoldsLocks}
+use Rattle.bus_laws.specs.Holds.{IsLockOf, OwnHeld, MarksHeld, AreApart, SendsIn}
 
 -- what a job at the end of some hops needs: `ls` are the locks of these hops that are held, `floor` the least rank held
 record Needs (b : BoardView) (root : ℕ) (hs : List Hop) (ls : List LockId) (floor : ℕ) (job : Job) (marks : List Mark)

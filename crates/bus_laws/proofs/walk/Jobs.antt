@@ -1,19 +1,9 @@
 -- What is so of every job of a walk. The inductions go over the messages of a job, over locks, and over hops.
-use Rattle.std.proofs.Common.{◌≡◌, ℕ, ◌<◌, List, [], ◌∷◌, Option, None, refl, sym, ◌∙◌, ap, subst, inl, inr, arith}
-use Rattle.std.specs.Prelude.{unwrap_or}
-use Rattle.std.specs.Option.{option_map}
-use Rattle.std.proofs.lemmas.Bool.{ltb-true}
-use Rattle.i2c_base.specs.declared.board.MuxSpec.{MuxSpec}
-use Rattle.i2c_base.specs.declared.board.MuxKind.TheVariants.{Pca9548}
-use Rattle.i2c_base.specs.Board.{BoardView}
-use Rattle.i2c_base.specs.Transfer.{TransferView}
-use Rattle.i2c_spec.specs.Tree.{Hop, hops, buses, IsAmongHops}
-use Rattle.i2c_spec.specs.TreeFacts.{IsTree}
-use Rattle.i2c_spec.specs.Messages.{messages_of}
-use Rattle.i2c_spec.specs.Flat.{refusal}
-use Rattle.bus_spec.specs.Walk.{Job, Call, Select, SwitchOff, Deselect, Close, Take, Free, Send, Shift, Settle, WalkTree, Ends, Look, Then}
-use Rattle.bus_spec.specs.Grammar.{kind_of, walk_for}
-use Rattle.bus_laws.specs.Jobs.{EachJob, IsJobOf}
+use Rattle.bus_laws.proofs.Cited.{◌≡◌, ℕ, ◌<◌, List, [], ◌∷◌, Option, None, refl, sym, ◌∙◌, ap, subst, inl, inr, arith, unwrap_or}
+use Rattle.bus_laws.proofs.Cited.{option_map, ltb-true, MuxSpec, Pca9548, BoardView, TransferView, Hop, hops, buses, IsAmongHops, IsTree}
+use Rattle.bus_laws.proofs.Cited.{messages_of, refusal, Job, Call, Select, SwitchOff, Deselect, Close, Take, Free, Send, Shift, Settle}
+use Rattle.bus_laws.proofs.Cited.{WalkTree, Ends, Look, Then, kind_of, walk_for, EachJob}
+use Rattle.bus_laws.specs.Jobs.{IsJobOf}
 use Rattle.bus_laws.proofs.walk.Keeps.{walk-keeps}
 use Rattle.bus_laws.proofs.world.BoardFacts.{mux_at}
 use Rattle.bus_laws.proofs.tree.Law.{refusal-none}

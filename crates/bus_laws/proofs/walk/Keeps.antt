@@ -1,16 +1,13 @@
 -- What each piece of a walk keeps, of any property of walks that goes over a step. It may tell how many locks are held there. The
 -- inductions go over the messages of a job, over locks, and over hops.
-use Rattle.std.proofs.Common.{◌≡◌, ℕ, zero, suc, Bool, true, false, cond, ◌&&◌, List, [], ◌∷◌, Option, Some, None, refl, inl, inr}
-use Rattle.i2c_base.specs.declared.ids.LockId.{LockId}
+use Rattle.bus_laws.proofs.Cited.{◌≡◌, ℕ, zero, suc, Bool, true, false, cond, ◌&&◌, List, [], ◌∷◌, Option, Some, None, refl, inl, inr}
+use Rattle.bus_laws.proofs.Cited.{LockId, Errno, BoardView, TransferView, Hop, hops, root_of, locks_of, IsAmongHops, messages_of, refusal}
+use Rattle.bus_laws.proofs.Cited.{Job, Call, Select, SwitchOff, Deselect, Close, Take, Free, Send, Shift, Settle, ActOutcome, JobOutcome}
+use Rattle.bus_laws.proofs.Cited.{Good, Refused, Unsent, Failed, Note, MarkOf, KeptOf, WalkTree, Ends, Look, Then, Go, On, Last, Over, goes}
+use Rattle.bus_laws.proofs.Cited.{job_outcome, verdict_of, decides, is_line, more_of, Doer, settled, over, by_go, messages, at_bus, locked}
+use Rattle.bus_laws.proofs.Cited.{part, with_mark, aside, if_sent, if_good, kind_of, closing, left_behind, opened, chosen, keeps, crossed}
+use Rattle.bus_laws.proofs.Cited.{behind, inner, walk_by, walk_for, plain}
 use Rattle.i2c_base.specs.declared.ids.LockId.TheVariants as lock
-use Rattle.i2c_base.specs.declared.errno.Errno.{Errno}
-use Rattle.i2c_base.specs.Board.{BoardView}
-use Rattle.i2c_base.specs.Transfer.{TransferView}
-use Rattle.i2c_spec.specs.Tree.{Hop, hops, root_of, locks_of, IsAmongHops}
-use Rattle.i2c_spec.specs.Messages.{messages_of}
-use Rattle.i2c_spec.specs.Flat.{refusal}
-use Rattle.bus_spec.specs.Walk.{Job, Call, Select, SwitchOff, Deselect, Close, Take, Free, Send, Shift, Settle, ActOutcome, JobOutcome, Good, Refused, Unsent, Failed, Note, MarkOf, KeptOf, WalkTree, Ends, Look, Then, Go, On, Last, Over, goes, job_outcome, verdict_of, decides, is_line, more_of}
-use Rattle.bus_spec.specs.Grammar.{Doer, settled, over, by_go, messages, at_bus, locked, part, with_mark, aside, if_sent, if_good, kind_of, closing, left_behind, opened, chosen, keeps, crossed, behind, inner, walk_by, walk_for, plain}
 
 -- one of several walks that go on
 module _ (P : WalkTree → Type 0) where

@@ -1,12 +1,8 @@
 -- The messages of a transfer: what they hold, and which one comes next. The inductions go over the messages.
-use Rattle.std.proofs.Common.{◌≡◌, ℕ, suc, ◌+◌, ◌-◌, List, [], ◌∷◌, ◌++◌, length, refl, ◌∙◌, ap, subst, arith}
-use Rattle.std.specs.Prelude.{take, drop}
+use Rattle.bus_laws.proofs.Cited.{◌≡◌, ℕ, suc, ◌+◌, ◌-◌, List, [], ◌∷◌, ◌++◌, length, refl, ◌∙◌, ap, subst, arith, take, drop, Msg, IsByte}
+use Rattle.bus_laws.proofs.Cited.{AreBytes, written_of, MessageView, messages_from, nth_message}
 use Rattle.std.proofs.lemmas.List.Elements.{All-take, All-drop}
-use Rattle.i2c_base.specs.declared.transfer.Msg.{Msg}
-use Rattle.i2c_base.specs.Bytes.{IsByte, AreBytes}
-use Rattle.i2c_base.specs.Transfer.{written_of}
-use Rattle.i2c_spec.specs.Messages.{MessageView, message_with, messages_from}
-use Rattle.bus_spec.specs.Walk.{nth_message}
+use Rattle.i2c_spec.specs.Messages.{message_with}
 
 -- the bytes that a message writes are bytes of its transfer
 pub message-bytes : (ms : List Msg) (out : List ℕ) → AreBytes out → (before : List MessageView) (y : MessageView) (rest : List MessageView)

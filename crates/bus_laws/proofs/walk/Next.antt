@@ -1,21 +1,12 @@
 -- A walk one step on: what holds of a walk whatever its steps give holds of what is left behind its next step.
-use Rattle.std.proofs.Common.{◌≡◌, ℕ, zero, suc, ◌+◌, ◌≤◌, Bool, true, false, ◌⊎◌, List, Option, Some, None, refl, sym, subst, inl, inr}
-use Rattle.i2c_base.specs.declared.ids.LockId.{LockId}
-use Rattle.i2c_base.specs.declared.errno.Errno.{Errno}
-use Rattle.i2c_base.specs.declared.entry.End.{End}
+use Rattle.bus_laws.proofs.Cited.{◌≡◌, ℕ, zero, suc, ◌+◌, ◌≤◌, Bool, true, false, ◌⊎◌, List, Option, Some, None, refl, sym, subst, inl, inr}
+use Rattle.bus_laws.proofs.Cited.{LockId, Errno, End, BoardView, TransferView, Hop, MessageView, Job, Call, Select, SwitchOff, Off, Act}
+use Rattle.bus_laws.proofs.Cited.{Take, Free, Send, Shift, Settle, ActOutcome, Passed, Sent, Lined, Note, WalkTree, Ends, Look, Then}
+use Rattle.bus_laws.proofs.Cited.{decides, more_of, is_line, sent_outcome, Good, Slots, answer_to, seen, first_act, rest_of, IsCall}
+use Rattle.bus_laws.proofs.Cited.{weight_at, IsWithin, EachJob, NoSettle, IsBefore, IsDecided, GoesOn, Settles, CallsOf, FirstCalls}
 use Rattle.i2c_base.specs.declared.entry.End.TheVariants as end
-use Rattle.i2c_base.specs.Board.{BoardView}
-use Rattle.i2c_base.specs.Transfer.{TransferView}
-use Rattle.i2c_spec.specs.Tree.{Hop}
-use Rattle.i2c_spec.specs.Messages.{MessageView}
-use Rattle.bus_spec.specs.Walk.{Job, Call, Select, SwitchOff, Off, Act, Take, Free, Send, Shift, Settle, ActOutcome, Passed, Sent, Lined, Note, WalkTree, Ends, Look, Then, decides, more_of, is_line, sent_outcome, ok_outcome, sent_errno, ok_errno, Good}
-use Rattle.bus_spec.specs.Slots.{Slots, answer_to}
-use Rattle.bus_spec.specs.Grammar.{seen, first_act, rest_of}
-use Rattle.bus_laws.specs.Runs.{IsCall}
-use Rattle.bus_laws.specs.Costs.{weight_at, IsWithin}
-use Rattle.bus_laws.specs.Jobs.{EachJob}
-use Rattle.bus_laws.specs.Settles.{NoSettle, IsBefore, IsDecided, GoesOn, FollowsSend, Settles}
-use Rattle.bus_laws.specs.Calls.{CallsOf, FirstCalls}
+use Rattle.bus_spec.specs.Walk.{ok_outcome, sent_errno, ok_errno}
+use Rattle.bus_laws.specs.Settles.{FollowsSend}
 use Rattle.bus_laws.proofs.past.StandsEntries.{first_is}
 use Rattle.bus_laws.proofs.walk.Calls.{calls_seen}
 use Rattle.bus_laws.proofs.walk.First.{first_seen}

@@ -1,12 +1,12 @@
 -- The bytes that a transfer's messages have read fit, message by message. The inductions go over the messages.
-use Rattle.std.proofs.Common.{◌≡◌, ℕ, zero, suc, ◌+◌, ◌<◌, ◌≤◌, Bool, true, false, cond, List, [], ◌∷◌, ◌++◌, length, drop, refl, sym, ◌∙◌, ap, subst, arith, length-append}
-use Rattle.std.specs.Prelude.{MatchBool, take, get_or}
+use Rattle.bus_laws.proofs.Cited.{◌≡◌, ℕ, zero, suc, ◌+◌, ◌<◌, ◌≤◌, Bool, true, false, cond, List, [], ◌∷◌, ◌++◌, length, refl, sym, ◌∙◌}
+use Rattle.bus_laws.proofs.Cited.{ap, subst, arith, length-append, MatchBool, take, Msg, FitsReads, count_of, TransferView, is_read}
+use Rattle.bus_laws.proofs.Cited.{written_of, MessageView, messages_from, messages_of, nth_message}
+use Rattle.std.proofs.Common.{drop}
+use Rattle.std.specs.Prelude.{get_or}
 use Rattle.std.proofs.lemmas.List.{drop-append-le, drop_all, take_more}
-use Rattle.i2c_base.specs.declared.transfer.Msg.{Msg}
-use Rattle.i2c_base.specs.Fitting.{FitsReads, FitsCounted, count_of}
-use Rattle.i2c_base.specs.Transfer.{TransferView, is_read, is_counted, written_of}
-use Rattle.i2c_spec.specs.Messages.{MessageView, messages_from, messages_of}
-use Rattle.bus_spec.specs.Walk.{nth_message}
+use Rattle.i2c_base.specs.Fitting.{FitsCounted}
+use Rattle.i2c_base.specs.Transfer.{is_counted}
 use Rattle.bus_laws.proofs.world.TalkThrough.{GaveRead}
 
 -- the bytes that were read, and those of one message more, which reads or doesn't

@@ -1,18 +1,13 @@
 -- Each walk settles once. The inductions go over the messages of a job, over the locks of a path, and over its hops.
-use Rattle.std.proofs.Common.{◌≡◌, ℕ, zero, suc, Bool, true, false, cond, ◌&&◌, ◌||◌, List, [], ◌∷◌, Option, Some, None, refl, sym, ◌∙◌, ap, subst, inl, inr}
-use Rattle.i2c_base.specs.declared.ids.LockId.{LockId}
-use Rattle.i2c_base.specs.declared.errno.Errno.{Errno}
-use Rattle.i2c_base.specs.declared.entry.End.{End}
+use Rattle.bus_laws.proofs.Cited.{◌≡◌, ℕ, zero, suc, Bool, true, false, cond, ◌&&◌, ◌||◌, List, [], ◌∷◌, Option, Some, None, refl, sym, ◌∙◌}
+use Rattle.bus_laws.proofs.Cited.{ap, subst, inl, inr, LockId, Errno, End, BoardView, TransferView, Hop, hops, root_of, locks_of}
+use Rattle.bus_laws.proofs.Cited.{MessageView, messages_of, refusal, Job, Call, Select, SwitchOff, Deselect, Close, Free, Send, Shift}
+use Rattle.bus_laws.proofs.Cited.{Settle, ActOutcome, Sent, Lined, JobOutcome, Good, Refused, Unsent, Failed, Note, WalkTree, Ends, Then}
+use Rattle.bus_laws.proofs.Cited.{Go, On, Last, Over, goes, job_outcome, verdict_of, decides, is_line, more_of, KeptOf, Look, Doer, plain}
+use Rattle.bus_laws.proofs.Cited.{settled, over, by_go, messages, at_bus, locked, part, with_mark, aside, if_sent, if_good, kind_of}
+use Rattle.bus_laws.proofs.Cited.{closing, left_behind, opened, chosen, keeps, crossed, behind, inner, walk_by, walk_for, first_act}
+use Rattle.bus_laws.proofs.Cited.{EndsJob, IsDecided, NoSettle, IsBefore, GoesOn, Settles, and_first}
 use Rattle.i2c_base.specs.declared.entry.End.TheVariants as end
-use Rattle.i2c_base.specs.Board.{BoardView}
-use Rattle.i2c_base.specs.Transfer.{TransferView}
-use Rattle.i2c_spec.specs.Tree.{Hop, hops, root_of, locks_of}
-use Rattle.i2c_spec.specs.Messages.{MessageView, messages_of}
-use Rattle.i2c_spec.specs.Flat.{refusal}
-use Rattle.bus_spec.specs.Walk.{Job, Call, Select, SwitchOff, Deselect, Close, Free, Send, Shift, Settle, ActOutcome, Sent, Lined, JobOutcome, Good, Refused, Unsent, Failed, Note, WalkTree, Ends, Then, Go, On, Last, Over, goes, job_outcome, verdict_of, decides, is_line, more_of, KeptOf, Look}
-use Rattle.bus_spec.specs.Grammar.{Doer, plain, settled, over, by_go, messages, at_bus, locked, part, with_mark, aside, if_sent, if_good, kind_of, closing, left_behind, opened, chosen, keeps, crossed, behind, inner, walk_by, walk_for, first_act}
-use Rattle.bus_laws.specs.Settles.{EndsJob, IsDecided, NoSettle, IsBefore, GoesOn, Settles}
-use Rattle.i2c_base.proofs.Booleans.{and_first}
 
 -- a job on the way to the caller's messages has settled their transfer, where it decides their reply or its way was lost
 abbrev is_settled : Job → JobOutcome → Bool

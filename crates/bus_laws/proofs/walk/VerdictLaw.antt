@@ -1,32 +1,22 @@
 -- What a step decides is what the flat world answers: a select that isn't good tells the first mux over the bus that
 -- lets nothing through, and where the caller's messages are sent all let them through. The inductions go over hops.
-use Rattle.std.proofs.Common.{subst, ◌≡◌, ℕ, zero, suc, Bool, true, false, cond, List, [], ◌∷◌, ◌++◌, reverse, Option, Some, None, eqb, refl, sym, ◌∙◌, ap, inl, inr, append-nil}
-use Rattle.std.proofs.lemmas.Bool.{eq-eqb}
-use Rattle.std.proofs.lemmas.List.{reverse-append, append_assoc}
-use Rattle.i2c_base.specs.declared.entry.End.{End}
+use Rattle.bus_laws.proofs.Cited.{subst, ◌≡◌, ℕ, zero, suc, Bool, true, false, cond, List, [], ◌∷◌, ◌++◌, Option, Some, None, eqb, refl}
+use Rattle.bus_laws.proofs.Cited.{sym, ◌∙◌, ap, inl, inr, append-nil, eq-eqb, reverse-append, append_assoc, End, Errno, Cut, BoardView}
+use Rattle.bus_laws.proofs.Cited.{TransferView, Hop, hops, is_absent, is_held, IsAmongHops, home_of_mux, IsTree, TargetState, refusal}
+use Rattle.bus_laws.proofs.Cited.{World, Job, Call, Select, SwitchOff, Off, off_mux, Sent, Lined, is_line, On, Last, Over, first_byte, goes}
+use Rattle.bus_laws.proofs.Cited.{job_outcome, verdict_of, decides, Slots, message_cut, CanGoThrough, CanSelect, IsOpenOn, WorldTold}
+use Rattle.bus_laws.proofs.Cited.{EndsJob}
+use Rattle.std.proofs.Common.{reverse}
 use Rattle.i2c_base.specs.declared.entry.End.TheVariants as end
 use Rattle.i2c_base.specs.declared.entry.Purpose.TheVariants as purpose
-use Rattle.i2c_base.specs.declared.errno.Errno.{Errno}
 use Rattle.i2c_base.specs.declared.errno.Errno.TheVariants as errno
 use Rattle.i2c_base.specs.declared.reply.Reply.TheVariants as reply
-use Rattle.i2c_base.specs.declared.reply.Cut.{Cut}
 use Rattle.i2c_base.specs.declared.reply.Cut.TheVariants as cut_at
 use Rattle.i2c_base.specs.declared.tree.Way.{Way}
 use Rattle.i2c_base.specs.declared.tree.Way.TheVariants as way
-use Rattle.i2c_base.specs.Board.{BoardView}
-use Rattle.i2c_base.specs.Transfer.{TransferView}
-use Rattle.i2c_spec.specs.Tree.{Hop, hops, is_absent, is_held, IsAmongHops, home_of_mux}
-use Rattle.i2c_spec.specs.TreeFacts.{IsTree}
 use Rattle.i2c_spec.specs.Grant.{way_through, way_of}
-use Rattle.i2c_spec.specs.Targets.{TargetState}
-use Rattle.i2c_spec.specs.Flat.{refusal, is_way_cut, way_errno, first_of, barred, flat_by, flat}
-use Rattle.i2c_spec.specs.World.{World}
-use Rattle.bus_spec.specs.Walk.{Job, Call, Select, SwitchOff, Off, off_mux, Sent, Lined, is_line, On, Last, Over, first_byte, goes, on_if_more, job_outcome, verdict_of, decides}
-use Rattle.bus_spec.specs.Slots.{Slots}
-use Rattle.bus_spec.specs.Readings.{message_cut}
-use Rattle.bus_laws.specs.Runs.{CanGoThrough, CanSelect, IsOpenOn}
-use Rattle.bus_laws.specs.Told.{WorldTold}
-use Rattle.bus_laws.specs.Settles.{EndsJob}
+use Rattle.i2c_spec.specs.Flat.{is_way_cut, way_errno, first_of, barred, flat_by, flat}
+use Rattle.bus_spec.specs.Walk.{on_if_more}
 
 -- A PATH
 -- the hops of a path after one of them are those over its bus

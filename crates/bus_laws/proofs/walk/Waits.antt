@@ -1,17 +1,9 @@
 -- Not all can wait: where each walk has ended or waits, all have ended. The induction goes over the rank of what is waited for.
-use Rattle.std.proofs.Common.{◌≡◌, ℕ, zero, suc, ◌<◌, List, [], ◌∷◌, length, Option, Some, None, refl, subst, inl, inr, arith}
-use Rattle.std.specs.Prelude.{slice_get}
-use Rattle.std.proofs.lemmas.Option.{slice_get_within}
-use Rattle.i2c_base.specs.declared.ids.LockId.{LockId}
-use Rattle.i2c_base.specs.Board.{BoardView}
-use Rattle.bus_spec.specs.Walk.{Act, Take, Ask, MarkOf, KeptOf, WalkTree, Ends, Look, Then}
-use Rattle.bus_spec.specs.Slots.{Slots, answer_to, mark_in}
-use Rattle.bus_spec.specs.Grammar.{seen, first_act}
-use Rattle.bus_spec.specs.Readings.{rank}
-use Rattle.bus_spec.specs.Stepwise.{IsBelow}
-use Rattle.bus_laws.specs.Runs.{InLocks}
+use Rattle.bus_laws.proofs.Cited.{◌≡◌, ℕ, zero, suc, ◌<◌, List, [], ◌∷◌, length, Option, Some, None, refl, subst, inl, inr, arith}
+use Rattle.bus_laws.proofs.Cited.{slice_get, slice_get_within, LockId, BoardView, Act, Take, Ask, MarkOf, KeptOf, WalkTree, Ends, Look}
+use Rattle.bus_laws.proofs.Cited.{Then, Slots, answer_to, mark_in, seen, first_act, rank, IsBelow, InLocks, IsMarkOn, HoldsLocks}
 use Rattle.bus_laws.proofs.past.Laws.{below_each}
-use Rattle.bus_laws.specs.Holds.{IsMarkOn, MayAnswer, HoldsLocks}
+use Rattle.bus_laws.specs.Holds.{MayAnswer}
 use Rattle.bus_laws.specs.Waiting.{LocksKept, IsHeldUp}
 
 -- what is known may answer every question

@@ -1,17 +1,11 @@
 -- What the type of a board keeps of one mux.
-use Rattle.std.proofs.Common.{◌≡◌, ℕ, zero, suc, ◌<◌, ◌≤◌, Bool, true, false, not, ◌&&◌, List, [], ◌∷◌, length, Option, Some, None, eqb, refl, sym, ◌∙◌, ap, subst, arith}
-use Rattle.std.specs.Prelude.{slice_get, slice_index_or, is_some, unwrap_or}
-use Rattle.std.specs.Option.{option_map}
-use Rattle.i2c_base.specs.declared.board.MuxKind.{MuxKind}
-use Rattle.i2c_base.specs.declared.board.MuxSpec.{MuxSpec}
-use Rattle.i2c_base.specs.Muxes.{facts_of}
-use Rattle.i2c_base.specs.Board.{BoardView}
-use Rattle.i2c_spec.specs.Tree.{Hop, of_mux, addr_of_mux, is_absent, is_held}
-use Rattle.i2c_spec.specs.TreeFacts.{IsHop}
-use Rattle.i2c_spec.specs.Plain.{IsPlainBoard, IsPlainMux, IsCount, IsChip, IsForeign}
-use Rattle.i2c_spec.specs.World.{has_chip}
-use Rattle.bus_spec.specs.Walk.{is_gpio, is_arbitrator, chip_address}
-use Rattle.bus_laws.specs.Runs.{IsMuxOf, answers}
+use Rattle.bus_laws.proofs.Cited.{◌≡◌, ℕ, zero, suc, ◌<◌, ◌≤◌, Bool, true, false, not, ◌&&◌, List, [], ◌∷◌, length, Option, Some, None, eqb}
+use Rattle.bus_laws.proofs.Cited.{refl, sym, ◌∙◌, ap, subst, arith, slice_get, is_some, unwrap_or, option_map, MuxKind, MuxSpec, facts_of}
+use Rattle.bus_laws.proofs.Cited.{BoardView, Hop, of_mux, addr_of_mux, is_absent, is_held, IsHop, IsPlainBoard, IsPlainMux, IsChip}
+use Rattle.bus_laws.proofs.Cited.{has_chip, is_gpio, is_arbitrator, chip_address, IsMuxOf}
+use Rattle.std.specs.Prelude.{slice_index_or}
+use Rattle.i2c_spec.specs.Plain.{IsCount, IsForeign}
+use Rattle.bus_laws.specs.Runs.{answers}
 use Rattle.bus_laws.proofs.world.ChipLaws.{IsBelow, HasChannel}
 use Rattle.std.proofs.Math.Bool.{and-false}
 

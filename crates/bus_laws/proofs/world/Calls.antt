@@ -1,35 +1,20 @@
 -- A caller's message leaves the chips alone: no chip along its bus has its address. The inductions go over lists.
-use Rattle.std.proofs.Common.{◌≡◌, ℕ, ◌+◌, Bool, true, false, cond, ◌&&◌, ◌||◌, List, [], ◌∷◌, ◌++◌, Option, Some, None, eqb, refl, sym, ◌∙◌, ap, ◌⊎◌, inl, inr}
-use Rattle.std.specs.Prelude.{slice_get, unwrap_or}
-use Rattle.std.specs.List.{list_any}
-use Rattle.std.specs.Option.{option_map}
-use Rattle.std.proofs.lemmas.Bool.{eq-eqb}
-use Rattle.i2c_base.specs.declared.event.Event.{Event}
+use Rattle.bus_laws.proofs.Cited.{◌≡◌, ℕ, ◌+◌, Bool, true, false, cond, ◌&&◌, ◌||◌, List, [], ◌∷◌, ◌++◌, Option, Some, None, eqb, refl, sym}
+use Rattle.bus_laws.proofs.Cited.{◌∙◌, ap, ◌⊎◌, inl, inr, slice_get, unwrap_or, list_any, option_map, eq-eqb, Event, PortCall, Node}
+use Rattle.bus_laws.proofs.Cited.{MuxSpec, Grant, BoardView, Hop, hops, home_of_mux, addr_of_mux, is_below, is_on_path, is_aside, Crosses}
+use Rattle.bus_laws.proofs.Cited.{IsOver, IsAlong, MayJoin, IsTree, has_address, some_chip, some_device, grant_of, ChipView, chip_table}
+use Rattle.bus_laws.proofs.Cited.{TargetState, MessageView, world_listener, talk, World, after, given, feed, is_joined, chip_start}
+use Rattle.bus_laws.proofs.Cited.{start_chips, start_devices, joins_chip, stop_event, hearers, heard_of, is_chip, to_chips, IsLater}
+use Rattle.bus_laws.proofs.Cited.{or-true, any_passes_from_place}
 use Rattle.i2c_base.specs.declared.event.Event.TheVariants as event
-use Rattle.i2c_base.specs.declared.port.PortCall.{PortCall}
 use Rattle.i2c_base.specs.declared.port.PortCall.TheVariants as call
-use Rattle.i2c_base.specs.declared.ids.Node.{Node}
 use Rattle.i2c_base.specs.declared.ids.Node.TheVariants as node
-use Rattle.i2c_base.specs.declared.board.MuxSpec.{MuxSpec}
-use Rattle.i2c_base.specs.declared.tree.Grant.{Grant}
 use Rattle.i2c_base.specs.declared.tree.Grant.TheVariants as grant
-use Rattle.i2c_base.specs.Board.{BoardView}
-use Rattle.i2c_spec.specs.Tree.{Hop, hops, home_of_mux, addr_of_mux, is_below, is_on_path, is_aside, Crosses, IsOver, IsAlong, MayJoin}
-use Rattle.i2c_spec.specs.TreeFacts.{IsTree}
-use Rattle.i2c_spec.specs.Grant.{has_address, some_chip, some_device, grant_of}
-use Rattle.i2c_spec.specs.Chips.{ChipView, chip_table}
-use Rattle.i2c_spec.specs.Targets.{TargetState}
-use Rattle.i2c_spec.specs.Messages.{MessageView}
-use Rattle.i2c_spec.specs.Conversation.{world_listener, talk}
-use Rattle.i2c_spec.specs.World.{World, after, given, feed, is_joined, chip_start, start_chips, start_devices, joins_chip, stop_event, hearers, heard_of, is_chip, to_chips}
 use Rattle.bus_laws.proofs.world.Feed.{hears, feed-same, heard-none, none-named}
 use Rattle.bus_laws.proofs.world.TalkLaws.{talk-keeps}
 use Rattle.bus_laws.proofs.world.Reach.{world_of}
 use Rattle.bus_laws.proofs.world.Hears.{chip_along}
 use Rattle.bus_laws.proofs.world.Control.{NoneWaits, stop_quiet, started-chips}
-use Rattle.i2c_spec.proofs.MessageLemmas.{IsLater}
-use Rattle.std.proofs.Math.Bool.{or-true}
-use Rattle.std.proofs.lemmas.Map.Keys.{any_passes_from_place}
 
 pub crosses_any : (u : ℕ) (hs : List Hop) → Crosses u hs → list_any (λ (h : Hop). eqb h.on u) hs ≡ true
 crosses_any u [] c = absurd c

@@ -1,17 +1,15 @@
 -- What the chips do with the bytes that muxes are switched by: a select opens its channel alone, a close opens none.
-use Rattle.std.proofs.Common.{◌≡◌, ℕ, zero, suc, ◌+◌, ◌-◌, ◌*◌, ◌/◌, ◌%◌, ◌^◌, ◌<◌, ◌≤◌, Bool, true, false, cond, not, ◌&&◌, Option, Some, None, eqb, refl, sym, ◌∙◌, ap, subst, inl, inr, arith}
-use Rattle.std.proofs.lemmas.Bool.{eqb-true, eq-eqb, cases_lt, ne_eqb}
+use Rattle.bus_laws.proofs.Cited.{◌≡◌, ℕ, zero, suc, ◌+◌, ◌-◌, ◌*◌, ◌<◌, ◌≤◌, Bool, true, false, cond, not, ◌&&◌, Option, Some, None, eqb}
+use Rattle.bus_laws.proofs.Cited.{refl, sym, ◌∙◌, ap, subst, inl, inr, arith, eqb-true, eq-eqb, cases_lt, ne_eqb, MuxKind, ChannelCode}
+use Rattle.bus_laws.proofs.Cited.{Level, facts_of, ChipView, is_open, is_free, taken, looked, select_by, select_value, close_value}
+use Rattle.bus_laws.proofs.Cited.{at_level, is_gpio, is_arbitrator, and_last}
+use Rattle.std.proofs.Common.{◌/◌, ◌%◌, ◌^◌}
 use Rattle.std.proofs.lemmas.Nat.{pow_pos, pow-add, shl-shr, shr-shr, one_shl}
 use Rattle.std.proofs.Math.Nat.{zero-div, zero-mod, div_self, pow-suc, one-mul}
-use Rattle.i2c_base.specs.declared.board.MuxKind.{MuxKind}
-use Rattle.i2c_base.specs.declared.mux_facts.ChannelCode.{ChannelCode}
-use Rattle.i2c_base.specs.declared.mux_facts.ChannelCode.TheVariants.{Bits, Number, Alone, Level}
-use Rattle.i2c_base.specs.Muxes.{facts_of}
+use Rattle.i2c_base.specs.declared.mux_facts.ChannelCode.TheVariants.{Bits, Number, Alone}
 use Rattle.i2c_base.proofs.MuxLemmas.{FitsCode, facts_fit}
-use Rattle.i2c_spec.specs.Chips.{ChipView, bit_of, opens_by, opens, is_open, is_free, arbitrated, taken, looked, select_by, select_value, close_value, at_level}
-use Rattle.bus_spec.specs.Walk.{is_gpio, is_arbitrator}
+use Rattle.i2c_spec.specs.Chips.{bit_of, opens_by, opens, arbitrated}
 use Rattle.bus_laws.proofs.world.Control.{put_byte, on_look}
-use Rattle.i2c_base.proofs.Booleans.{and_last}
 
 -- a power of two has one bit
 power_above : (c d : ℕ) → 2 ^ (d + c) / 2 ^ c ≡ 2 ^ d

@@ -1,31 +1,20 @@
 -- What a control message does to the chips of its root: its own chip takes the byte, or is looked at, and every other
 -- chip stays. No induction but those of `WorldFeed`.
-use Rattle.std.proofs.Common.{◌≡◌, ℕ, ◌+◌, ◌-◌, Bool, true, false, cond, ◌&&◌, ◌||◌, List, [], ◌∷◌, ◌++◌, Option, Some, None, eqb, refl, sym, ◌∙◌, ap, subst, ◌⊎◌, inl, inr, zero-add}
-use Rattle.std.specs.Prelude.{slice_get, bit_and}
-use Rattle.std.specs.List.{list_all}
-use Rattle.std.specs.Option.{option_map, option_map_or}
-use Rattle.std.proofs.lemmas.Bool.{eq-eqb}
-use Rattle.std.proofs.lemmas.Bool.Decides.{eqb_tells}
-use Rattle.i2c_base.specs.declared.event.Event.{Event}
+use Rattle.bus_laws.proofs.Cited.{◌≡◌, ℕ, ◌+◌, ◌-◌, Bool, true, false, cond, ◌&&◌, ◌||◌, List, [], ◌∷◌, ◌++◌, Option, Some, None, eqb, refl}
+use Rattle.bus_laws.proofs.Cited.{sym, ◌∙◌, ap, subst, ◌⊎◌, inl, inr, zero-add, slice_get, bit_and, list_all, option_map, option_map_or}
+use Rattle.bus_laws.proofs.Cited.{eq-eqb, eqb_tells, Event, Answer, End, MuxKind, facts_of, Node, BoardView, Hop, hops, root_of}
+use Rattle.bus_laws.proofs.Cited.{home_of_mux, addr_of_mux, MayJoin, IsTree, ChipView, chip_table, chip_sends, is_open, looked, taken}
+use Rattle.bus_laws.proofs.Cited.{TargetState, state_table, MessageView, write_byte, read_byte, Said, TalkTold, world_listener, is_it}
+use Rattle.bus_laws.proofs.Cited.{silence, say, told, ended, puts, gets, by_answer, talk, World, after, stopped, given, feed, answers}
+use Rattle.bus_laws.proofs.Cited.{opens_hop, is_joined, has_chip, joins_chip, start_event, stop_event, chip_start, device_start, hearers}
+use Rattle.bus_laws.proofs.Cited.{takes, gives, and_of, some_answer, is_ack, to_chips, to_devices}
 use Rattle.i2c_base.specs.declared.event.Event.TheVariants as event
-use Rattle.i2c_base.specs.declared.event.Answer.{Answer}
 use Rattle.i2c_base.specs.declared.event.Answer.TheVariants as answer
 use Rattle.i2c_base.specs.declared.port.PortCall.TheVariants as call
-use Rattle.i2c_base.specs.declared.entry.End.{End}
 use Rattle.i2c_base.specs.declared.entry.End.TheVariants as end
-use Rattle.i2c_base.specs.declared.board.MuxKind.{MuxKind}
-use Rattle.i2c_base.specs.Muxes.{facts_of}
-use Rattle.i2c_base.specs.declared.ids.Node.{Node}
 use Rattle.i2c_base.specs.declared.ids.Node.TheVariants as node
-use Rattle.i2c_base.specs.Board.{BoardView}
-use Rattle.i2c_spec.specs.Tree.{Hop, hops, root_of, home_of_mux, addr_of_mux}
-use Rattle.i2c_spec.specs.TreeFacts.{IsTree}
-use Rattle.i2c_spec.specs.Chips.{ChipView, chip_table, chip_after, chip_sends, is_open, looked, taken, chip_stopped as chip_stopped}
-use Rattle.i2c_spec.specs.Targets.{TargetState, state_table}
-use Rattle.i2c_spec.specs.Messages.{MessageView, write_byte, read_byte}
-use Rattle.i2c_spec.specs.Conversation.{Said, TalkTold, world_listener, is_it, silence, say, told, ended, puts, gets, by_answer, talk}
-use Rattle.i2c_spec.specs.World.{World, after, stopped, sent_on, given, feed, answers, opens_hop, is_joined, has_chip, joins_chip, start_event, stop_event, chip_start, device_start, hearers, takes, gives, and_of, some_answer, is_ack, to_chips, to_devices, answer as world_answer}
-use Rattle.i2c_spec.specs.Tree.{MayJoin}
+use Rattle.i2c_spec.specs.Chips.{chip_after, chip_stopped as chip_stopped}
+use Rattle.i2c_spec.specs.World.{sent_on, answer as world_answer}
 use Rattle.bus_laws.proofs.world.Feed.{feed-get, feed-same, GivesOne, answers-none, answers-one, some_answer-append, some_answer-at}
 use Rattle.bus_laws.proofs.world.Reach.{world_of}
 use Rattle.bus_laws.proofs.world.Hears.{control_hearers, control_answer}

@@ -1,14 +1,7 @@
 -- Events given to a list of targets, place by place. The inductions go over the list.
-use Rattle.std.proofs.Common.{◌≡◌, ℕ, zero, suc, ◌+◌, ◌≤◌, Bool, true, false, cond, ◌||◌, List, [], ◌∷◌, ◌++◌, length, Option, Some, None, refl, sym, ◌∙◌, ap, subst, arith, add-zero}
-use Rattle.std.specs.Prelude.{slice_get}
-use Rattle.std.specs.List.{list_any}
-use Rattle.std.specs.Option.{option_map}
-use Rattle.i2c_base.specs.declared.event.Event.{Event}
-use Rattle.i2c_base.specs.declared.event.Answer.{Answer}
-use Rattle.i2c_base.specs.declared.ids.Node.{Node}
-use Rattle.i2c_base.specs.Table.{Table}
-use Rattle.i2c_spec.specs.World.{given, feed, answers, answer_with, has_heard, heard_of, some_answer}
-use Rattle.std.proofs.Math.Bool.{or-true}
+use Rattle.bus_laws.proofs.Cited.{◌≡◌, ℕ, zero, suc, ◌+◌, ◌≤◌, Bool, true, false, cond, ◌||◌, List, [], ◌∷◌, ◌++◌, length, Option, Some}
+use Rattle.bus_laws.proofs.Cited.{None, refl, sym, ◌∙◌, ap, subst, arith, add-zero, slice_get, list_any, option_map, Event, Answer, Node}
+use Rattle.bus_laws.proofs.Cited.{Table, given, feed, answers, answer_with, has_heard, heard_of, some_answer, or-true}
 
 pub length-feed : {X : Type 0} (t : Table X) (f : ℕ → Option Event) (k : ℕ) (xs : List X) → length (feed t f k xs) ≡ length xs
 length-feed t f k [] = refl

@@ -1,27 +1,18 @@
 -- Who hears a start: a control message its own chip alone, and a caller's message no chip. No induction; the lists are
 -- those of `WorldFeed`.
-use Rattle.std.proofs.Common.{◌≡◌, ℕ, ◌+◌, Bool, true, false, cond, ◌&&◌, ◌||◌, List, [], ◌∷◌, ◌++◌, Option, Some, None, eqb, refl, sym, ◌∙◌, ap, subst, zero-add}
-use Rattle.std.specs.Prelude.{slice_get, unwrap_or}
-use Rattle.std.specs.Option.{option_map}
-use Rattle.std.proofs.lemmas.Bool.{eqb-true, eq-eqb}
-use Rattle.i2c_base.specs.declared.event.Event.{Event}
+use Rattle.bus_laws.proofs.Cited.{◌≡◌, ℕ, ◌+◌, Bool, true, false, cond, ◌&&◌, ◌||◌, List, [], ◌∷◌, ◌++◌, Option, Some, None, eqb, refl, sym}
+use Rattle.bus_laws.proofs.Cited.{◌∙◌, ap, subst, zero-add, slice_get, unwrap_or, option_map, eqb-true, eq-eqb, Event, Answer, Node}
+use Rattle.bus_laws.proofs.Cited.{BoardView, DeviceView, home_of_mux, addr_of_mux, of_device, MayJoin, IsTree, home_of, addr_of}
+use Rattle.bus_laws.proofs.Cited.{has_address, ChipView, chip_table, TargetState, state_table, World, is_joined, has_chip, joins_chip}
+use Rattle.bus_laws.proofs.Cited.{joins_device, start_event, chip_start, device_start, start_chips, start_devices, answers, answer_with}
+use Rattle.bus_laws.proofs.Cited.{is_ack, is_slow, has_heard, heard_of, hearers, some_answer, or-false, and_last}
 use Rattle.i2c_base.specs.declared.event.Event.TheVariants as event
-use Rattle.i2c_base.specs.declared.event.Answer.{Answer}
 use Rattle.i2c_base.specs.declared.event.Answer.TheVariants as answer
-use Rattle.i2c_base.specs.declared.ids.Node.{Node}
 use Rattle.i2c_base.specs.declared.ids.Node.TheVariants as node
-use Rattle.i2c_base.specs.Board.{BoardView, DeviceView}
-use Rattle.i2c_spec.specs.Tree.{home_of_mux, addr_of_mux, of_device}
-use Rattle.i2c_spec.specs.TreeFacts.{IsTree, home_of, addr_of}
-use Rattle.i2c_spec.specs.Grant.{has_address}
-use Rattle.i2c_spec.specs.Tree.{MayJoin}
-use Rattle.i2c_spec.specs.Chips.{ChipView, chip_table, chip_answer}
-use Rattle.i2c_spec.specs.Targets.{TargetState, state_table}
-use Rattle.i2c_spec.specs.World.{World, is_joined, has_chip, joins_chip, joins_device, start_event, chip_start, device_start, start_chips, start_devices, answers, answer_with, is_ack, is_slow, has_heard, heard_of, hearers, some_answer, answer as world_answer}
+use Rattle.i2c_spec.specs.Chips.{chip_answer}
+use Rattle.i2c_spec.specs.World.{answer as world_answer}
 use Rattle.bus_laws.proofs.world.Feed.{hears, heard-none, heard-one, unheard, some_answer-append, some_answer-at}
 use Rattle.bus_laws.proofs.world.Reach.{world_of, control_alone, start_heard, other_state, address_is}
-use Rattle.std.proofs.Math.Bool.{or-false}
-use Rattle.i2c_base.proofs.Booleans.{and_last}
 
 pub device_address : (a : ℕ) (o : Option DeviceView) → unwrap_or (option_map (λ (d : DeviceView). eqb d.addr a) o) false ≡ true
     → unwrap_or (option_map (λ (d : DeviceView). Some d.addr) o) None ≡ Some a

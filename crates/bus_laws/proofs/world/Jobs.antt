@@ -1,35 +1,25 @@
 -- Selects and closes by message: what they leave of what is known, and what they may give.
-use Rattle.std.proofs.Common.{◌≡◌, ℕ, zero, suc, ◌-◌, ◌<◌, ◌≤◌, Bool, true, false, cond, not, ◌&&◌, ◌||◌, List, [], ◌∷◌, length, Option, Some, None, eqb, ltb, refl, sym, ◌∙◌, ap, subst, ◌⊎◌, inl, inr, arith}
-use Rattle.std.specs.Prelude.{slice_get, bit_and}
-use Rattle.std.specs.Option.{option_map}
-use Rattle.std.proofs.lemmas.Bool.{eq-eqb, cases_lt, ltb-true, ltb-false}
-use Rattle.std.proofs.lemmas.Bool.Decides.{eqb_tells}
-use Rattle.i2c_base.specs.declared.entry.End.{End}
+use Rattle.bus_laws.proofs.Cited.{◌≡◌, ℕ, zero, suc, ◌-◌, ◌<◌, ◌≤◌, Bool, true, false, cond, not, ◌&&◌, ◌||◌, List, [], ◌∷◌, length, Option}
+use Rattle.bus_laws.proofs.Cited.{Some, None, eqb, ltb, refl, sym, ◌∙◌, ap, subst, ◌⊎◌, inl, inr, arith, slice_get, bit_and, option_map}
+use Rattle.bus_laws.proofs.Cited.{eq-eqb, cases_lt, ltb-true, ltb-false, eqb_tells, End, MuxKind, MuxSpec, LockId, BoardView, Hop, hops}
+use Rattle.bus_laws.proofs.Cited.{root_of, home_of_mux, addr_of_mux, is_absent, is_held, of_mux, IsAmongHops, IsTree, IsPlainBoard}
+use Rattle.bus_laws.proofs.Cited.{ChipView, is_open, is_free, chip_sends, select_value, close_value, taken, MessageView, write_byte}
+use Rattle.bus_laws.proofs.Cited.{read_byte, TalkTold, world_listener, talk, World, has_chip, changed_at, Mark, Select, Sent, is_gpio}
+use Rattle.bus_laws.proofs.Cited.{is_arbitrator, chip_address, fun_ext, Slots, At, MuxSlot, Clean, Marked, Polled, Found, turned, turned_at}
+use Rattle.bus_laws.proofs.Cited.{set_marks, polled_slot, after_job, after_off, IsOpenOn, CanSelect, CanGoThrough, IsMuxOf, IsOfMux}
+use Rattle.bus_laws.proofs.Cited.{FindsPoll, HeadsMarks, MayFail, chip_in, IsChipOf, Explains, ChipsTold, WorldTold}
 use Rattle.i2c_base.specs.declared.entry.End.TheVariants as end
-use Rattle.i2c_base.specs.declared.board.MuxKind.{MuxKind}
-use Rattle.i2c_base.specs.declared.board.MuxSpec.{MuxSpec}
-use Rattle.i2c_base.specs.declared.ids.LockId.{LockId}
-use Rattle.i2c_base.specs.Board.{BoardView}
-use Rattle.i2c_spec.specs.Tree.{Hop, hops, root_of, home_of_mux, addr_of_mux, is_absent, is_held, of_mux, IsAmongHops}
-use Rattle.i2c_spec.specs.TreeFacts.{IsTree}
-use Rattle.i2c_spec.specs.Plain.{IsPlainBoard}
-use Rattle.i2c_spec.specs.Chips.{ChipView, is_open, is_free, is_foreign, chip_sends, select_value, close_value, taken}
-use Rattle.i2c_spec.specs.Messages.{MessageView, write_byte, read_byte}
-use Rattle.i2c_spec.specs.Conversation.{TalkTold, world_listener, talk}
-use Rattle.i2c_spec.specs.World.{World, has_chip}
-use Rattle.i2c_spec.specs.History.{changed_at}
-use Rattle.bus_spec.specs.Walk.{Mark, Select, Sent, is_gpio, is_arbitrator, chip_address}
-use Rattle.std.proofs.Math.Path.{fun_ext}
-use Rattle.bus_spec.specs.Slots.{Slots, At, MuxSlot, Clean, Marked, Polled, Found, turned, turned_at, set_marks, polled_slot, after_job, after_off}
-use Rattle.bus_laws.specs.Runs.{IsOpenOn, answers, CanSelect, CanGoThrough, IsMuxOf, IsOfMux, FindsPoll, HeadsMarks, MayFail}
-use Rattle.bus_laws.specs.Told.{chip_in, IsChipOf}
-use Rattle.bus_laws.specs.Told.{Explains, ChipsTold, WorldTold}
+use Rattle.i2c_spec.specs.Chips.{is_foreign}
+use Rattle.bus_laws.specs.Runs.{answers}
 use Rattle.bus_laws.proofs.tree.Slots.{turned-same, turned-other, set_marks-head}
-use Rattle.bus_laws.proofs.world.Control.{looked_opens, put_byte, Changes, Quiet, absent-talk, Writes, Reads, taken_byte, look, write-talk, read-talk}
+use Rattle.bus_laws.proofs.world.Control.{looked_opens, put_byte, Changes, Quiet, absent-talk, Writes, Reads, taken_byte, look, write-talk}
+use Rattle.bus_laws.proofs.world.Control.{read-talk}
 use Rattle.bus_laws.proofs.world.ChipLaws.{HasChannel, OpensOne, select_opens, close_opens, SameSort, taken_sort, looked_sort}
 use Rattle.bus_laws.proofs.world.Slots.{set_marks-only, told-marks, MuxTold, told-turned}
-use Rattle.bus_laws.proofs.world.BoardFacts.{mux_at, get_same_length, has_address_of, has_chip-is, not_held, foreign_few, held-is, foreign-is, answers-is}
-use Rattle.bus_laws.proofs.world.Law.{world-is, along_here, joined_here, talk_framed, replaced-chip, same_changes, still_none, world_replaced}
+use Rattle.bus_laws.proofs.world.BoardFacts.{mux_at, get_same_length, has_address_of, has_chip-is, not_held, foreign_few, held-is}
+use Rattle.bus_laws.proofs.world.BoardFacts.{foreign-is, answers-is}
+use Rattle.bus_laws.proofs.world.Law.{world-is, along_here, joined_here, talk_framed, replaced-chip, same_changes, still_none}
+use Rattle.bus_laws.proofs.world.Law.{world_replaced}
 use Rattle.bus_laws.proofs.tree.Base.{at_with}
 
 -- a channel that is told twice

@@ -1,35 +1,18 @@
 -- The world law: what is known of the buses stays so through a message or a line step of a walk, and the step gives
 -- what the tree law counts on.
-use Rattle.std.proofs.Common.{◌≡◌, ℕ, Bool, true, false, cond, ◌&&◌, List, length, Option, Some, None, eqb, refl, sym, ◌∙◌, ap, subst, inl, inr}
-use Rattle.std.specs.Prelude.{slice_get}
-use Rattle.std.specs.List.{list_all}
-use Rattle.std.specs.Option.{option_map, option_map_or}
-use Rattle.std.proofs.lemmas.Bool.{eq-eqb}
-use Rattle.std.proofs.lemmas.Bool.Decides.{eqb_tells}
-use Rattle.i2c_base.specs.declared.port.PortCall.{PortCall}
+use Rattle.bus_laws.proofs.Cited.{◌≡◌, ℕ, Bool, true, false, cond, ◌&&◌, List, length, Option, Some, None, eqb, refl, sym, ◌∙◌, ap, subst}
+use Rattle.bus_laws.proofs.Cited.{inl, inr, slice_get, list_all, option_map, option_map_or, eq-eqb, eqb_tells, PortCall, BoardView, Hop}
+use Rattle.bus_laws.proofs.Cited.{hops, root_of, home_of_mux, IsAmongHops, MayJoin, IsTree, IsPlainBoard, ChipView, chip_table, is_open}
+use Rattle.bus_laws.proofs.Cited.{MessageView, world_listener, talk, World, after, opens_hop, is_joined, joins_chip, chip_start, to_chips}
+use Rattle.bus_laws.proofs.Cited.{stop_event, changed_at, Slots, IsOpenOn, chip_in, Explains, ChipsTold, WorldTold, IsLater}
 use Rattle.i2c_base.specs.declared.port.PortCall.TheVariants as call
 use Rattle.i2c_base.specs.declared.event.Event.TheVariants as event
-use Rattle.i2c_base.specs.Board.{BoardView}
-use Rattle.i2c_spec.specs.Tree.{Hop, hops, root_of, home_of_mux, IsAmongHops}
-use Rattle.i2c_spec.specs.TreeFacts.{IsTree}
-use Rattle.i2c_spec.specs.Plain.{IsPlainBoard}
-use Rattle.i2c_spec.specs.Chips.{ChipView, chip_table, is_open}
-use Rattle.i2c_spec.specs.Messages.{MessageView}
-use Rattle.i2c_spec.specs.Conversation.{world_listener, talk}
-use Rattle.i2c_spec.specs.World.{World, after, opens_hop, is_joined, joins_chip, chip_start, to_chips, stop_event}
-use Rattle.i2c_spec.specs.History.{changed_at}
-use Rattle.i2c_spec.specs.Tree.{MayJoin}
-use Rattle.bus_spec.specs.Slots.{Slots}
-use Rattle.bus_laws.specs.Runs.{IsOpenOn}
-use Rattle.bus_laws.specs.Told.{chip_in}
-use Rattle.bus_laws.specs.Told.{Explains, ChipsTold, WorldTold}
 use Rattle.bus_laws.proofs.world.Feed.{length-feed}
 use Rattle.bus_laws.proofs.world.TalkLaws.{talk-keeps}
 use Rattle.bus_laws.proofs.world.Reach.{world_of, all_of, joined_may}
 use Rattle.bus_laws.proofs.world.Control.{NoneWaits, Changes}
 use Rattle.bus_laws.proofs.world.ChipLaws.{SameSort}
 use Rattle.bus_laws.proofs.world.Slots.{Turns}
-use Rattle.i2c_spec.proofs.MessageLemmas.{IsLater}
 
 -- a world is its parts
 pub whole : (b : BoardView) (r : ℕ) (w : World) → w.board ≡ b → w.root ≡ r → w ≡ world_of b r w.chips w.devices w.hearing w.busy

@@ -1,17 +1,9 @@
 -- An accepted board's gpio muxes stand below parent-locked muxes alone, so a line step has the root's lock.
-use Rattle.std.proofs.Common.{◌≡◌, ℕ, ◌<◌, ◌≤◌, Bool, true, false, not, ◌&&◌, cond, List, [], ◌∷◌, length, filter, Option, Some, None, nat_lt, refl, sym, ◌∙◌, ap, inl, inr, arith}
-use Rattle.std.specs.Prelude.{slice_get, unwrap_or}
-use Rattle.std.specs.Option.{option_map}
-use Rattle.std.proofs.lemmas.Bool.{ltb-false}
-use Rattle.std.proofs.lemmas.Option.{slice_get_within}
-use Rattle.i2c_base.specs.declared.board.MuxKind.TheVariants.{Pca9548}
-use Rattle.i2c_base.specs.declared.board.MuxSpec.{MuxSpec}
-use Rattle.i2c_base.specs.Board.{BoardView}
-use Rattle.i2c_base.proofs.MuxLemmas.{line_row}
-use Rattle.i2c_spec.specs.Tree.{Hop, hops, of_mux, is_parent, home_of_mux, IsAmongHops}
-use Rattle.i2c_spec.specs.Rules.{MeetsRules, wants_parent}
-use Rattle.bus_spec.specs.Walk.{is_gpio}
-use Rattle.bus_laws.specs.Lines.{LinesAreLocked}
+use Rattle.bus_laws.proofs.Cited.{◌≡◌, ℕ, ◌<◌, ◌≤◌, Bool, true, false, not, ◌&&◌, cond, List, [], ◌∷◌, length, Option, Some, None, refl}
+use Rattle.bus_laws.proofs.Cited.{sym, ◌∙◌, ap, inl, inr, arith, slice_get, unwrap_or, option_map, ltb-false, slice_get_within, Pca9548}
+use Rattle.bus_laws.proofs.Cited.{MuxSpec, BoardView, line_row, Hop, hops, of_mux, is_parent, home_of_mux, IsAmongHops, MeetsRules}
+use Rattle.bus_laws.proofs.Cited.{wants_parent, is_gpio, LinesAreLocked}
+use Rattle.std.proofs.Common.{filter, nat_lt}
 
 pub wanted : (p q : Bool) → p ≡ true → (p && not q) ≡ false → q ≡ true
 wanted true true e f = refl

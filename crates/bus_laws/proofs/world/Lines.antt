@@ -1,30 +1,15 @@
 -- The world law for a line step: the line of a gpio mux opens one channel, or closes it.
-use Rattle.std.proofs.Common.{◌≡◌, ℕ, zero, suc, ◌+◌, Bool, true, false, cond, List, [], ◌∷◌, length, Option, Some, None, eqb, refl, sym, ◌∙◌, ap, subst, inl, inr}
-use Rattle.std.specs.Prelude.{slice_get, slice_set, unwrap_or}
-use Rattle.std.specs.Option.{option_map, option_map_or}
-use Rattle.std.proofs.lemmas.Bool.Decides.{eqb_tells}
+use Rattle.bus_laws.proofs.Cited.{◌≡◌, ℕ, zero, suc, ◌+◌, Bool, true, false, cond, List, [], ◌∷◌, length, Option, Some, None, eqb, refl}
+use Rattle.bus_laws.proofs.Cited.{sym, ◌∙◌, ap, subst, inl, inr, slice_get, unwrap_or, option_map, option_map_or, eqb_tells, MuxKind}
+use Rattle.bus_laws.proofs.Cited.{ChannelCode, Level, facts_of, line_row, MuxSpec, LockId, BoardView, Hop, root_of, home_of_mux, is_absent}
+use Rattle.bus_laws.proofs.Cited.{IsTree, IsHop, IsPlainBoard, IsPlainMux, IsChip, ChipView, is_open, at_level, select_by, World, after}
+use Rattle.bus_laws.proofs.Cited.{stopped, changed_at, Mark, Job, Call, Select, SwitchOff, off_bus, off_mux, off_kind, Lined, job_bus}
+use Rattle.bus_laws.proofs.Cited.{is_gpio, Slots, MuxSlot, Clean, Polled, Found, turned, turned_at, set_marks, after_job, line_call}
+use Rattle.bus_laws.proofs.Cited.{IsMuxOf, IsOfMux, MayFail, MayShift, chip_in, WorldTold}
+use Rattle.std.specs.Prelude.{slice_set}
 use Rattle.std.proofs.Math.ListN.{length-set}
 use Rattle.std.proofs.Math.Dec.{eqb-zero-suc, eqb-suc-zero, eqb-suc-suc}
-use Rattle.i2c_base.specs.declared.board.MuxKind.{MuxKind}
-use Rattle.i2c_base.specs.declared.mux_facts.ChannelCode.{ChannelCode}
-use Rattle.i2c_base.specs.declared.mux_facts.ChannelCode.TheVariants.{Level}
-use Rattle.i2c_base.specs.Muxes.{facts_of}
-use Rattle.i2c_base.proofs.MuxLemmas.{line_row}
-use Rattle.i2c_base.specs.declared.board.MuxSpec.{MuxSpec}
-use Rattle.i2c_base.specs.declared.ids.LockId.{LockId}
-use Rattle.i2c_base.specs.Board.{BoardView}
-use Rattle.i2c_spec.specs.Tree.{Hop, root_of, home_of_mux, is_absent}
-use Rattle.i2c_spec.specs.TreeFacts.{IsTree, IsHop}
-use Rattle.i2c_spec.specs.Plain.{IsPlainBoard, IsPlainMux, IsChip}
-use Rattle.i2c_spec.specs.Chips.{ChipView, is_open, at_level, select_by}
-use Rattle.i2c_spec.specs.World.{World, after, set_level, stopped}
-use Rattle.i2c_spec.specs.History.{changed_at}
-use Rattle.bus_spec.specs.Walk.{Mark, Job, Call, Select, SwitchOff, off_bus, off_mux, off_kind, Lined, job_bus, is_gpio}
-use Rattle.bus_spec.specs.Slots.{Slots, MuxSlot, Clean, Polled, Found, turned, turned_at, set_marks, after_job}
-use Rattle.bus_spec.specs.Past.{line_call}
-use Rattle.bus_laws.specs.Runs.{IsMuxOf, IsOfMux, MayFail, MayShift}
-use Rattle.bus_laws.specs.Told.{chip_in}
-use Rattle.bus_laws.specs.Told.{WorldTold}
+use Rattle.i2c_spec.specs.World.{set_level}
 use Rattle.bus_laws.proofs.tree.Slots.{turned-same, turned-other}
 use Rattle.bus_laws.proofs.world.Control.{Changes, stopped-chips}
 use Rattle.bus_laws.proofs.world.ChipLaws.{level_opens, level_closes, SameSort}

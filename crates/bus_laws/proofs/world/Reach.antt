@@ -1,29 +1,16 @@
 -- Who is joined while a message is sent: what lies along its bus, and what is aside of it, where muxes keep channels. The
 -- inductions go over hops.
-use Rattle.std.proofs.Common.{◌≡◌, ℕ, Bool, true, false, not, ◌&&◌, ◌||◌, List, [], ◌∷◌, Option, Some, None, eqb, refl, sym, ◌∙◌, ap, subst, ◌⊎◌, inl, inr}
-use Rattle.std.specs.Prelude.{slice_get}
-use Rattle.std.specs.List.{list_all, list_any}
-use Rattle.std.specs.Option.{option_map_or}
-use Rattle.std.proofs.lemmas.Bool.{eqb-true, eq-eqb}
-use Rattle.std.proofs.lemmas.Bool.Decides.{eqb_tells}
-use Rattle.std.proofs.Math.Bool.{or-true}
+use Rattle.bus_laws.proofs.Cited.{◌≡◌, ℕ, Bool, true, false, not, ◌&&◌, ◌||◌, List, [], ◌∷◌, Option, Some, None, eqb, refl, sym, ◌∙◌, ap}
+use Rattle.bus_laws.proofs.Cited.{subst, ◌⊎◌, inl, inr, slice_get, list_all, list_any, option_map_or, eqb-true, eq-eqb, eqb_tells, or-true}
+use Rattle.bus_laws.proofs.Cited.{Node, BoardView, Table, Hop, hops, root_of, home_of_mux, addr_of_mux, is_aside, Crosses, IsAmongHops}
+use Rattle.bus_laws.proofs.Cited.{IsOver, IsAlong, MayJoin, IsTree, home_of, addr_of, has_address, ChipView, is_open, TargetState}
+use Rattle.bus_laws.proofs.Cited.{state_answer, World, opens_hop, is_joined, start_event, has_heard, Slots, Clean, Marked, IsOpenOn}
+use Rattle.bus_laws.proofs.Cited.{Explains, and_first, and_last}
 use Rattle.i2c_base.specs.declared.event.Event.TheVariants as event
-use Rattle.i2c_base.specs.declared.ids.Node.{Node}
 use Rattle.i2c_base.specs.declared.ids.Node.TheVariants as node
-use Rattle.i2c_base.specs.Board.{BoardView}
-use Rattle.i2c_base.specs.Table.{Table}
-use Rattle.i2c_spec.specs.Tree.{Hop, hops, root_of, home_of_mux, addr_of_mux, end_of, crosses_mux, is_kept_hop, is_aside, Crosses, IsAmongHops, IsApart, IsOver, IsAlong, MayJoin}
-use Rattle.i2c_spec.specs.TreeFacts.{IsTree, home_of, addr_of}
-use Rattle.i2c_spec.specs.Grant.{has_address}
-use Rattle.i2c_spec.specs.Chips.{ChipView, is_open}
-use Rattle.i2c_spec.specs.Targets.{TargetState, state_answer}
+use Rattle.i2c_spec.specs.Tree.{end_of, crosses_mux, is_kept_hop, IsApart}
 use Rattle.i2c_spec.proofs.StateLemmas.{states_fair}
-use Rattle.i2c_spec.specs.World.{World, opens_hop, is_joined, start_event, has_heard}
-use Rattle.bus_spec.specs.Slots.{Slots, Clean, Marked}
-use Rattle.bus_laws.specs.Runs.{IsOpenOn}
-use Rattle.bus_laws.specs.Told.{Explains}
 use Rattle.bus_laws.proofs.world.Feed.{hears}
-use Rattle.i2c_base.proofs.Booleans.{and_first, and_last}
 
 -- a world by its parts
 abbrev pub world_of : BoardView → ℕ → List ChipView → List TargetState → List Node → Bool → World

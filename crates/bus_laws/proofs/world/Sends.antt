@@ -1,36 +1,19 @@
 -- The world law for a message of a walk: the jobs together.
-use Rattle.std.proofs.Common.{◌≡◌, ℕ, zero, suc, ◌-◌, ◌<◌, Bool, true, false, cond, not, List, [], ◌∷◌, length, Option, eqb, refl, sym, ◌∙◌, ap, subst, inl, inr, arith}
-use Rattle.std.specs.Prelude.{slice_get, drop}
-use Rattle.std.specs.List.{list_any}
-use Rattle.std.proofs.lemmas.Bool.Decides.{eqb_tells}
-use Rattle.i2c_base.specs.declared.ids.LockId.{LockId}
-use Rattle.i2c_base.specs.declared.transfer.Msg.{Msg}
-use Rattle.i2c_base.specs.declared.tree.Grant.{Grant}
+use Rattle.bus_laws.proofs.Cited.{◌≡◌, ℕ, zero, suc, ◌-◌, ◌<◌, Bool, true, false, cond, not, List, [], ◌∷◌, length, Option, eqb, refl, sym}
+use Rattle.bus_laws.proofs.Cited.{◌∙◌, ap, subst, inl, inr, arith, slice_get, drop, list_any, eqb_tells, LockId, Msg, Grant, BoardView}
+use Rattle.bus_laws.proofs.Cited.{TransferView, written_of, Hop, root_of, home_of_mux, is_held, IsTree, IsHop, IsPlainBoard, grant_of}
+use Rattle.bus_laws.proofs.Cited.{is_busy, ChipView, is_free, MessageView, messages_from, messages_of, TalkTold, world_listener, talk}
+use Rattle.bus_laws.proofs.Cited.{World, changed_at, Mark, Job, Call, Select, SwitchOff, Off, Deselect, Close, off_bus, off_mux, off_kind}
+use Rattle.bus_laws.proofs.Cited.{Sent, job_bus, is_arbitrator, message_of, nth_message, Slots, At, MuxSlot, Found, after_job, CanSend}
+use Rattle.bus_laws.proofs.Cited.{IsOfMux, FindsOpen, FindsPoll, FindsSelect, IsCall, MaySend, chip_in, WorldTold, length-messages}
+use Rattle.bus_laws.proofs.Cited.{or_parts, and_first}
 use Rattle.i2c_base.specs.declared.tree.Grant.TheVariants as grant
-use Rattle.i2c_base.specs.Board.{BoardView}
-use Rattle.i2c_base.specs.Transfer.{TransferView, written_of}
-use Rattle.i2c_spec.specs.Tree.{Hop, root_of, home_of_mux, is_held}
-use Rattle.i2c_spec.specs.TreeFacts.{IsTree, IsHop}
-use Rattle.i2c_spec.specs.Plain.{IsPlainBoard}
-use Rattle.i2c_spec.specs.Grant.{grant_of, is_busy}
-use Rattle.i2c_spec.specs.Chips.{ChipView, is_free}
-use Rattle.i2c_spec.specs.Messages.{MessageView, messages_from, messages_of}
-use Rattle.i2c_spec.specs.Conversation.{TalkTold, world_listener, talk}
-use Rattle.i2c_spec.specs.World.{World}
-use Rattle.i2c_spec.specs.History.{changed_at}
-use Rattle.bus_spec.specs.Walk.{Mark, Job, Call, Select, SwitchOff, Off, Deselect, Close, off_bus, off_mux, off_kind, Sent, job_bus, is_arbitrator, message_of, nth_message, is_last}
-use Rattle.bus_spec.specs.Slots.{Slots, At, MuxSlot, Found, after_job}
-use Rattle.bus_laws.specs.Runs.{CanSend, IsOfMux, FindsOpen, FindsPoll, FindsSelect, IsCall, MaySend}
-use Rattle.bus_laws.specs.Told.{chip_in}
-use Rattle.bus_laws.specs.Told.{WorldTold}
+use Rattle.bus_spec.specs.Walk.{is_last}
 use Rattle.bus_laws.proofs.world.BoardFacts.{mux_at, get_same_length, not_held, held-is, foreign-is, has_channel}
 use Rattle.bus_laws.proofs.tree.Law.{refusal-none}
 use Rattle.bus_laws.proofs.world.Law.{world-is, along_here, talk_framed, world_replaced}
 use Rattle.bus_laws.proofs.world.Jobs.{told_equal, close-told, select-told, poll-told}
 use Rattle.bus_laws.proofs.world.Calls.{call-chips}
-use Rattle.i2c_spec.proofs.MessageLemmas.{length-messages}
-use Rattle.std.proofs.lemmas.Bool.{or_parts}
-use Rattle.i2c_base.proofs.Booleans.{and_first}
 
 busy_is : (g : Grant) → g ≡ grant.Busy → is_busy g ≡ true
 busy_is g e = ap is_busy e

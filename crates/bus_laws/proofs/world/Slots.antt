@@ -1,19 +1,9 @@
 -- How what is known of the chips moves along one step: marks alone, or one chip.
-use Rattle.std.proofs.Common.{◌≡◌, ℕ, ◌≤◌, Bool, true, false, cond, List, [], ◌∷◌, Option, Some, None, eqb, refl, sym, ◌∙◌, ap, subst, ◌⊎◌, inl, inr}
-use Rattle.std.specs.Option.{option_map}
-use Rattle.std.proofs.lemmas.Bool.{eq-eqb, ne_eqb}
-use Rattle.std.proofs.lemmas.Bool.Decides.{eqb_tells}
-use Rattle.i2c_base.specs.Board.{BoardView}
-use Rattle.i2c_base.specs.declared.ids.LockId.{LockId}
-use Rattle.i2c_spec.specs.Tree.{Hop, home_of_mux, is_absent, is_held}
-use Rattle.i2c_spec.specs.Chips.{ChipView, is_open, is_free}
-use Rattle.i2c_spec.specs.History.{changed_at}
-use Rattle.bus_spec.specs.Walk.{Mark}
-use Rattle.bus_spec.specs.Slots.{Slots, At, MuxSlot, Marked, Polled, Found, turned_at, set_marks}
-use Rattle.bus_laws.specs.Runs.{IsOfMux, MayFail}
-use Rattle.bus_laws.specs.Told.{Explains, ChipsTold}
+use Rattle.bus_laws.proofs.Cited.{◌≡◌, ℕ, ◌≤◌, Bool, true, false, cond, List, [], ◌∷◌, Option, Some, None, eqb, refl, sym, ◌∙◌, ap, subst}
+use Rattle.bus_laws.proofs.Cited.{◌⊎◌, inl, inr, option_map, eq-eqb, ne_eqb, eqb_tells, BoardView, LockId, Hop, home_of_mux, is_absent}
+use Rattle.bus_laws.proofs.Cited.{is_held, ChipView, is_open, is_free, changed_at, Mark, Slots, At, MuxSlot, Marked, Polled, Found}
+use Rattle.bus_laws.proofs.Cited.{turned_at, set_marks, IsOfMux, MayFail, Explains, ChipsTold, IsChipOf}
 use Rattle.bus_laws.proofs.tree.Slots.{changed-other}
-use Rattle.bus_laws.specs.Told.{IsChipOf}
 use Rattle.bus_laws.proofs.world.ChipLaws.{SameSort}
 
 -- one mux's channel is changed

@@ -1,14 +1,10 @@
 -- What every conversation keeps. The inductions go over the bytes of a write, and over the bytes that are left to read.
-use Rattle.std.proofs.Common.{ℕ, zero, suc, ◌+◌, ◌-◌, Bool, true, false, cond, ◌||◌, List, [], ◌∷◌, length, Option, eqb, ltb}
-use Rattle.i2c_base.specs.declared.event.Answer.{Answer}
+use Rattle.bus_laws.proofs.Cited.{ℕ, zero, suc, ◌+◌, ◌-◌, Bool, true, false, cond, ◌||◌, List, [], ◌∷◌, length, Option, eqb, ltb, Answer}
+use Rattle.bus_laws.proofs.Cited.{PortCall, End, MessageView, Listener, Said, TalkTold, is_it, silence, say, with_byte, told, call_then}
+use Rattle.bus_laws.proofs.Cited.{ended, puts, gets, gets_counted, by_answer, talk, IsLater}
 use Rattle.i2c_base.specs.declared.event.Answer.TheVariants as answer
-use Rattle.i2c_base.specs.declared.port.PortCall.{PortCall}
 use Rattle.i2c_base.specs.declared.port.PortCall.TheVariants as call
-use Rattle.i2c_base.specs.declared.entry.End.{End}
 use Rattle.i2c_base.specs.declared.entry.End.TheVariants as end
-use Rattle.i2c_spec.specs.Messages.{MessageView}
-use Rattle.i2c_spec.specs.Conversation.{Listener, Said, TalkTold, is_it, silence, say, with_byte, told, call_then, ended, puts, gets, gets_counted, by_answer, talk}
-use Rattle.i2c_spec.proofs.MessageLemmas.{IsLater}
 
 -- a call after the start of a message that didn't fail
 abbrev pub IsMade : PortCall → Type 0

@@ -1,16 +1,12 @@
 -- How many bytes a message tells, and how many calls it makes. The inductions go over the bytes of a write, and over the
 -- bytes that are left to read.
-use Rattle.std.proofs.Common.{◌≡◌, ℕ, zero, suc, ◌+◌, ◌-◌, ◌≤◌, Bool, true, false, cond, ◌||◌, List, [], ◌∷◌, ◌++◌, length, length-append, Option, eqb, ltb, refl, arith}
-use Rattle.std.proofs.lemmas.Bool.{eqb-false, ltb-false}
-use Rattle.i2c_base.specs.declared.event.Answer.{Answer}
+use Rattle.bus_laws.proofs.Cited.{◌≡◌, ℕ, zero, suc, ◌+◌, ◌-◌, ◌≤◌, Bool, true, false, cond, ◌||◌, List, [], ◌∷◌, ◌++◌, length}
+use Rattle.bus_laws.proofs.Cited.{length-append, Option, eqb, ltb, refl, arith, eqb-false, ltb-false, Answer, PortCall, End, MessageView}
+use Rattle.bus_laws.proofs.Cited.{bytes_most, Listener, Said, TalkTold, is_it, silence, say, with_byte, told, call_then, ended, puts, gets}
+use Rattle.bus_laws.proofs.Cited.{gets_counted, by_answer, talk}
 use Rattle.i2c_base.specs.declared.event.Answer.TheVariants as answer
-use Rattle.i2c_base.specs.declared.port.PortCall.{PortCall}
 use Rattle.i2c_base.specs.declared.port.PortCall.TheVariants as call
-use Rattle.i2c_base.specs.declared.entry.End.{End}
 use Rattle.i2c_base.specs.declared.entry.End.TheVariants as end
-use Rattle.i2c_spec.specs.Messages.{MessageView}
-use Rattle.i2c_spec.specs.Conversation.{Listener, Said, TalkTold, is_it, silence, say, with_byte, told, call_then, ended, puts, gets, gets_counted, by_answer, talk}
-use Rattle.i2c_spec.specs.Messages.{bytes_most}
 
 -- a good count
 pub good_count : (byte limit : ℕ) → (eqb byte 0 || ltb limit byte) ≡ false → (1 ≤ byte) × (byte ≤ limit)

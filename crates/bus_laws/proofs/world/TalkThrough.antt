@@ -1,16 +1,14 @@
 -- What a message tells that went through: of a write all of its bytes, of a read as many as it asks for. The inductions go
 -- over the bytes of a write, and over those that are left to read.
-use Rattle.std.proofs.Common.{◌≡◌, ℕ, zero, suc, ◌+◌, ◌-◌, ◌≤◌, Bool, true, false, cond, ◌||◌, List, [], ◌∷◌, ◌++◌, length, Option, eqb, ltb, refl, sym, ◌∙◌, ap, arith, append-nil, append_assoc}
-use Rattle.std.specs.Prelude.{MatchBool}
-use Rattle.i2c_base.specs.Fitting.{count_of}
-use Rattle.i2c_base.specs.declared.event.Answer.{Answer}
+use Rattle.bus_laws.proofs.Cited.{◌≡◌, ℕ, zero, suc, ◌+◌, ◌-◌, ◌≤◌, Bool, true, false, cond, ◌||◌, List, [], ◌∷◌, ◌++◌, length, Option, eqb}
+use Rattle.bus_laws.proofs.Cited.{ltb, refl, sym, ◌∙◌, ap, arith, append-nil, MatchBool, count_of, Answer, PortCall, End, MessageView}
+use Rattle.bus_laws.proofs.Cited.{Listener, Said, TalkTold, is_it, silence, say, with_byte, told, call_then, ended, puts, gets}
+use Rattle.bus_laws.proofs.Cited.{gets_counted, by_answer, talk}
+use Rattle.std.proofs.Common.{append_assoc}
 use Rattle.i2c_base.specs.declared.event.Answer.TheVariants as answer
-use Rattle.i2c_base.specs.declared.port.PortCall.{PortCall}
 use Rattle.i2c_base.specs.declared.port.PortCall.TheVariants as call
-use Rattle.i2c_base.specs.declared.entry.End.{End}
 use Rattle.i2c_base.specs.declared.entry.End.TheVariants as end
-use Rattle.i2c_spec.specs.Messages.{MessageView}
-use Rattle.i2c_spec.specs.Conversation.{Listener, Said, TalkTold, is_it, silence, say, with_byte, told, call_then, ended, puts, gets, gets_counted, data_of, by_answer, talk}
+use Rattle.i2c_spec.specs.Conversation.{data_of}
 use Rattle.bus_laws.proofs.world.TalkSizes.{good_count}
 
 -- as many bytes as it asks for; of a counted read first how many more come, within the limit

@@ -1,50 +1,25 @@
 -- A message of a caller's keeps what stands of the devices: it is said in the flat world as in the world of its root, and
 -- where the transfer ends with it the flat world has done it whole.
-use Rattle.std.proofs.Common.{◌≡◌, ℕ, zero, suc, ◌-◌, ◌<◌, Bool, true, false, cond, List, [], ◌∷◌, ◌++◌, length, Option, Some, None, eqb, refl, sym, ◌∙◌, ap, subst, inl, inr, arith}
-use Rattle.std.specs.Prelude.{slice_get}
-use Rattle.std.proofs.lemmas.Bool.Decides.{eqb_tells}
-use Rattle.i2c_base.specs.declared.entry.End.{End}
+use Rattle.flat_laws.proofs.Cited.{◌≡◌, ℕ, zero, suc, ◌-◌, ◌<◌, Bool, true, false, cond, List, [], ◌∷◌, ◌++◌, length, Option, Some, None}
+use Rattle.flat_laws.proofs.Cited.{eqb, refl, sym, ◌∙◌, ap, subst, inl, inr, arith, slice_get, eqb_tells, End, Entry, Purpose, Reply, Cut}
+use Rattle.flat_laws.proofs.Cited.{BoardView, AreBytes, TransferView, hops, root_of, IsTree, IsPlainBoard, TargetState, MessageView}
+use Rattle.flat_laws.proofs.Cited.{messages_of, World, TalkTold, world_listener, talk, is_good, FlatTold, idle, refusal, granted_on}
+use Rattle.flat_laws.proofs.Cited.{block_limit, errno_of, or_done, flat, Asks, History, Job, Call, Act, Send, Settle, Sent, WalkTree, goes}
+use Rattle.flat_laws.proofs.Cited.{verdict_of, message_of, first_act, first_note, rest_of, MessageEntry, message_cut, cut_told, Now, begun}
+use Rattle.flat_laws.proofs.Cited.{current, now, is_on, is_due, sent, with_due, moved, talk_of, cut_of, inside_after, got_after, IsNext}
+use Rattle.flat_laws.proofs.Cited.{IsStepwise, TellsMessage, LinesAreLocked, AsksForMessages, AsksWithinLimits, IsOf, Same, LeadsTo}
+use Rattle.flat_laws.proofs.Cited.{EndsTransfer, at_same, at_other, message_entry, length-messages, goes_on_from, call_goes, other_caller}
+use Rattle.flat_laws.proofs.Cited.{own_call, past-inside, LetThrough, same_Some, ne_eqb}
 use Rattle.i2c_base.specs.declared.entry.End.TheVariants as end
-use Rattle.i2c_base.specs.declared.entry.Entry.{Entry}
-use Rattle.i2c_base.specs.declared.entry.Purpose.{Purpose}
 use Rattle.i2c_base.specs.declared.entry.Purpose.TheVariants as purpose
-use Rattle.i2c_base.specs.declared.reply.Reply.{Reply}
-use Rattle.i2c_base.specs.declared.reply.Cut.{Cut}
-use Rattle.i2c_base.specs.Board.{BoardView}
-use Rattle.i2c_base.specs.Bytes.{AreBytes}
-use Rattle.i2c_base.specs.Transfer.{TransferView}
-use Rattle.i2c_spec.specs.Tree.{hops, root_of}
-use Rattle.i2c_spec.specs.TreeFacts.{IsTree}
-use Rattle.i2c_spec.specs.Plain.{IsPlainBoard}
-use Rattle.i2c_spec.specs.Targets.{TargetState}
-use Rattle.i2c_spec.specs.Messages.{MessageView, messages_of}
-use Rattle.i2c_spec.specs.World.{World}
-use Rattle.i2c_spec.specs.Conversation.{TalkTold, world_listener, talk, is_good}
-use Rattle.i2c_spec.specs.Flat.{FlatTold, idle, refusal, granted_on, block_limit, errno_of, or_done, flat}
-use Rattle.i2c_spec.specs.History.{Asks, History}
-use Rattle.bus_spec.specs.Walk.{Job, Call, Act, Send, Settle, Sent, WalkTree, goes, verdict_of, message_of}
-use Rattle.bus_spec.specs.Grammar.{first_act, first_note, rest_of}
-use Rattle.bus_spec.specs.Readings.{MessageEntry, message_cut, cut_told}
-use Rattle.bus_spec.specs.Past.{Now, begun, current, now, is_on, is_due, sent, with_due, moved, talk_of, cut_of, inside_after, got_after}
-use Rattle.bus_spec.specs.Stepwise.{IsNext, IsStepwise}
-use Rattle.bus_spec.specs.Tells.{TellsMessage}
-use Rattle.bus_laws.specs.Lines.{LinesAreLocked}
-use Rattle.bus_laws.specs.Reach.{AsksForMessages, AsksWithinLimits}
 use Rattle.bus_laws.specs.Settles.{CallGoesOn}
-use Rattle.bus_laws.specs.Alike.{IsOf, Same, LeadsTo, EndsTransfer}
-use Rattle.bus_laws.proofs.past.StandsStep.{at_same, at_other}
-use Rattle.bus_laws.proofs.past.Known.{message_entry}
-use Rattle.i2c_spec.proofs.MessageLemmas.{length-messages}
-use Rattle.bus_laws.proofs.past.Whole.{goes_on_from, call_goes, other_caller, own_call, past-inside}
 use Rattle.flat_laws.proofs.past.First.{call_first, past-stage}
-use Rattle.bus_laws.proofs.walk.VerdictLaw.{LetThrough, call-clear}
+use Rattle.bus_laws.proofs.walk.VerdictLaw.{call-clear}
 use Rattle.bus_laws.proofs.walk.MessageFacts.{message-bytes, nth-next, part-next}
 use Rattle.bus_laws.proofs.device.Stay.{same-elsewhere}
 use Rattle.flat_laws.proofs.device.Flat.{flat-elsewhere}
 use Rattle.flat_laws.proofs.device.Said.{IsSaid, reply-is, said-more, left_states, said-whole, same-whole}
 use Rattle.flat_laws.proofs.device.Stand.{IsDueWith, IsInsideWith, DevicesStand, inside_stays}
-use Rattle.std.proofs.lemmas.Option.{same_Some}
-use Rattle.std.proofs.lemmas.Bool.{ne_eqb}
 
 -- a message of a caller's is followed by the next where it went through
 goes_good : (bus : ℕ) (ms : List MessageView) (left : ℕ) (e : End) (bytes : List ℕ)

@@ -1,38 +1,33 @@
 -- A transfer in the flat world has to do with the devices of its own root alone. The inductions go over hops, and over
 -- the messages.
-use Rattle.std.proofs.Common.{◌≡◌, ℕ, ◌+◌, Bool, true, false, cond, not, ◌&&◌, ◌||◌, List, [], ◌∷◌, ◌++◌, Option, Some, None, eqb, refl, sym, ◌∙◌, ap, zero-add}
-use Rattle.std.specs.Prelude.{slice_get, unwrap_or}
-use Rattle.std.specs.List.{AllByRecursion, position_from}
-use Rattle.std.specs.Option.{option_map, option_map_or}
+use Rattle.flat_laws.proofs.Cited.{◌≡◌, ℕ, ◌+◌, Bool, true, false, cond, ◌&&◌, List, [], ◌∷◌, ◌++◌, Option, Some, None, eqb, refl, sym, ◌∙◌}
+use Rattle.flat_laws.proofs.Cited.{ap, zero-add, slice_get, unwrap_or, AllByRecursion, option_map, option_map_or, Errno, PortCall, Cut}
+use Rattle.flat_laws.proofs.Cited.{BoardView, DeviceView, TransferView, root_of, IsTree, TargetState, state_table, MessageView, messages_of}
+use Rattle.flat_laws.proofs.Cited.{World, FlatListener, idle, flat_start, to_current, to_named, flat_after, flat_listener, granted_on}
+use Rattle.flat_laws.proofs.Cited.{block_limit, cut_in, errno_of, or_done, barred, flat_by, flat_messages, flat, TalkTold, AllTold, talk}
+use Rattle.flat_laws.proofs.Cited.{talk_all, is_empty, is_good, with_read, IsOf, Same, ToldAlike, talk_part}
+use Rattle.std.proofs.Common.{not, ◌||◌}
+use Rattle.std.specs.List.{position_from}
 use Rattle.i2c_base.specs.declared.event.Event.{Event}
 use Rattle.i2c_base.specs.declared.event.Event.TheVariants as event
 use Rattle.i2c_base.specs.declared.event.Answer.{Answer}
 use Rattle.i2c_base.specs.declared.event.Answer.TheVariants as answer
-use Rattle.i2c_base.specs.declared.errno.Errno.{Errno}
-use Rattle.i2c_base.specs.declared.port.PortCall.{PortCall}
 use Rattle.i2c_base.specs.declared.port.PortCall.TheVariants as call
-use Rattle.i2c_base.specs.declared.reply.Cut.{Cut}
 use Rattle.i2c_base.specs.declared.tree.Grant.TheVariants as grant
-use Rattle.i2c_base.specs.Board.{BoardView, DeviceView}
-use Rattle.i2c_base.specs.Transfer.{TransferView}
-use Rattle.i2c_spec.specs.Tree.{root_of, is_below, is_on_path, is_aside}
-use Rattle.i2c_spec.specs.TreeFacts.{IsTree}
+use Rattle.i2c_spec.specs.Tree.{is_below, is_on_path, is_aside}
 use Rattle.i2c_spec.specs.Grant.{some_chip, some_device, some_bound, named_by, named_of}
-use Rattle.i2c_spec.specs.Targets.{TargetState, state_table, state_answer}
-use Rattle.i2c_spec.specs.Messages.{MessageView, messages_of}
+use Rattle.i2c_spec.specs.Targets.{state_answer}
 use Rattle.i2c_base.specs.Table.{byte_of}
-use Rattle.i2c_spec.specs.World.{World, feed, has_heard, is_ack}
-use Rattle.i2c_spec.specs.Flat.{FlatListener, idle, is_member, put_named, flat_start, to_current, to_named, answer_of, acknowledged, flat_after, flat_listener, granted_on, block_limit, cut_in, errno_of, or_done, barred, flat_by, flat_messages, flat}
-use Rattle.i2c_spec.specs.Conversation.{TalkTold, AllTold, talk, talk_all, is_empty, is_good, with_read}
-use Rattle.bus_laws.specs.Alike.{IsOf, listening, Same, ToldAlike, IsUnnamed}
-use Rattle.flat_laws.specs.Parts.{talk_part, FlatSame}
+use Rattle.i2c_spec.specs.World.{feed, has_heard, is_ack}
+use Rattle.i2c_spec.specs.Flat.{is_member, put_named, answer_of, acknowledged}
+use Rattle.i2c_spec.specs.Conversation.{is_it}
+use Rattle.bus_laws.specs.Alike.{listening, IsUnnamed}
+use Rattle.flat_laws.specs.Parts.{FlatSame}
 use Rattle.bus_laws.proofs.device.Talk.{talk-alike}
 use Rattle.bus_laws.proofs.device.Hears.{fed_alike}
 use Rattle.bus_laws.proofs.device.Grant.{path_over, position_at}
-use Rattle.i2c_spec.proofs.MessageLemmas.{is_it-some}
+use Rattle.i2c_spec.proofs.MessageLemmas.{is_it-some, IsFollowing}
 use Rattle.bus_laws.proofs.device.Stay.{talk-unnamed}
-use Rattle.i2c_spec.proofs.MessageLemmas.{IsFollowing}
-use Rattle.i2c_spec.specs.Conversation.{is_it}
 use Rattle.i2c_base.proofs.Booleans.{and_last}
 use Rattle.bus_laws.proofs.world.Reach.{root_over}
 

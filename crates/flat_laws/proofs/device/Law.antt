@@ -1,48 +1,26 @@
 -- The replies of a stepwise past are those of the flat world doing the transfers one at a time, in the order of the
 -- settles, and so are the devices. The induction goes over the entries.
-use Rattle.std.proofs.Common.{◌≡◌, ℕ, Bool, true, false, cond, List, [], ◌∷◌, ◌++◌, Option, Some, None, refl, sym, ◌∙◌, ap, subst, ◌⊎◌, inl, inr}
-use Rattle.std.specs.Option.{option_map, option_and_then}
-use Rattle.std.proofs.lemmas.Bool.Decides.{eqb_tells}
-use Rattle.i2c_base.specs.declared.entry.Entry.{Entry}
+use Rattle.flat_laws.proofs.Cited.{◌≡◌, ℕ, Bool, true, false, cond, List, [], ◌∷◌, ◌++◌, Option, Some, None, refl, sym, ◌∙◌, ap, subst, ◌⊎◌}
+use Rattle.flat_laws.proofs.Cited.{inl, inr, option_map, option_and_then, eqb_tells, Entry, Purpose, Errno, Reply, Cut, BoardView}
+use Rattle.flat_laws.proofs.Cited.{TransferView, hops, root_of, IsTree, IsPlainBoard, TargetState, MessageView, messages_of, FlatTold}
+use Rattle.flat_laws.proofs.Cited.{refusal, granted_on, flat, Asks, History, changed_at, with_told, one_more, opening_history, history, Job}
+use Rattle.flat_laws.proofs.Cited.{Call, Select, SwitchOff, Act, Take, Free, Send, Settle, Passed, Sent, Lined, WalkTree, job_bus}
+use Rattle.flat_laws.proofs.Cited.{message_of, walk_by, first_act, first_note, rest_of, seen, is_over, MessageEntry, order, message_cut}
+use Rattle.flat_laws.proofs.Cited.{Now, begun, current, step, now, sent, sent_by, lined_by, with_due, moved, talk_of, IsNext, May}
+use Rattle.flat_laws.proofs.Cited.{IsStepwise, reply_by, TellsMessage, KeepsReplies, LinesAreLocked, AsksForMessages, AsksWithinLimits}
+use Rattle.flat_laws.proofs.Cited.{NoSettle, LeadsTo, at_same, at_other, settled-told, message_entry, goes_on_from, no_settle, past-due}
+use Rattle.flat_laws.proofs.Cited.{LetThrough, bars-flat, DecidesNext, same_Some}
 use Rattle.i2c_base.specs.declared.entry.Entry.TheVariants as entry
-use Rattle.i2c_base.specs.declared.entry.Purpose.{Purpose}
 use Rattle.i2c_base.specs.declared.entry.Purpose.TheVariants as purpose
-use Rattle.i2c_base.specs.declared.errno.Errno.{Errno}
-use Rattle.i2c_base.specs.declared.reply.Reply.{Reply}
-use Rattle.i2c_base.specs.declared.reply.Cut.{Cut}
-use Rattle.i2c_base.specs.Board.{BoardView}
-use Rattle.i2c_base.specs.Transfer.{TransferView}
-use Rattle.i2c_spec.specs.Tree.{hops, root_of}
-use Rattle.i2c_spec.specs.TreeFacts.{IsTree}
-use Rattle.i2c_spec.specs.Plain.{IsPlainBoard}
-use Rattle.i2c_spec.specs.Targets.{TargetState}
-use Rattle.i2c_spec.specs.Messages.{MessageView, messages_of}
-use Rattle.i2c_spec.specs.Flat.{FlatTold, refusal, granted_on, flat}
-use Rattle.i2c_spec.specs.History.{Asks, History, changed_at, with_told, one_more, opening_history, history}
-use Rattle.bus_spec.specs.Walk.{Job, Call, Select, SwitchOff, off_mux, Act, Take, Free, Send, Settle, Passed, Sent, Lined, WalkTree, job_bus, message_of}
-use Rattle.bus_spec.specs.Grammar.{walk_by, first_act, first_note, rest_of, seen, is_over}
-use Rattle.bus_spec.specs.Readings.{MessageEntry, order, message_cut}
-use Rattle.bus_spec.specs.Past.{Now, begun, current, step, now, sent, sent_by, lined_by, with_due, moved, talk_of}
-use Rattle.bus_spec.specs.Stepwise.{IsNext, May, IsStepwise, reply_by}
-use Rattle.bus_spec.specs.Tells.{TellsMessage}
-use Rattle.bus_spec.specs.Legal.{KeepsReplies}
-use Rattle.bus_laws.specs.Lines.{LinesAreLocked}
-use Rattle.bus_laws.specs.Reach.{AsksForMessages, AsksWithinLimits}
-use Rattle.bus_laws.specs.Settles.{NoSettle}
-use Rattle.bus_laws.specs.Alike.{LeadsTo}
-use Rattle.bus_laws.proofs.past.StandsStep.{at_same, at_other}
-use Rattle.bus_laws.proofs.past.Asked.{settled-told}
-use Rattle.bus_laws.proofs.past.Known.{message_entry}
-use Rattle.bus_laws.proofs.past.Whole.{goes_on_from}
+use Rattle.bus_spec.specs.Walk.{off_mux}
 use Rattle.flat_laws.proofs.past.First.{not_inside}
-use Rattle.bus_laws.proofs.past.Placed.{starts_seen, no_settle, past-due}
+use Rattle.bus_laws.proofs.past.Placed.{starts_seen}
 use Rattle.bus_laws.proofs.walk.SettleLaw.{walk-starts}
-use Rattle.bus_laws.proofs.walk.VerdictLaw.{LetThrough, refused-barred, bars-flat}
-use Rattle.bus_laws.proofs.device.Past.{CallNext, DecidesNext, call-next, select-next, off-next, select-decides, off-decides}
+use Rattle.bus_laws.proofs.walk.VerdictLaw.{refused-barred}
+use Rattle.bus_laws.proofs.device.Past.{CallNext, call-next, select-next, off-next, select-decides, off-decides}
 use Rattle.bus_laws.proofs.device.Stay.{opening-same}
 use Rattle.flat_laws.proofs.device.Stand.{IsDueWith, DevicesStand, stands_still, lock_stands, line_stands, control_stands}
 use Rattle.flat_laws.proofs.device.Calls.{call_stands}
-use Rattle.std.proofs.lemmas.Option.{same_Some}
 
 module _ (b : BoardView) (tree : IsTree b) (plain : IsPlainBoard b) (lines : LinesAreLocked b) (asks : Asks) (some : AsksForMessages asks)
     (limits : AsksWithinLimits asks) (callers : ℕ)

@@ -1,18 +1,11 @@
 -- The messages of a transfer, one after the other. The inductions go over the messages.
-use Rattle.std.proofs.Common.{◌≡◌, ℕ, suc, ◌+◌, ◌<◌, Bool, true, false, cond, ◌&&◌, List, [], ◌∷◌, ◌++◌, length, Option, refl, sym, ◌∙◌, ap, subst, arith, add-zero, zero-add, append-nil, inl, inr}
-use Rattle.i2c_base.specs.declared.entry.End.{End}
+use Rattle.flat_laws.proofs.Cited.{◌≡◌, ℕ, suc, ◌+◌, ◌<◌, Bool, true, false, cond, ◌&&◌, List, [], ◌∷◌, ◌++◌, length, Option, refl, sym}
+use Rattle.flat_laws.proofs.Cited.{◌∙◌, ap, subst, arith, add-zero, zero-add, append-nil, inl, inr, End, BoardView, AreBytes, Cut}
+use Rattle.flat_laws.proofs.Cited.{TransferView, TargetState, MessageView, messages_of, World, FlatListener, idle, flat_listener}
+use Rattle.flat_laws.proofs.Cited.{granted_on, block_limit, cut_in, flat_messages, Listener, world_listener, TalkTold, AllTold, talk}
+use Rattle.flat_laws.proofs.Cited.{talk_all, is_empty, is_good, with_read, Same, LeadsTo, ToldAlike, EndsTransfer, talk_part, GrowsAlike}
 use Rattle.i2c_base.specs.declared.entry.End.TheVariants as end
-use Rattle.i2c_base.specs.Board.{BoardView}
-use Rattle.i2c_base.specs.Bytes.{AreBytes}
-use Rattle.i2c_base.specs.declared.reply.Cut.{Cut}
-use Rattle.i2c_base.specs.Transfer.{TransferView}
-use Rattle.i2c_spec.specs.Targets.{TargetState}
-use Rattle.i2c_spec.specs.Messages.{MessageView, messages_of}
-use Rattle.i2c_spec.specs.World.{World}
-use Rattle.i2c_spec.specs.Flat.{FlatListener, idle, flat_listener, granted_on, block_limit, cut_in, flat_messages}
-use Rattle.i2c_spec.specs.Conversation.{Listener, world_listener, TalkTold, AllTold, talk, talk_all, is_empty, is_good, with_read}
-use Rattle.bus_laws.specs.Alike.{Same, LeadsTo, ToldAlike, EndsTransfer}
-use Rattle.flat_laws.specs.Parts.{talk_part, talk_more, GrowsAlike}
+use Rattle.flat_laws.specs.Parts.{talk_more}
 use Rattle.bus_laws.proofs.device.Same.{message-alike}
 use Rattle.bus_laws.proofs.device.Stops.{flat-settled}
 use Rattle.std.proofs.Math.Bool.{and-true, and-false}

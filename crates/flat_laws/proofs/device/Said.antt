@@ -1,30 +1,14 @@
 -- A transfer under way: what is said of it in the flat world, and one message more.
-use Rattle.std.proofs.Common.{◌≡◌, ℕ, suc, ◌+◌, ◌-◌, ◌<◌, Bool, true, false, cond, List, [], ◌∷◌, ◌++◌, length, Option, Some, None, eqb, refl, sym, ◌∙◌, ap, subst, arith, zero-add}
-use Rattle.std.specs.Prelude.{slice_get}
-use Rattle.std.proofs.lemmas.Bool.{eq-eqb, ne_eqb}
+use Rattle.flat_laws.proofs.Cited.{◌≡◌, ℕ, suc, ◌+◌, ◌-◌, ◌<◌, Bool, true, false, cond, List, [], ◌∷◌, ◌++◌, length, Option, Some, None}
+use Rattle.flat_laws.proofs.Cited.{eqb, refl, sym, ◌∙◌, ap, subst, arith, zero-add, slice_get, eq-eqb, ne_eqb, End, Reply, Cut, BoardView}
+use Rattle.flat_laws.proofs.Cited.{AreBytes, TransferView, root_of, IsTree, TargetState, MessageView, messages_of, World, FlatListener}
+use Rattle.flat_laws.proofs.Cited.{FlatTold, idle, flat_listener, granted_on, block_limit, cut_in, errno_of, or_done, barred, flat_by}
+use Rattle.flat_laws.proofs.Cited.{flat_messages, flat, Listener, TalkTold, AllTold, world_listener, talk, is_empty, is_good, Call, Sent}
+use Rattle.flat_laws.proofs.Cited.{verdict_of, message_cut, cut_of, reply_by, IsOf, Same, LeadsTo, EndsTransfer, talk_part, GrowsAlike}
+use Rattle.flat_laws.proofs.Cited.{said_so_far}
 use Rattle.std.proofs.lemmas.List.{append_assoc}
-use Rattle.i2c_base.specs.declared.entry.End.{End}
 use Rattle.i2c_base.specs.declared.entry.End.TheVariants as end
 use Rattle.i2c_base.specs.declared.entry.Purpose.TheVariants as purpose
-use Rattle.i2c_base.specs.declared.reply.Reply.{Reply}
-use Rattle.i2c_base.specs.declared.reply.Cut.{Cut}
-use Rattle.i2c_base.specs.Board.{BoardView}
-use Rattle.i2c_base.specs.Bytes.{AreBytes}
-use Rattle.i2c_base.specs.Transfer.{TransferView}
-use Rattle.i2c_spec.specs.Tree.{root_of}
-use Rattle.i2c_spec.specs.TreeFacts.{IsTree}
-use Rattle.i2c_spec.specs.Targets.{TargetState}
-use Rattle.i2c_spec.specs.Messages.{MessageView, messages_of}
-use Rattle.i2c_spec.specs.World.{World}
-use Rattle.i2c_spec.specs.Flat.{FlatListener, FlatTold, idle, flat_listener, granted_on, block_limit, cut_in, errno_of, or_done, barred, flat_by, flat_messages, flat}
-use Rattle.i2c_spec.specs.Conversation.{Listener, TalkTold, AllTold, world_listener, talk, is_empty, is_good}
-use Rattle.bus_spec.specs.Walk.{Call, Sent, verdict_of}
-use Rattle.bus_spec.specs.Readings.{message_cut}
-use Rattle.bus_spec.specs.Past.{cut_of}
-use Rattle.bus_spec.specs.Stepwise.{reply_by}
-use Rattle.bus_laws.specs.Alike.{IsOf, Same, LeadsTo, EndsTransfer}
-use Rattle.flat_laws.specs.Parts.{talk_part, GrowsAlike}
-use Rattle.flat_laws.specs.Left.{said_so_far}
 use Rattle.flat_laws.proofs.device.Parts.{part-cuts, part-grows, part-idle, part-whole}
 use Rattle.flat_laws.proofs.device.Flat.{granted-own, flat_part-alike, same-alike}
 

@@ -1,42 +1,24 @@
 -- What stands of the devices after a past: those that the settled transfers left in the flat world, those of the transfer
 -- whose settle is due, and what is said of each transfer under way. One step that is no message of a caller's keeps it.
-use Rattle.std.proofs.Common.{◌≡◌, ℕ, Bool, true, false, cond, List, Option, Some, None, refl, sym, ◌∙◌, ap, subst, inl, inr}
-use Rattle.std.specs.Prelude.{slice_get}
-use Rattle.std.proofs.lemmas.Bool.Decides.{eqb_tells}
-use Rattle.i2c_base.specs.declared.entry.End.{End}
-use Rattle.i2c_base.specs.declared.entry.Entry.{Entry}
-use Rattle.i2c_base.specs.declared.errno.Errno.{Errno}
+use Rattle.flat_laws.proofs.Cited.{◌≡◌, ℕ, Bool, true, false, cond, List, Option, Some, None, refl, sym, ◌∙◌, ap, subst, inl, inr}
+use Rattle.flat_laws.proofs.Cited.{slice_get, eqb_tells, End, Entry, Errno, Reply, Cut, BoardView, TransferView, root_of, IsTree}
+use Rattle.flat_laws.proofs.Cited.{IsPlainBoard, TargetState, MessageView, messages_of, World, world_listener, talk, FlatTold, idle}
+use Rattle.flat_laws.proofs.Cited.{block_limit, flat, Asks, History, changed_at, Job, Call, Act, Send, Shift, Settle, Passed, Sent, Lined}
+use Rattle.flat_laws.proofs.Cited.{WalkTree, job_bus, job_purpose, message_of, first_act, first_note, rest_of, is_call, cut_told, Now}
+use Rattle.flat_laws.proofs.Cited.{current, now, is_due, sent, with_due, moved, talk_of, cut_of, inside_after, got_after, IsNext}
+use Rattle.flat_laws.proofs.Cited.{IsStepwise, reply_by, LinesAreLocked, AsksForMessages, IsOf, Same, at_same, at_other, own_call}
+use Rattle.flat_laws.proofs.Cited.{bars-flat, DecidesNext, same_Some}
 use Rattle.i2c_base.specs.declared.port.PortCall.TheVariants as call
-use Rattle.i2c_base.specs.declared.reply.Reply.{Reply}
-use Rattle.i2c_base.specs.declared.reply.Cut.{Cut}
 use Rattle.i2c_base.specs.declared.reply.Cut.TheVariants as cut_at
-use Rattle.i2c_base.specs.Board.{BoardView}
-use Rattle.i2c_base.specs.Transfer.{TransferView}
-use Rattle.i2c_spec.specs.Tree.{root_of}
-use Rattle.i2c_spec.specs.TreeFacts.{IsTree}
-use Rattle.i2c_spec.specs.Plain.{IsPlainBoard}
-use Rattle.i2c_spec.specs.Targets.{TargetState}
-use Rattle.i2c_spec.specs.Messages.{MessageView, messages_of}
-use Rattle.i2c_spec.specs.World.{World, after}
-use Rattle.i2c_spec.specs.Conversation.{world_listener, talk}
-use Rattle.i2c_spec.specs.Flat.{FlatTold, idle, block_limit, flat}
-use Rattle.i2c_spec.specs.History.{Asks, History, changed_at}
-use Rattle.bus_spec.specs.Walk.{Job, Call, Act, Send, Shift, Settle, Passed, Sent, Lined, WalkTree, job_bus, job_purpose, is_last, message_of, line_mux, line_level}
-use Rattle.bus_spec.specs.Grammar.{first_act, first_note, rest_of}
-use Rattle.bus_spec.specs.Readings.{is_call, cut_told}
-use Rattle.bus_spec.specs.Past.{Now, current, now, is_due, sent, lined, line_call, with_due, moved, talk_of, cut_of, inside_after, got_after}
-use Rattle.bus_spec.specs.Stepwise.{IsNext, IsStepwise, reply_by}
-use Rattle.bus_laws.specs.Lines.{LinesAreLocked}
-use Rattle.bus_laws.specs.Reach.{AsksForMessages}
-use Rattle.bus_laws.specs.Alike.{IsOf, Same, IsControl}
-use Rattle.bus_laws.proofs.past.StandsStep.{at_same, at_other}
-use Rattle.bus_laws.proofs.past.Whole.{own_call, no_line}
+use Rattle.i2c_spec.specs.World.{after}
+use Rattle.bus_spec.specs.Walk.{is_last, line_mux, line_level}
+use Rattle.bus_spec.specs.Past.{lined, line_call}
+use Rattle.bus_laws.specs.Alike.{IsControl}
+use Rattle.bus_laws.proofs.past.Whole.{no_line}
 use Rattle.flat_laws.proofs.past.First.{due_settles, not_inside}
-use Rattle.bus_laws.proofs.walk.VerdictLaw.{bars-flat}
-use Rattle.bus_laws.proofs.device.Past.{DecidesNext, line-decides}
+use Rattle.bus_laws.proofs.device.Past.{line-decides}
 use Rattle.bus_laws.proofs.device.Stay.{control-same, line-same, fault-same}
 use Rattle.flat_laws.proofs.device.Said.{IsSaid, said-elsewhere}
-use Rattle.std.proofs.lemmas.Option.{same_Some}
 
 -- a caller's settle is due: the flat world has done its transfer, and left these devices
 pub record IsDueWith (b : BoardView) (asks : Asks) (n : Now) (h : History) (ahead : List TargetState) (c : ℕ) : Type 0 where

@@ -1,29 +1,14 @@
 -- What stands where a caller's walk has ended, and where all have. The induction goes over the entries.
-use Rattle.std.proofs.Common.{◌≡◌, ℕ, ◌<◌, ◌≤◌, List, [], ◌∷◌, Option, Some, None, refl, sym, ◌∙◌, ap, subst, inl, inr, arith}
+use Rattle.flat_laws.proofs.Cited.{◌≡◌, ℕ, ◌<◌, List, [], ◌∷◌, Option, Some, None, refl, sym, ◌∙◌, ap, subst, inl, inr, arith, LockId}
+use Rattle.flat_laws.proofs.Cited.{Entry, Reply, BoardView, IsTree, IsPlainBoard, Asks, Call, Send, Passed, Sent, Lined, WalkTree, Ends}
+use Rattle.flat_laws.proofs.Cited.{first_act, rest_of, holder, Now, current, step, now, May, IsStepwise, IsComplete, InLocks, Runs}
+use Rattle.flat_laws.proofs.Cited.{LinesAreLocked, CallerStands, Stands, AsksForMessages, at_other, past-stands, holder-told, settled-told}
+use Rattle.flat_laws.proofs.Cited.{past-inside}
+use Rattle.std.proofs.Common.{◌≤◌}
 use Rattle.std.proofs.lemmas.Bool.Decides.{leb_tells}
-use Rattle.i2c_base.specs.declared.ids.LockId.{LockId}
-use Rattle.i2c_base.specs.declared.entry.Entry.{Entry}
 use Rattle.i2c_base.specs.declared.entry.Entry.TheVariants as entry
-use Rattle.i2c_base.specs.declared.reply.Reply.{Reply}
-use Rattle.i2c_base.specs.Board.{BoardView}
-use Rattle.i2c_spec.specs.TreeFacts.{IsTree}
-use Rattle.i2c_spec.specs.Plain.{IsPlainBoard}
-use Rattle.i2c_spec.specs.History.{Asks}
-use Rattle.bus_spec.specs.Walk.{Call, Send, Passed, Sent, Lined, WalkTree, Ends}
-use Rattle.bus_spec.specs.Grammar.{first_act, rest_of}
-use Rattle.bus_spec.specs.Readings.{holder}
-use Rattle.bus_spec.specs.Past.{Now, current, step, now}
-use Rattle.bus_spec.specs.Stepwise.{May, IsStepwise}
-use Rattle.bus_spec.specs.Legal.{IsComplete}
-use Rattle.bus_laws.specs.Runs.{InLocks, Runs}
-use Rattle.bus_laws.specs.Lines.{LinesAreLocked}
-use Rattle.bus_laws.specs.Stands.{CallerStands, Stands}
-use Rattle.bus_laws.specs.Reach.{AsksForMessages}
 use Rattle.flat_laws.specs.Ends.{IsDone}
-use Rattle.bus_laws.proofs.past.StandsStep.{at_other}
-use Rattle.bus_laws.proofs.past.Laws.{past-stands, holder-told}
-use Rattle.bus_laws.proofs.past.Asked.{settled-told}
-use Rattle.bus_laws.proofs.past.Whole.{IsInside, past-inside}
+use Rattle.bus_laws.proofs.past.Whole.{IsInside}
 
 -- an entry is of one of the callers, so the walks of nobody else go on
 others_stay : (b : BoardView) (callers : ℕ) (asks : Asks) (n : Now) (e : Entry) → May b callers asks n e → (c : ℕ) → (c < callers → ⊥)

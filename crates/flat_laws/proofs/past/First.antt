@@ -1,37 +1,21 @@
 -- A caller whose messages come next is inside already, or sends its first one, and has read nothing yet; and how many of
 -- them stand before. The induction goes over the entries.
-use Rattle.std.proofs.Common.{◌≡◌, ℕ, zero, suc, ◌+◌, ◌-◌, ◌<◌, Bool, true, false, cond, ◌&&◌, List, [], ◌∷◌, length, Option, Some, None, eqb, refl, sym, ◌∙◌, ap, subst, ◌⊎◌, inl, inr, arith}
-use Rattle.std.proofs.lemmas.Bool.{eq-eqb, ne_eqb}
-use Rattle.std.proofs.lemmas.Bool.Decides.{eqb_tells}
+use Rattle.flat_laws.proofs.Cited.{◌≡◌, ℕ, zero, suc, ◌+◌, ◌-◌, ◌<◌, Bool, true, false, cond, ◌&&◌, List, [], ◌∷◌, length, Option, Some}
+use Rattle.flat_laws.proofs.Cited.{None, eqb, refl, sym, ◌∙◌, ap, subst, ◌⊎◌, inl, inr, arith, eq-eqb, ne_eqb, eqb_tells, End, Entry}
+use Rattle.flat_laws.proofs.Cited.{BoardView, TransferView, root_of, IsTree, IsPlainBoard, MessageView, messages_of, Asks, changed_at, Job}
+use Rattle.flat_laws.proofs.Cited.{Call, Select, SwitchOff, Act, Take, Free, Send, Shift, Settle, ActOutcome, Passed, Sent, Lined, Note}
+use Rattle.flat_laws.proofs.Cited.{WalkTree, Then, goes, verdict_of, job_bus, job_purpose, more_of, seen, is_over, first_act, first_note}
+use Rattle.flat_laws.proofs.Cited.{rest_of, is_call, Now, begun, current, step, now, is_on, is_due, inside_after, got_after, sent, sent_by}
+use Rattle.flat_laws.proofs.Cited.{lined_by, with_due, moved, talk_of, IsNext, May, IsStepwise, InLocks, LinesAreLocked, AsksForMessages}
+use Rattle.flat_laws.proofs.Cited.{Settles, calls_behind, at_same, at_other, first_is, length-messages, past-inside, call_goes}
+use Rattle.flat_laws.proofs.Cited.{other_caller, same_Some}
 use Rattle.i2c_base.specs.declared.ids.LockId.TheVariants as lock
-use Rattle.i2c_base.specs.declared.entry.End.{End}
-use Rattle.i2c_base.specs.declared.entry.Entry.{Entry}
 use Rattle.i2c_base.specs.declared.entry.Entry.TheVariants as entry
-use Rattle.i2c_base.specs.Board.{BoardView}
-use Rattle.i2c_base.specs.Transfer.{TransferView}
-use Rattle.i2c_spec.specs.Tree.{root_of}
-use Rattle.i2c_spec.specs.TreeFacts.{IsTree}
-use Rattle.i2c_spec.specs.Plain.{IsPlainBoard}
-use Rattle.i2c_spec.specs.Messages.{MessageView, messages_of}
-use Rattle.i2c_spec.specs.History.{Asks, changed_at}
-use Rattle.bus_spec.specs.Walk.{Job, Call, Select, SwitchOff, Act, Take, Free, Send, Shift, Settle, ActOutcome, Passed, Sent, Lined, Note, WalkTree, Then, goes, verdict_of, job_bus, job_purpose, more_of}
-use Rattle.bus_spec.specs.Grammar.{seen, is_over, first_act, first_note, rest_of}
-use Rattle.bus_spec.specs.Readings.{is_call}
-use Rattle.bus_spec.specs.Past.{Now, begun, current, step, now, is_on, is_due, inside_after, got_after, sent, sent_by, lined_by, with_due, moved, talk_of}
-use Rattle.bus_spec.specs.Stepwise.{IsNext, May, IsStepwise}
-use Rattle.bus_laws.specs.Runs.{InLocks, IsCall}
-use Rattle.bus_laws.specs.Lines.{LinesAreLocked}
-use Rattle.bus_laws.specs.Reach.{AsksForMessages}
-use Rattle.bus_laws.specs.Settles.{Settles}
+use Rattle.bus_laws.specs.Runs.{IsCall}
 use Rattle.bus_laws.specs.Calls.{FirstCalls, CallsOf, IsAsked}
-use Rattle.flat_laws.specs.Left.{calls_behind}
-use Rattle.bus_laws.proofs.past.StandsStep.{at_same, at_other}
-use Rattle.bus_laws.proofs.past.StandsEntries.{first_is}
-use Rattle.i2c_spec.proofs.MessageLemmas.{length-messages}
 use Rattle.bus_laws.proofs.walk.First.{settled-first, walk-first, first_seen}
-use Rattle.bus_laws.proofs.past.Whole.{AreInside, Between, past-inside, alone, sent_rooted, call_goes, inside_next, other_caller, entry_between}
+use Rattle.bus_laws.proofs.past.Whole.{AreInside, Between, alone, sent_rooted, inside_next, entry_between}
 use Rattle.bus_laws.proofs.past.Placed.{rest_settles, asked as asked_past}
-use Rattle.std.proofs.lemmas.Option.{same_Some}
 
 -- so many messages stand before the one that comes next
 abbrev pub Counts : WalkTree → ℕ → Type 0

@@ -1,45 +1,28 @@
 -- The devices that a journal leaves are those of its history. The inductions go over the messages of a transfer, over the
 -- transfers, and over the devices.
-use Rattle.std.proofs.Common.{◌≡◌, ℕ, zero, suc, ◌+◌, ◌<◌, Bool, true, false, cond, List, [], ◌∷◌, ◌++◌, length, map, take, Option, Some, None, refl, sym, ◌∙◌, ap, subst, arith, zero-add, add-zero}
-use Rattle.std.specs.Prelude.{slice_get, unwrap_or}
-use Rattle.std.specs.Option.{option_map, option_map_or, option_and_then}
-use Rattle.std.specs.List.{AllByRecursion, range_with_len}
+use Rattle.flat_laws.proofs.Cited.{◌≡◌, ℕ, zero, suc, ◌+◌, ◌<◌, Bool, true, false, cond, List, [], ◌∷◌, ◌++◌, length, map, Option, Some}
+use Rattle.flat_laws.proofs.Cited.{None, refl, sym, ◌∙◌, ap, subst, arith, zero-add, add-zero, slice_get, unwrap_or, option_map}
+use Rattle.flat_laws.proofs.Cited.{option_map_or, option_and_then, AllByRecursion, Entry, Errno, PortCall, Reply, Cut, BoardView}
+use Rattle.flat_laws.proofs.Cited.{DeviceView, TransferView, root_of, IsTree, IsPlainBoard, TargetState, state_table, MessageView}
+use Rattle.flat_laws.proofs.Cited.{messages_of, World, FlatListener, idle, flat_start, to_current, to_named, flat_after, flat_listener}
+use Rattle.flat_laws.proofs.Cited.{granted_on, block_limit, cut_in, barred, flat_by, flat, TalkTold, AllTold, talk, talk_all, is_empty}
+use Rattle.flat_laws.proofs.Cited.{is_good, with_read, Asks, History, with_told, one_more, opening_history, history, Call, Act, Send}
+use Rattle.flat_laws.proofs.Cited.{Settle, WalkTree, Ends, first_act, order, Now, begun, now, IsStepwise, LinesAreLocked, AsksForMessages}
+use Rattle.flat_laws.proofs.Cited.{AsksWithinLimits, Stands, Same, said_so_far, calls_behind, past-stands, settled-told, goes_on_from}
+use Rattle.std.proofs.Common.{take}
+use Rattle.std.specs.List.{range_with_len}
 use Rattle.std.proofs.lemmas.List.{length-map}
 use Rattle.std.proofs.lemmas.List.Elements.{All-from_recursion}
 use Rattle.i2c_base.specs.declared.event.Event.TheVariants as event
-use Rattle.i2c_base.specs.declared.entry.Entry.{Entry}
-use Rattle.i2c_base.specs.declared.errno.Errno.{Errno}
-use Rattle.i2c_base.specs.declared.port.PortCall.{PortCall}
 use Rattle.i2c_base.specs.declared.port.PortCall.TheVariants as call
-use Rattle.i2c_base.specs.declared.reply.Reply.{Reply}
-use Rattle.i2c_base.specs.declared.reply.Cut.{Cut}
-use Rattle.i2c_base.specs.Board.{BoardView, DeviceView}
-use Rattle.i2c_base.specs.Transfer.{TransferView}
-use Rattle.i2c_spec.specs.Tree.{buses, root_of, of_device}
-use Rattle.i2c_spec.specs.TreeFacts.{IsTree}
-use Rattle.i2c_spec.specs.Plain.{IsPlainBoard}
-use Rattle.i2c_spec.specs.Targets.{TargetState, Silent, state_table, opening_state}
-use Rattle.i2c_spec.specs.Messages.{MessageView, messages_of}
-use Rattle.i2c_spec.specs.World.{World, device_in}
-use Rattle.i2c_spec.specs.Flat.{FlatListener, idle, flat_start, to_current, to_named, flat_after, flat_listener, granted_on, block_limit, cut_in, barred, flat_by, flat}
-use Rattle.i2c_spec.specs.Conversation.{TalkTold, AllTold, talk, talk_all, is_empty, is_good, with_read}
-use Rattle.i2c_spec.specs.History.{Asks, History, with_told, one_more, opening_history, history}
-use Rattle.bus_spec.specs.Walk.{Call, Act, Send, Settle, WalkTree, Ends}
-use Rattle.bus_spec.specs.Grammar.{first_act}
-use Rattle.bus_spec.specs.Readings.{order}
-use Rattle.bus_spec.specs.Past.{Now, begun, now, world_at}
-use Rattle.bus_spec.specs.Stepwise.{IsStepwise}
-use Rattle.bus_laws.specs.Lines.{LinesAreLocked}
-use Rattle.bus_laws.specs.Reach.{AsksForMessages, AsksWithinLimits}
-use Rattle.bus_laws.specs.Stands.{Stands}
-use Rattle.bus_laws.specs.Alike.{Same}
-use Rattle.flat_laws.specs.Left.{said_so_far, calls_behind, AreLeft, AreLeftInside, KeepsDevices, worlds_of, LeavesDevices}
+use Rattle.i2c_spec.specs.Tree.{buses, of_device}
+use Rattle.i2c_spec.specs.Targets.{Silent, opening_state}
+use Rattle.i2c_spec.specs.World.{device_in}
+use Rattle.bus_spec.specs.Past.{world_at}
+use Rattle.flat_laws.specs.Left.{AreLeft, AreLeftInside, KeepsDevices, worlds_of, LeavesDevices}
 use Rattle.bus_laws.proofs.world.TalkLaws.{talk-keeps}
 use Rattle.bus_laws.proofs.world.Feed.{length-feed}
 use Rattle.bus_laws.proofs.world.BoardFacts.{get_within, get_same_length}
-use Rattle.bus_laws.proofs.past.Laws.{past-stands}
-use Rattle.bus_laws.proofs.past.Asked.{settled-told}
-use Rattle.bus_laws.proofs.past.Whole.{goes_on_from}
 use Rattle.flat_laws.proofs.past.First.{call_count, past-stage}
 use Rattle.bus_laws.proofs.walk.MessageFacts.{length-around}
 use Rattle.flat_laws.proofs.device.Said.{IsSaid}

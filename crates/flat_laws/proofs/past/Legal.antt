@@ -1,16 +1,7 @@
 -- A stepwise past in which no settle is due keeps every rule of a legal journal, with the one on replies.
-use Rattle.std.proofs.Common.{◌≡◌, ℕ, ◌<◌, List, [], ◌∷◌, None}
-use Rattle.i2c_base.specs.declared.entry.Entry.{Entry}
-use Rattle.i2c_base.specs.Board.{BoardView}
-use Rattle.i2c_spec.specs.TreeFacts.{IsTree}
-use Rattle.i2c_spec.specs.Plain.{IsPlainBoard}
-use Rattle.i2c_spec.specs.History.{Asks}
-use Rattle.bus_spec.specs.Readings.{caller_of, Everywhere}
-use Rattle.bus_spec.specs.Past.{now}
-use Rattle.bus_spec.specs.Stepwise.{IsStepwise}
-use Rattle.bus_spec.specs.Legal.{KeepsReplies, IsLegal}
-use Rattle.bus_laws.specs.Lines.{LinesAreLocked}
-use Rattle.bus_laws.specs.Reach.{AsksForMessages}
+use Rattle.flat_laws.proofs.Cited.{◌≡◌, ℕ, ◌<◌, List, [], ◌∷◌, None, Entry, BoardView, IsTree, IsPlainBoard, Asks, caller_of, now}
+use Rattle.flat_laws.proofs.Cited.{IsStepwise, KeepsReplies, IsLegal, LinesAreLocked, AsksForMessages}
+use Rattle.bus_spec.specs.Readings.{Everywhere}
 use Rattle.bus_laws.proofs.past.Laws.{locks-kept}
 use Rattle.bus_laws.proofs.past.Asked.{reach-kept}
 use Rattle.bus_laws.proofs.past.Whole.{whole-kept}

@@ -1,30 +1,17 @@
 -- A caller that holds no lock has no walk under way, so a journal is complete where its callers are through. The induction goes over
 -- the entries.
-use Rattle.std.proofs.Common.{◌≡◌, ℕ, zero, Bool, List, [], ◌∷◌, length, Option, Some, None, refl, sym, ◌∙◌, ap, subst, inl, inr}
-use Rattle.std.proofs.lemmas.Bool.Decides.{eqb_tells}
-use Rattle.i2c_base.specs.declared.ids.LockId.{LockId}
-use Rattle.i2c_base.specs.declared.entry.End.{End}
-use Rattle.i2c_base.specs.declared.entry.Entry.{Entry}
+use Rattle.flat_laws.proofs.Cited.{◌≡◌, ℕ, zero, Bool, List, [], ◌∷◌, length, Option, Some, None, refl, sym, ◌∙◌, ap, subst, inl, inr}
+use Rattle.flat_laws.proofs.Cited.{eqb_tells, LockId, End, Entry, BoardView, IsTree, IsPlainBoard, Asks, changed_at, Act, Take, Free, Send}
+use Rattle.flat_laws.proofs.Cited.{Shift, Settle, ActOutcome, Passed, Sent, Lined, Note, WalkTree, Ends, first_act, first_note, rest_of}
+use Rattle.flat_laws.proofs.Cited.{holder, Now, current, step, now, sent_by, lined_by, IsNext, May, IsStepwise, IsComplete, InLocks, Runs}
+use Rattle.flat_laws.proofs.Cited.{LinesAreLocked, CallerStands, Stands, AsksForMessages, at_same, at_other, first_is, past-stands}
+use Rattle.flat_laws.proofs.Cited.{holder-told}
 use Rattle.i2c_base.specs.declared.entry.Entry.TheVariants as entry
-use Rattle.i2c_base.specs.Board.{BoardView}
-use Rattle.i2c_spec.specs.TreeFacts.{IsTree}
-use Rattle.i2c_spec.specs.Plain.{IsPlainBoard}
-use Rattle.i2c_spec.specs.History.{Asks, changed_at}
-use Rattle.bus_spec.specs.Walk.{Act, Take, Free, Send, Shift, Settle, ActOutcome, Passed, Sent, Lined, Note, WalkTree, Ends}
-use Rattle.bus_spec.specs.Grammar.{first_act, first_note, rest_of}
-use Rattle.bus_spec.specs.Readings.{holder}
-use Rattle.bus_spec.specs.Past.{Now, current, step, now, without, sent_by, lined_by}
-use Rattle.bus_spec.specs.Stepwise.{IsNext, May, IsStepwise}
-use Rattle.bus_spec.specs.Legal.{IsComplete}
+use Rattle.bus_spec.specs.Past.{without}
 use Rattle.bus_spec.specs.Ruled.{IsThrough}
-use Rattle.bus_laws.specs.Runs.{InLocks, LeavesShut, Runs}
-use Rattle.bus_laws.specs.Lines.{LinesAreLocked}
-use Rattle.bus_laws.specs.Stands.{CallerStands, Stands}
-use Rattle.bus_laws.specs.Reach.{AsksForMessages}
+use Rattle.bus_laws.specs.Runs.{LeavesShut}
 use Rattle.bus_laws.proofs.past.StandsFacts.{current-stands}
-use Rattle.bus_laws.proofs.past.StandsStep.{at_same, at_other}
-use Rattle.bus_laws.proofs.past.StandsEntries.{first_is, without-head}
-use Rattle.bus_laws.proofs.past.Laws.{past-stands, holder-told}
+use Rattle.bus_laws.proofs.past.StandsEntries.{without-head}
 use Rattle.flat_laws.proofs.walk.HoldsOn.{locks_behind, HoldsOn, next-holds}
 
 -- a message and a line step leave the locks

@@ -1,31 +1,16 @@
 -- The entries of each caller, in order, are its transfers' walks one after the other. The inductions go over the steps
 -- of a walk, and over the entries.
-use Rattle.std.proofs.Common.{◌≡◌, ℕ, Bool, true, false, cond, List, [], ◌∷◌, ◌++◌, Option, Some, None, refl, sym, ◌∙◌, ap, subst, ◌⊎◌, inl, inr, append_assoc, append-nil}
-use Rattle.std.proofs.lemmas.Bool.{eq-eqb, ne_eqb}
-use Rattle.std.proofs.lemmas.Bool.Decides.{eqb_tells}
-use Rattle.i2c_base.specs.declared.entry.Entry.{Entry}
+use Rattle.flat_laws.proofs.Cited.{◌≡◌, ℕ, Bool, true, false, cond, List, [], ◌∷◌, ◌++◌, Option, Some, None, refl, sym, ◌∙◌, ap, subst, ◌⊎◌}
+use Rattle.flat_laws.proofs.Cited.{inl, inr, append_assoc, append-nil, eq-eqb, ne_eqb, eqb_tells, Entry, Reply, BoardView, TransferView}
+use Rattle.flat_laws.proofs.Cited.{Asks, changed_at, Act, Take, Free, Send, Shift, Settle, ActOutcome, Passed, Sent, Lined, Note, WalkTree}
+use Rattle.flat_laws.proofs.Cited.{Ends, Look, Then, walk_for, seen, is_over, first_act, first_note, rest_of, caller_of, Now, begun}
+use Rattle.flat_laws.proofs.Cited.{current, step, now, is_due, sent_by, lined_by, with_due, moved, Tells, May, IsStepwise, outcome_of, Deed}
+use Rattle.flat_laws.proofs.Cited.{Step, deed_next, step_next, replies_in, steps_in, Leads, AreWalks, none, whole, front, AreAllWalks}
+use Rattle.flat_laws.proofs.Cited.{AsksForMessages, NoSettle, Settles, at_same, at_other, first_is, no_settle, past-due}
 use Rattle.i2c_base.specs.declared.entry.Entry.TheVariants as entry
-use Rattle.i2c_base.specs.declared.reply.Reply.{Reply}
-use Rattle.i2c_base.specs.Board.{BoardView}
-use Rattle.i2c_base.specs.Transfer.{TransferView}
-use Rattle.i2c_spec.specs.History.{Asks, changed_at}
-use Rattle.bus_spec.specs.Walk.{Act, Take, Free, Send, Shift, Settle, ActOutcome, Passed, Sent, Lined, Note, WalkTree, Ends, Look, Then}
-use Rattle.bus_spec.specs.Grammar.{walk_for, seen, is_over, first_act, first_note, rest_of}
-use Rattle.bus_spec.specs.Readings.{caller_of}
-use Rattle.bus_spec.specs.Past.{Now, begun, current, step, now, is_due, sent_by, lined_by, with_due, moved}
-use Rattle.bus_spec.specs.Tells.{Tells}
-use Rattle.bus_spec.specs.Stepwise.{TellsNext, May, IsStepwise}
-use Rattle.bus_spec.specs.Places.{outcome_of}
-use Rattle.bus_spec.specs.WalkRule.{Deed}
-use Rattle.bus_spec.specs.ByTree.{Step, deed_next, step_next, replies_in, steps_in}
-use Rattle.flat_laws.specs.Led.{Leads, AreWalks, none, whole, front, AreAllWalks}
-use Rattle.bus_laws.specs.Reach.{AsksForMessages}
-use Rattle.bus_laws.specs.Settles.{NoSettle, Settles}
-use Rattle.bus_laws.proofs.past.StandsStep.{at_same, at_other}
-use Rattle.bus_laws.proofs.past.StandsEntries.{first_is}
+use Rattle.bus_spec.specs.Stepwise.{TellsNext}
 use Rattle.bus_laws.proofs.walk.SettleLaw.{walk-settles}
 use Rattle.bus_laws.proofs.past.Asked.{settles_seen}
-use Rattle.bus_laws.proofs.past.Placed.{no_settle, past-due}
 
 -- no entry is a step of a walk that has ended
 pub tells_none : (b : BoardView) (n : Now) (e : Entry) → Tells b n Ends e → ⊥

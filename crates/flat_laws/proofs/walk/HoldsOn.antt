@@ -1,16 +1,10 @@
 -- A walk that has begun holds a lock until it ends. The induction goes over the looks in front of its next step.
-use Rattle.std.proofs.Common.{◌≡◌, ℕ, zero, suc, cond, List, [], ◌∷◌, Option, Some, None, refl, subst}
+use Rattle.flat_laws.proofs.Cited.{◌≡◌, ℕ, zero, suc, cond, List, [], ◌∷◌, Option, Some, None, refl, subst, Errno, BoardView, TransferView}
+use Rattle.flat_laws.proofs.Cited.{Hop, hops, root_of, locks_of, messages_of, refusal, Job, Call, Act, Take, Free, Send, Shift, Settle}
+use Rattle.flat_laws.proofs.Cited.{ActOutcome, Note, WalkTree, Ends, Look, Then, answer_to, locked, inner, walk_by, walk_for, plain, seen}
+use Rattle.flat_laws.proofs.Cited.{is_over, first_act, rest_of, begun}
 use Rattle.i2c_base.specs.declared.ids.LockId.TheVariants as lock
-use Rattle.i2c_base.specs.declared.errno.Errno.{Errno}
-use Rattle.i2c_base.specs.Board.{BoardView}
-use Rattle.i2c_base.specs.Transfer.{TransferView}
-use Rattle.i2c_spec.specs.Tree.{Hop, hops, root_of, locks_of}
-use Rattle.i2c_spec.specs.Messages.{messages_of}
-use Rattle.i2c_spec.specs.Flat.{refusal}
-use Rattle.bus_spec.specs.Walk.{Job, Call, Act, Take, Free, Send, Shift, Settle, ActOutcome, Note, WalkTree, Ends, Look, Then}
-use Rattle.bus_spec.specs.Slots.{Slots, answer_to}
-use Rattle.bus_spec.specs.Grammar.{locked, inner, walk_by, walk_for, plain, seen, is_over, first_act, rest_of}
-use Rattle.bus_spec.specs.Past.{begun}
+use Rattle.bus_spec.specs.Slots.{Slots}
 use Rattle.bus_laws.proofs.walk.Keeps.{GoesOver, GoesOverHop, DoerKeeps, locked-keeps, path-locks, inner-keeps}
 use Rattle.bus_laws.proofs.walk.Calls.{AnyLock}
 

@@ -1,16 +1,21 @@
 -- Each piece of the walk's grammar keeps its rule: a path to the end splits where the piece is done, and a list that keeps
 -- the rule leads through the piece. The inductions go over the messages of a job, the locks, and the hops.
-use Rattle.std.proofs.Common.{◌≡◌, ℕ, zero, suc, Bool, true, false, cond, ◌&&◌, List, [], ◌∷◌, ◌++◌, map, reverse, Option, Some, None, refl, sym, ◌∙◌, ap, subst, append_assoc, append-nil, MatchBool}
-use Rattle.std.proofs.lemmas.List.{reverse-append, map_push}
-use Rattle.i2c_base.specs.declared.ids.LockId.{LockId}
-use Rattle.i2c_base.specs.declared.errno.Errno.{Errno}
-use Rattle.i2c_base.specs.Board.{BoardView}
-use Rattle.i2c_spec.specs.Tree.{Hop, locks_of}
-use Rattle.bus_spec.specs.Walk.{Job, Select, SwitchOff, Deselect, Close, Act, Take, Free, Send, Shift, Settle, ActOutcome, Passed, JobOutcome, Good, Refused, Unsent, Failed, Note, Ask, MarkOf, KeptOf, WalkTree, Ends, Look, Then, Go, On, Last, Over, goes, job_outcome, verdict_of, decides, is_line, more_of}
-use Rattle.bus_spec.specs.Grammar.{Doer, plain, settled, over, by_go, messages, at_bus, locked, part, if_sent, if_good, kind_of, closing, left_behind, opened, chosen, crossed, behind, inner, full}
+use Rattle.flat_laws.proofs.Cited.{◌≡◌, ℕ, zero, suc, Bool, true, false, cond, ◌&&◌, List, [], ◌∷◌, ◌++◌, map, reverse, Option, Some, None}
+use Rattle.flat_laws.proofs.Cited.{refl, sym, ◌∙◌, ap, subst, append_assoc, append-nil, map_push, LockId, Errno, BoardView, Hop, locks_of}
+use Rattle.flat_laws.proofs.Cited.{Job, Select, SwitchOff, Act, Take, Free, Send, Shift, Settle, ActOutcome, Passed, Note, WalkTree, Ends}
+use Rattle.flat_laws.proofs.Cited.{Look, Then, goes, verdict_of, more_of, plain, locked, inner, deed_by, IsPath, Deed, without_marks}
+use Rattle.flat_laws.proofs.Cited.{PathStep, Saw, Did, deed_of}
+use Rattle.std.proofs.Common.{MatchBool}
+use Rattle.std.proofs.lemmas.List.{reverse-append}
+use Rattle.bus_spec.specs.Walk.{Deselect, Close, JobOutcome, Good, Refused, Unsent, Failed, Ask, MarkOf, KeptOf, Go, On, Last, Over}
+use Rattle.bus_spec.specs.Walk.{job_outcome, decides, is_line}
+use Rattle.bus_spec.specs.Grammar.{Doer, settled, over, by_go, messages, at_bus, part, if_sent, if_good, kind_of, closing, left_behind}
+use Rattle.bus_spec.specs.Grammar.{opened, chosen, crossed, behind, full}
 use Rattle.bus_spec.specs.Grammar as grammar
-use Rattle.flat_laws.specs.Paths.{note_of, deed_by, IsPath, IsDoneBy}
-use Rattle.bus_spec.specs.WalkRule.{Rule, Deed, without_marks, for_jobs, is_forward, PathStep, Saw, Did, deed_of, settle_where, IsJobEnd, next_by, next_message, NextOr, AreMessages, IsLineStep, AtBus, IsLocked, IsLeft, IsOpened, IsCrossed, IsPassed, IfGood, IsChosen, IfSent, IsClosed, IsBehindMux, IsPart, IsInner, IsFull}
+use Rattle.flat_laws.specs.Paths.{note_of, IsDoneBy}
+use Rattle.bus_spec.specs.WalkRule.{Rule, for_jobs, is_forward, settle_where, IsJobEnd, next_by, next_message, NextOr, AreMessages}
+use Rattle.bus_spec.specs.WalkRule.{IsLineStep, AtBus, IsLocked, IsLeft, IsOpened, IsCrossed, IsPassed, IfGood, IsChosen, IfSent, IsClosed}
+use Rattle.bus_spec.specs.WalkRule.{IsBehindMux, IsPart, IsInner, IsFull}
 
 pub path_append : (xs ys : List PathStep) (u v w : WalkTree) → IsPath xs u v → IsPath ys v w → IsPath (xs ++ ys) u w
 path_append [] ys u v w p q = subst (λ (x : WalkTree). IsPath ys x w) (sym p) q
@@ -120,7 +125,15 @@ splits-settled : (t : Bool) (v : Option Errno) (o : JobOutcome) → Splits (λ k
 splits-settled true v o k [] path = absurd (let f : Then (Settle v) plain (λ x. k o) ≡ Ends = path in cc)
 splits-settled true v o k (Saw ask m ∷ steps) path = absurd path
 splits-settled true v o k (Did a x ∷ steps) path =
-    record { out = o; done = Did a x ∷ []; rest = steps; all = refl; kept = (ap (λ (y : Deed). Some y ∷ []) path.0, refl); goes_on = path.1 }
+    record {
+      out = o;
+      done = Did a x ∷ [];
+      rest = steps;
+      all = refl;
+      kept = (ap (λ (y : Deed). Some y ∷ []) path.0, refl);
+      goes_on =
+          path.1;
+    }
 splits-settled false v o k steps path = record { out = o; done = []; rest = steps; all = refl; kept = (refl, refl); goes_on = path }
 
 leads-settled : (t : Bool) (v : Option Errno) (o : JobOutcome) → Leads (λ k. settled t v (k o)) (SettleRule t v o)
@@ -171,7 +184,8 @@ leads-go Over left M E A B C a b c = c
 -- a job's next message, and the rule of what follows it
 abbrev MessageThen : Job → List Job → ℕ → List PathStep → JobOutcome → Type 0
 MessageThen job whose left =
-    StepThen (for_jobs (Send job left) (job ∷ whose)) (λ o steps out. NextOr (next_message job left o) (λ next. AreMessages job whose next steps out)
+    StepThen (for_jobs (Send job left) (job ∷ whose)) (λ o steps out. NextOr (next_message job left o)
+    (λ next. AreMessages job whose next steps out)
     (IsJobEnd job whose left o steps out))
 
 to_messages : (job : Job) (whose : List Job) (left : ℕ) (steps : List PathStep) (out : JobOutcome) → MessageThen job whose left steps out
@@ -271,7 +285,8 @@ keeps-at_bus =
           leads-if (is_line job) (λ k. Then (Shift job) (note_of job whose) (over job zero (note_of job whose) k))
           (messages (more_of job) job (note_of job whose))
           (IsLineStep job whose) (AreMessages job whose (more_of job))
-          (λ steps out kept k. leads-then (Shift job) (note_of job whose) (λ o k. over job zero (note_of job whose) k o) (λ o. IsJobEnd job whose zero o)
+          (λ steps out kept k. leads-then (Shift job) (note_of job whose) (λ o k. over job zero (note_of job whose) k o)
+          (λ o. IsJobEnd job whose zero o)
           (λ o. leads-over job zero whose o) steps out
           (of_line job whose steps out kept) k)
           (leads-messages (more_of job) job whose);
@@ -321,7 +336,8 @@ module _ (on : Doer) (rule : Rule) (keeps : Keeps on rule) where
             goes_on = path.1;
           }
 
-  splits-locked : (ls : List LockId) (job : Job) (whose : List Job) → Splits (locked ls on job (note_of job whose)) (IsLocked ls rule job whose)
+  splits-locked : (ls : List LockId) (job : Job) (whose : List Job) → Splits (locked ls on job (note_of job whose))
+      (IsLocked ls rule job whose)
   splits-locked [] job whose k steps path =
       let s = keeps.splits job whose k steps path in
       record {
@@ -341,12 +357,14 @@ module _ (on : Doer) (rule : Rule) (keeps : Keeps on rule) where
         goes_on = s.goes_on;
       }
   splits-locked (l ∷ ls) job whose k [] path =
-      absurd (let f : Then (Take l) plain (λ o. locked ls on job (note_of job whose) (λ out. Then (Free l) plain (λ o2. k out))) ≡ Ends = path in cc)
+      absurd (let f : Then (Take l) plain (λ o. locked ls on job (note_of job whose) (λ out. Then (Free l) plain (λ o2. k out))) ≡ Ends =
+      path in cc)
   splits-locked (l ∷ ls) job whose k (Saw ask m ∷ steps) path = absurd path
   splits-locked (l ∷ ls) job whose k (Did a o ∷ steps) path =
       one_more l ls job whose k o a steps path.0 (splits-locked ls job whose (λ out. Then (Free l) plain (λ o2. k out)) steps path.1)
 
-  leads-locked : (ls : List LockId) (job : Job) (whose : List Job) → Leads (locked ls on job (note_of job whose)) (IsLocked ls rule job whose)
+  leads-locked : (ls : List LockId) (job : Job) (whose : List Job) → Leads (locked ls on job (note_of job whose))
+      (IsLocked ls rule job whose)
   leads-locked [] job whose steps out kept k =
       subst (λ (xs : List PathStep). IsPath xs (on job (note_of job whose) k) (k out))
       (sym (kept.all ∙ ap (λ (xs : List PathStep). xs ++ (kept.middle ++ kept.frees)) (no_acts kept.takes kept.taken)
@@ -354,7 +372,8 @@ module _ (on : Doer) (rule : Rule) (keeps : Keeps on rule) where
       (keeps.leads job whose kept.middle out kept.job_done k)
   leads-locked (l ∷ ls) job whose steps out kept k =
       let take = first_step kept.takes (without_marks (Take l)) (map (λ (i : LockId). Some (without_marks (Take i))) ls) kept.taken in
-      let free = last_step kept.frees (map (λ (i : LockId). Some (without_marks (Free i))) (reverse ls)) (without_marks (Free l)) (kept.freed ∙ freed-more l ls) in
+      let free = last_step kept.frees (map (λ (i : LockId). Some (without_marks (Free i))) (reverse ls)) (without_marks (Free l))
+      (kept.freed ∙ freed-more l ls) in
       let inside : IsLocked ls rule job whose (take.1 ++ (kept.middle ++ free.0)) out =
       record {
         takes = take.1;
@@ -380,7 +399,8 @@ module _ (on : Doer) (rule : Rule) (keeps : Keeps on rule) where
   -- THE PARTS of a job behind a mux
   splits-left : (job : Job) (whose : List Job) (stays : Bool) (h : Hop) (o : JobOutcome) (k : JobOutcome → WalkTree) (steps : List PathStep)
       → IsPath steps (left_behind stays h on k o) Ends
-      → (done : List PathStep) × (rest : List PathStep) × (steps ≡ done ++ rest) × IsLeft stays h rule (job ∷ whose) done × IsPath rest (k o) Ends
+      → (done : List PathStep) × (rest : List PathStep) × (steps ≡ done ++ rest) × IsLeft stays h rule (job ∷ whose) done
+      × IsPath rest (k o) Ends
   splits-left job whose true h o k steps path = ([], steps, refl, refl, path)
   splits-left job whose false h o k steps path =
       let t = keeps.splits (SwitchOff (Deselect h)) (job ∷ whose) (λ x. k o) steps path in
@@ -472,7 +492,8 @@ module _ (on : Doer) (rule : Rule) (keeps : Keeps on rule) where
   leads-chosen : (h : Hop) (job : Job) (whose : List Job) → Leads (chosen h on job (note_of job whose)) (IsChosen h rule job whose)
   leads-chosen h job whose steps out kept k =
       subst (λ (xs : List PathStep). IsPath xs (chosen h on job (note_of job whose) k) (k out)) (sym kept.all)
-      (path_append kept.selected kept.rest (chosen h on job (note_of job whose) k) (if_good kept.came (opened h on job (note_of job whose) k) k) (k out)
+      (path_append kept.selected kept.rest (chosen h on job (note_of job whose) k) (if_good kept.came
+      (opened h on job (note_of job whose) k) k) (k out)
       (keeps.leads (Select h) (job ∷ whose) kept.selected kept.came kept.select_done
       (λ o. if_good o (opened h on job (note_of job whose) k) k))
       (leads-if_good kept.came (opened h on job (note_of job whose)) (IsOpened h rule job whose)
@@ -558,7 +579,8 @@ module _ (on : Doer) (rule : Rule) (keeps : Keeps on rule) where
         (subst (λ (o : JobOutcome). IfSent o (IsPassed h rule job whose kept.rest out) kept.rest out) kept.close_done.1 kept.goes_on)
         k)
     leads-closing (Some m) steps out kept k =
-        subst (λ (xs : List PathStep). IsPath xs (closing b h on (note_of job whose) k (passing h job whose k) (Some m)) (k out)) (sym kept.all)
+        subst (λ (xs : List PathStep). IsPath xs (closing b h on (note_of job whose) k (passing h job whose k) (Some m)) (k out))
+        (sym kept.all)
         (path_append kept.closed kept.rest (closing b h on (note_of job whose) k (passing h job whose k) (Some m))
         (if_sent kept.came (passing h job whose k) k) (k out)
         (keeps.leads (SwitchOff (Close h.on m (kind_of b m))) (job ∷ whose) kept.closed kept.came kept.close_done

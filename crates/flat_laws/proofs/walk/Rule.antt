@@ -1,29 +1,15 @@
 -- The paths of a transfer's walk are the lists of the walk rule, whole and as fronts; and what leads through a walk is told by
 -- such a list. The inductions go over the steps.
-use Rattle.std.proofs.Common.{◌≡◌, ℕ, List, [], ◌∷◌, ◌++◌, map, Option, Some, None, refl, sym, ◌∙◌, ap, subst, append-nil}
-use Rattle.i2c_base.specs.declared.errno.Errno.{Errno}
-use Rattle.i2c_base.specs.declared.entry.Entry.{Entry}
+use Rattle.flat_laws.proofs.Cited.{◌≡◌, ℕ, List, [], ◌∷◌, ◌++◌, map, Option, Some, None, refl, sym, ◌∙◌, ap, subst, append-nil, Errno}
+use Rattle.flat_laws.proofs.Cited.{Entry, Reply, BoardView, TransferView, hops, root_of, messages_of, refusal, Asks, Call, Act, Settle}
+use Rattle.flat_laws.proofs.Cited.{ActOutcome, Note, WalkTree, Ends, Look, Then, answer_to, plain, walk_by, walk_for, seen, first_act}
+use Rattle.flat_laws.proofs.Cited.{rest_of, Now, now, is_due, outcome_of, Tells, IsStepwise, Step, deed_next, TellsAct, AreTold}
+use Rattle.flat_laws.proofs.Cited.{AreTransfers, no_more, under_way, steps_in, AsksForMessages, Deed, without_marks, PathStep, Saw, Did}
+use Rattle.flat_laws.proofs.Cited.{deed_of, deed_by, IsPath, Leads, AreWalks, none, whole, front, AreAllWalks}
 use Rattle.i2c_base.specs.declared.entry.Entry.TheVariants as entry
-use Rattle.i2c_base.specs.declared.reply.Reply.{Reply}
-use Rattle.i2c_base.specs.Board.{BoardView}
-use Rattle.i2c_base.specs.Transfer.{TransferView}
-use Rattle.i2c_spec.specs.Tree.{hops, root_of}
-use Rattle.i2c_spec.specs.Messages.{messages_of}
-use Rattle.i2c_spec.specs.Flat.{refusal}
-use Rattle.i2c_spec.specs.History.{Asks}
-use Rattle.bus_spec.specs.Walk.{Call, Act, Settle, ActOutcome, Note, WalkTree, Ends, Look, Then}
-use Rattle.bus_spec.specs.Slots.{answer_to}
-use Rattle.bus_spec.specs.Grammar.{plain, walk_by, walk_for, seen, first_act, rest_of}
-use Rattle.bus_spec.specs.Past.{Now, now, is_due}
-use Rattle.bus_spec.specs.Places.{outcome_of}
-use Rattle.bus_spec.specs.Tells.{Tells}
-use Rattle.bus_spec.specs.Stepwise.{IsStepwise}
-use Rattle.bus_spec.specs.ByTree.{Step, deed_next, TellsAct, AreTold, AreTransfers, no_more, one_more, under_way, steps_in, KeepsWalks}
-use Rattle.bus_laws.specs.Reach.{AsksForMessages}
-use Rattle.bus_spec.specs.WalkRule.{Deed, without_marks, PathStep, Saw, Did, deed_of, IsWalkBy, IsWalk, first_done}
+use Rattle.bus_spec.specs.ByTree.{one_more, KeepsWalks}
+use Rattle.bus_spec.specs.WalkRule.{IsWalkBy, IsWalk, first_done}
 use Rattle.flat_laws.proofs.past.Walks.{tells_none, walks-kept}
-use Rattle.flat_laws.specs.Paths.{deed_by, IsPath}
-use Rattle.flat_laws.specs.Led.{Leads, AreWalks, none, whole, front, AreAllWalks}
 use Rattle.flat_laws.proofs.walk.Paths.{path_split, path_append, some_path, first_step, no_acts, keeps-full}
 
 -- THE WALK of a transfer
@@ -113,8 +99,16 @@ first_told b s steps left (Look ask next) tells does more =
     let m : Option ℕ = answer_to s.before.slot ask in
     let t = first_told b s steps left (next m) tells does more in
     (Saw ask m ∷ t.0, (refl, t.1), (refl, t.2))
-first_told b s steps left (Then act note next) tells does more =
-    (Did (deed_by act note) (outcome_of s.entry) ∷ more.0, (refl, more.1), (tells_act b s.before act note next s.entry tells, refl, does, more.2))
+first_told b s steps left (Then act note next) tells does more = (
+  Did (deed_by act note) (outcome_of s.entry) ∷ more.0,
+  (refl, more.1),
+  (
+    tells_act b s.before act note next s.entry tells,
+    refl,
+    does,
+    more.2,
+  ),
+)
 
 leads-told : (b : BoardView) (steps : List Step) (w left : WalkTree) → Leads b w steps left → Told b steps w left
 leads-told b [] w left leads = ([], sym leads, refl)
@@ -159,7 +153,8 @@ module _ (b : BoardView) (asks : List Reply → Option TransferView) where
       (transfers-walks (xs ++ r ∷ []) rest more) parts
   transfers-walks rs steps (under_way xs t done rest mine asked keeps told without_marks) =
       let way = front-path b t done rest keeps in
-      front xs t mine way.0 asked (told-leads b done mine (walk_for b t) way.0 way.1 told) (ap is_due (first_next rest way.0 way.2) ∙ without_marks)
+      front xs t mine way.0 asked (told-leads b done mine (walk_for b t) way.0 way.1 told) (ap is_due (first_next rest way.0 way.2)
+      ∙ without_marks)
 
 -- OF A JOURNAL: each caller's
 pub walks-led : (b : BoardView) (asks : Asks) (past : List Entry) → KeepsWalks b asks past → AreAllWalks b asks past

@@ -1,27 +1,18 @@
 -- A journal that keeps the rules where they are told by the walk tree keeps them where they are told without it. The inductions go
 -- over the steps and the entries.
-use Rattle.std.proofs.Common.{◌≡◌, ℕ, Bool, cond, List, [], ◌∷◌, ◌++◌, map, reverse, Option, refl, sym, ◌∙◌, ap, subst, inl, inr}
-use Rattle.std.proofs.lemmas.Bool.{eq-eqb, ne_eqb}
-use Rattle.std.proofs.lemmas.Bool.Decides.{eqb_tells}
-use Rattle.std.proofs.lemmas.List.{map-append, map_push}
-use Rattle.std.proofs.lemmas.Option.{same_Some}
-use Rattle.i2c_base.specs.declared.entry.Entry.{Entry}
+use Rattle.flat_laws.proofs.Cited.{◌≡◌, ℕ, Bool, cond, List, [], ◌∷◌, ◌++◌, map, reverse, Option, refl, sym, ◌∙◌, ap, subst, inl, inr}
+use Rattle.flat_laws.proofs.Cited.{eq-eqb, ne_eqb, eqb_tells, map_push, same_Some, Entry, End, Reply, BoardView, TransferView, root_of}
+use Rattle.flat_laws.proofs.Cited.{Asks, Act, Take, Free, Send, Shift, Settle, WalkTree, Ends, Look, Then, first_act, first_note, caller_of}
+use Rattle.flat_laws.proofs.Cited.{Now, current, step, now, sent_by, lined_by, Deed, PathStep, Saw, Did, Step, deed_next, step_next}
+use Rattle.flat_laws.proofs.Cited.{replies_in, TellsAct, AreTold, AreTransfers, no_more, under_way, steps_in, IsLegal}
+use Rattle.std.proofs.lemmas.List.{map-append}
 use Rattle.i2c_base.specs.declared.entry.Entry.TheVariants as entry
-use Rattle.i2c_base.specs.declared.entry.End.{End}
-use Rattle.i2c_base.specs.declared.reply.Reply.{Reply}
-use Rattle.i2c_base.specs.Board.{BoardView}
-use Rattle.i2c_base.specs.Transfer.{TransferView}
-use Rattle.i2c_spec.specs.Tree.{root_of}
-use Rattle.i2c_spec.specs.History.{Asks}
-use Rattle.bus_spec.specs.Walk.{Act, Take, Free, Send, Shift, Settle, WalkTree, Ends, Look, Then}
-use Rattle.bus_spec.specs.Grammar.{first_act, first_note}
-use Rattle.bus_spec.specs.Readings.{OfMessage, caller_of}
-use Rattle.bus_spec.specs.Past.{Now, current, step, now, calls_of, sent_by, lined_by}
+use Rattle.bus_spec.specs.Readings.{OfMessage}
+use Rattle.bus_spec.specs.Past.{calls_of}
 use Rattle.bus_spec.specs.Places.{transfer_at}
-use Rattle.bus_spec.specs.WalkRule.{Deed, PathStep, Saw, Did}
-use Rattle.bus_spec.specs.ByTree.{Step, deed_next, step_next, replies_in, TellsAct, AreTold, AreTransfers, no_more, one_more, under_way, steps_in}
+use Rattle.bus_spec.specs.ByTree.{one_more}
 use Rattle.bus_spec.specs.Stand.{Stand, stand_behind, stand, message_done, line_done, calls_by}
-use Rattle.bus_spec.specs.Legal.{IsReached, is_forced, Reaches, IsLegal}
+use Rattle.bus_spec.specs.Legal.{IsReached, is_forced, Reaches}
 use Rattle.bus_spec.specs.Ruled.{SaysAct, Doing, doings_in, replies_said, AreSaid, AreDone, nothing, transfer, begun, ReachesBy, IsRuled}
 
 abbrev pub stand_of : Now → Stand

@@ -1,6 +1,7 @@
 -- The table of an EEPROM is fair: a stop with no byte that waits changes nothing. And what it holds stays bytes. The
 -- inductions go over the places of a page.
-use Rattle.std.proofs.Common.{◌≡◌, ℕ, zero, suc, ◌-◌, ◌<◌, ◌≤◌, Bool, true, false, inl, inr, List, [], ◌∷◌, ◌++◌, take, drop, replicate, Option, Some, None, is_some, if◌then◌else◌, nat_lt, refl, ◌∙◌, ap, arith}
+use Rattle.std.proofs.Common.{◌≡◌, ℕ, zero, suc, ◌-◌, ◌<◌, ◌≤◌, Bool, true, false, inl, inr, List, [], ◌∷◌, ◌++◌, take, drop, replicate}
+use Rattle.std.proofs.Common.{Option, Some, None, is_some, if◌then◌else◌, nat_lt, refl, ◌∙◌, ap, arith}
 use Rattle.std.specs.Prelude.{IfSome, unwrap_or}
 use Rattle.std.specs.List.{AllByRecursion, list_any}
 use Rattle.std.proofs.lemmas.List.{take-append-drop}
@@ -10,7 +11,10 @@ use Rattle.i2c_base.specs.Bytes.{IsByte}
 use Rattle.i2c_base.specs.declared.event.Event.{Event}
 use Rattle.i2c_base.specs.declared.event.Event.TheVariants as event
 use Rattle.i2c_base.specs.declared.event.Answer.TheVariants as answer
-use Rattle.i2c_spec.specs.Targets.EepromDevice.{EepromView, EepromPhase, Idle, Address, Data, Read, IsEepromOfBytes, clear_to, none_waiting, in_page, is_wide, page_start, page_of_eeprom, pointed, size_of_eeprom, taken_in, waits, written_at, eeprom_after, eeprom_begun, eeprom_get, eeprom_put, eeprom_sends, eeprom_stop, eeprom_put_answer, eeprom_opening, eeprom_table, some_waiting, with_waiting}
+use Rattle.i2c_spec.specs.Targets.EepromDevice.{EepromView, EepromPhase, Idle, Address, Data, Read, IsEepromOfBytes, clear_to, none_waiting}
+use Rattle.i2c_spec.specs.Targets.EepromDevice.{in_page, is_wide, page_start, page_of_eeprom, pointed, size_of_eeprom, taken_in, waits}
+use Rattle.i2c_spec.specs.Targets.EepromDevice.{written_at, eeprom_after, eeprom_begun, eeprom_get, eeprom_put, eeprom_sends, eeprom_stop}
+use Rattle.i2c_spec.specs.Targets.EepromDevice.{eeprom_put_answer, eeprom_opening, eeprom_table, some_waiting, with_waiting}
 use Rattle.i2c_spec.specs.Targets.{IsAckOrNack, IsByteEvent, IsFairTable, IsQuiet, KeepsBytes}
 use Rattle.i2c_spec.proofs.ByteLemmas.{either, set_all, all_of, get_byte, take_bytes, drop_bytes, append_bytes, RunsHoldBytes, runs_bytes}
 

@@ -3,7 +3,9 @@ use Rattle.std.proofs.Common.{ℕ, ◌*◌, ◌/◌, ◌%◌, ◌==◌, ◌<◌,
 use Rattle.i2c_base.specs.Bytes.{IsByte, IsWord}
 use Rattle.i2c_base.specs.declared.event.Event.{Event}
 use Rattle.i2c_base.specs.declared.event.Event.TheVariants as event
-use Rattle.i2c_spec.specs.Targets.Lm75Device.{Lm75View, Lm75Phase, Idle, Pointer, Data, Read, IsLm75OfBytes, byte_of_word, lm75_after, lm75_get, lm75_put, lm75_put_answer, lm75_sends, lm75_opening, lm75_table, register_sends, register_written, with_high, with_low, word_written}
+use Rattle.i2c_spec.specs.Targets.Lm75Device.{Lm75View, Lm75Phase, Idle, Pointer, Data, Read, IsLm75OfBytes, byte_of_word, lm75_after}
+use Rattle.i2c_spec.specs.Targets.Lm75Device.{lm75_get, lm75_put, lm75_put_answer, lm75_sends, lm75_opening, lm75_table, register_sends}
+use Rattle.i2c_spec.specs.Targets.Lm75Device.{register_written, with_high, with_low, word_written}
 use Rattle.i2c_spec.specs.Targets.{IsAckOrNack, IsByteEvent, IsFairTable, KeepsBytes}
 use Rattle.i2c_spec.proofs.ByteLemmas.{either}
 

@@ -6,7 +6,8 @@ use Rattle.i2c_base.specs.Bytes.{IsByte}
 use Rattle.i2c_base.specs.declared.event.Event.{Event}
 use Rattle.i2c_base.specs.declared.event.Event.TheVariants as event
 use Rattle.i2c_base.specs.declared.event.Answer.TheVariants as answer
-use Rattle.i2c_spec.specs.Targets.RegsDevice.{RegsView, RegsPhase, Idle, Pointer, Data, Read, IsRegsOfBytes, is_too_long, regs_after, regs_sends, regs_put, regs_put_answer, regs_get, regs_opening, regs_table}
+use Rattle.i2c_spec.specs.Targets.RegsDevice.{RegsView, RegsPhase, Idle, Pointer, Data, Read, IsRegsOfBytes, is_too_long, regs_after}
+use Rattle.i2c_spec.specs.Targets.RegsDevice.{regs_sends, regs_put, regs_put_answer, regs_get, regs_opening, regs_table}
 use Rattle.i2c_spec.specs.Targets.{IsAckOrNack, IsByteEvent, IsFairTable, IsStartAnswer, KeepsBytes}
 use Rattle.i2c_spec.proofs.ByteLemmas.{set_all, all_of, get_byte, RunsHoldBytes, runs_bytes}
 

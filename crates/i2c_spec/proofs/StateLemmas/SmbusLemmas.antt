@@ -1,6 +1,7 @@
 -- The table of the SMBus device is fair: at a stop nothing is held any more. And what it holds stays bytes. The induction
 -- goes over the data of a write.
-use Rattle.std.proofs.Common.{ℕ, ◌+◌, ◌%◌, ◌==◌, ◌<◌, ◌≤◌, nat_lt, Bool, true, false, if◌then◌else◌, List, [], ◌∷◌, ◌++◌, replicate, set, inl, inr, refl, arith}
+use Rattle.std.proofs.Common.{ℕ, ◌+◌, ◌%◌, ◌==◌, ◌<◌, ◌≤◌, nat_lt, Bool, true, false, if◌then◌else◌, List, [], ◌∷◌, ◌++◌, replicate, set}
+use Rattle.std.proofs.Common.{inl, inr, refl, arith}
 use Rattle.std.specs.Prelude.{bit_xor}
 use Rattle.std.specs.List.{AllByRecursion}
 use Rattle.std.proofs.lemmas.Nat.{xor_of_8}
@@ -9,7 +10,10 @@ use Rattle.i2c_base.specs.Bytes.{IsByte}
 use Rattle.i2c_base.specs.declared.event.Event.{Event}
 use Rattle.i2c_base.specs.declared.event.Event.TheVariants as event
 use Rattle.i2c_base.specs.declared.event.Answer.TheVariants as answer
-use Rattle.i2c_spec.specs.Targets.SmbusDevice.{SmbusView, SmbusPhase, Idle, Command, Data, Checked, Read, IsSmbusOfBytes, address_byte, code_so_far, data_byte, dropped, held_written, is_whole, memory_left, read_length, smbus_after, smbus_get, smbus_put, smbus_put_answer, smbus_sends, smbus_opening, smbus_table, takes_effect}
+use Rattle.i2c_spec.specs.Targets.SmbusDevice.{SmbusView, SmbusPhase, Idle, Command, Data, Checked, Read, IsSmbusOfBytes, address_byte}
+use Rattle.i2c_spec.specs.Targets.SmbusDevice.{code_so_far, data_byte, dropped, held_written, is_whole, memory_left, read_length}
+use Rattle.i2c_spec.specs.Targets.SmbusDevice.{smbus_after, smbus_get, smbus_put, smbus_put_answer, smbus_sends, smbus_opening, smbus_table}
+use Rattle.i2c_spec.specs.Targets.SmbusDevice.{takes_effect}
 use Rattle.i2c_spec.specs.Targets.{IsAckOrNack, IsByteEvent, IsFairTable, KeepsBytes}
 use Rattle.i2c_spec.proofs.ByteLemmas.{either, set_all, all_of, get_byte, append_bytes, RunsHoldBytes, runs_bytes}
 use Rattle.smb_pec.specs.LongDivision.{pec_with}

@@ -150,7 +150,7 @@ IsAtrRefusal (status.Schedule word) = ⊤
 IsAtrRefusal (status.Cost cost) = MOST_COST < cost
 IsAtrRefusal _ = ⊥
 
--- a script after a map's translators, as a caller
+-- a script behind a map's translators, as a caller
 abbrev pub behind_of : MapView → CallerView → AtrCallerView
 behind_of m s = record { script = s; translators = m.translators }
 

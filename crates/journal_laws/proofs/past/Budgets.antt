@@ -1,48 +1,27 @@
 -- One step of a walk pays for itself: its entry, the bytes of it and the calls that it makes. No induction but over the
 -- messages of a transfer.
-use Rattle.std.proofs.Common.{◌≡◌, ℕ, zero, suc, ◌+◌, ◌*◌, ◌-◌, ◌<◌, ◌≤◌, Bool, true, false, cond, List, [], ◌∷◌, ◌++◌, length, Option, Some, refl, sym, ◌∙◌, ap, subst, ◌⊎◌, inl, inr, arith}
-use Rattle.std.specs.Prelude.{take, drop}
+use Rattle.journal_laws.proofs.Cited.{◌≡◌, ℕ, zero, suc, ◌+◌, ◌*◌, ◌-◌, ◌<◌, ◌≤◌, Bool, true, false, cond, List, [], ◌∷◌, ◌++◌, length}
+use Rattle.journal_laws.proofs.Cited.{Option, Some, refl, sym, ◌∙◌, ap, subst, ◌⊎◌, inl, inr, arith, take, Node, End, Purpose, Entry, Reply}
+use Rattle.journal_laws.proofs.Cited.{Msg, BoardView, TransferView, is_read, root_of, IsTree, MeetsRules, MessageView, world_listener}
+use Rattle.journal_laws.proofs.Cited.{block_limit, cost_of, Asks, Job, Call, Select, SwitchOff, Act, ActOutcome, Take, Free, Send, Shift}
+use Rattle.journal_laws.proofs.Cited.{Settle, Passed, Sent, Lined, WalkTree, job_bus, message_of, is_last, nth_message, walk_for, seen}
+use Rattle.journal_laws.proofs.Cited.{first_act, first_note, rest_of, caller_of, Now, current, now, step, talk_of, cut_of, got_after}
+use Rattle.journal_laws.proofs.Cited.{sent_by, lined_by, May, IsNext, IsStepwise, AsksForMessages, IsCall, Settles, CallsOf, IsAsked, ahead}
+use Rattle.journal_laws.proofs.Cited.{bytes_in, calls_for, walk-settles, settles-taken, settles-freed, settles-sent, settles-shifted}
+use Rattle.journal_laws.proofs.Cited.{settles-settled, at_same, first_is, settles_seen, current-asked, past-asked, is_block_limit}
+use Rattle.std.specs.Prelude.{drop}
 use Rattle.std.proofs.lemmas.List.{length-take}
 use Rattle.std.proofs.Math.Nat.{min-le_left}
-use Rattle.i2c_base.specs.declared.ids.Node.{Node}
-use Rattle.i2c_base.specs.declared.entry.End.{End}
-use Rattle.i2c_base.specs.declared.entry.Purpose.{Purpose}
-use Rattle.i2c_base.specs.declared.entry.Entry.{Entry}
 use Rattle.i2c_base.specs.declared.entry.Entry.TheVariants as entry
-use Rattle.i2c_base.specs.declared.reply.Reply.{Reply}
-use Rattle.i2c_base.specs.declared.transfer.Msg.{Msg}
-use Rattle.i2c_base.specs.Board.{BoardView}
-use Rattle.i2c_base.specs.Transfer.{TransferView, is_read, written_of}
-use Rattle.i2c_spec.specs.Tree.{root_of}
-use Rattle.i2c_spec.specs.TreeFacts.{IsTree}
-use Rattle.i2c_spec.specs.Rules.{MeetsRules}
-use Rattle.i2c_spec.specs.Messages.{MessageView, messages_from}
-use Rattle.i2c_spec.specs.Conversation.{world_listener}
-use Rattle.i2c_spec.specs.Flat.{block_limit}
-use Rattle.i2c_spec.specs.Cost.{cost_of}
-use Rattle.i2c_spec.specs.History.{Asks}
-use Rattle.bus_spec.specs.Walk.{Job, Call, Select, SwitchOff, Act, ActOutcome, Take, Free, Send, Shift, Settle, Passed, Sent, Lined, WalkTree, job_bus, message_of, is_last, nth_message}
-use Rattle.bus_spec.specs.Grammar.{walk_for, seen, first_act, first_note, rest_of}
-use Rattle.bus_spec.specs.Readings.{caller_of}
-use Rattle.bus_spec.specs.Past.{Now, current, now, step, talk_of, cut_of, got_after, sent_by, lined_by}
-use Rattle.bus_spec.specs.Stepwise.{May, IsNext, IsStepwise}
-use Rattle.bus_laws.specs.Reach.{AsksForMessages}
-use Rattle.bus_laws.specs.Runs.{IsCall}
-use Rattle.bus_laws.specs.Settles.{IsBefore, Settles}
-use Rattle.bus_laws.specs.Calls.{CallsOf, IsAsked}
+use Rattle.i2c_base.specs.Transfer.{written_of}
+use Rattle.i2c_spec.specs.Messages.{messages_from}
+use Rattle.bus_laws.specs.Settles.{IsBefore}
 use Rattle.bus_laws.specs.Costs.{weight_at, IsWithin}
-use Rattle.bus_laws.specs.Others.{ahead}
-use Rattle.journal_laws.specs.Spent.{bytes_in, calls_for}
 use Rattle.bus_laws.proofs.world.TalkSizes.{talk-sized}
 use Rattle.bus_laws.proofs.walk.CostLaw.{walk-within}
-use Rattle.bus_laws.proofs.walk.SettleLaw.{walk-settles}
-use Rattle.bus_laws.proofs.walk.Next.{within-next, settles-taken, settles-freed, settles-sent, settles-shifted, settles-settled}
-use Rattle.bus_laws.proofs.past.StandsStep.{at_same}
-use Rattle.bus_laws.proofs.past.StandsEntries.{first_is}
-use Rattle.bus_laws.proofs.past.Asked.{settles_seen, current-asked, past-asked}
+use Rattle.bus_laws.proofs.walk.Next.{within-next}
 use Rattle.i2c_base.specs.Need.{bytes_given}
 use Rattle.i2c_spec.proofs.CostLemmas.{cost_some}
-use Rattle.i2c_spec.proofs.BlockLemmas.{is_block_limit}
 use Rattle.bus_laws.proofs.past.Bytes.{got-grows, given-few}
 
 -- the entry that settles is still to come
@@ -212,7 +191,8 @@ module _ (b : BoardView) (asks : Asks) (some : AsksForMessages asks) (callers : 
       let left : ℕ = may.2.1 in
       let m : MessageView = message_of b job left in
       let h = within-next b n.slot w budget.left budget.within (Send job left) may.2.2 in
-      let size = talk-sized world_listener (cut_of en) (block_limit b) (omega (arith, (is_block_limit b).some)) (n.worlds (root_of b (job_bus job))) m
+      let size = talk-sized world_listener (cut_of en) (block_limit b) (omega (arith, (is_block_limit b).some))
+      (n.worlds (root_of b (job_bus job))) m
       (short_sent c job left may.2.2) (is_last job left) in
       let made : calls_for b n (first_act (current b asks n c)) e ≡ length (talk_of b n job left en).calls = ap
       (λ (o : Option Act). calls_for b n o e) may.2.2 in

@@ -1,16 +1,7 @@
 -- A past that keeps the rules is stepwise, and complete where its callers are through. No induction.
-use Rattle.std.proofs.Common.{ℕ, List}
-use Rattle.i2c_base.specs.declared.entry.Entry.{Entry}
-use Rattle.i2c_base.specs.Board.{BoardView}
-use Rattle.i2c_spec.specs.TreeFacts.{IsTree}
-use Rattle.i2c_spec.specs.Plain.{IsPlainBoard}
-use Rattle.i2c_spec.specs.History.{Asks}
-use Rattle.bus_spec.specs.Stepwise.{IsStepwise}
-use Rattle.bus_spec.specs.Legal.{IsLegal, IsComplete}
-use Rattle.bus_spec.specs.Ruled.{IsRuled, IsThrough}
-use Rattle.bus_laws.specs.Lines.{LinesAreLocked}
-use Rattle.bus_laws.specs.Reach.{AsksForMessages, AsksWithinLimits}
-use Rattle.flat_laws.proofs.past.Through.{complete-through}
+use Rattle.journal_laws.proofs.Cited.{ℕ, List, Entry, BoardView, IsTree, IsPlainBoard, Asks, IsStepwise, IsLegal, IsComplete, IsRuled}
+use Rattle.journal_laws.proofs.Cited.{LinesAreLocked, AsksForMessages, AsksWithinLimits, complete-through}
+use Rattle.bus_spec.specs.Ruled.{IsThrough}
 use Rattle.journal_laws.proofs.past.LegalSteps.{legal-steps}
 use Rattle.journal_laws.proofs.past.RuledLegal.{legal-of}
 

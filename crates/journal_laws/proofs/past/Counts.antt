@@ -1,34 +1,15 @@
 -- The failed entries of a root are as many as the calls of its port that failed. The induction goes over the entries.
-use Rattle.std.proofs.Common.{◌≡◌, ℕ, ◌+◌, Bool, true, false, cond, ◌&&◌, eqb, List, [], ◌∷◌, ◌++◌, reverse, Option, refl, sym, ◌∙◌, ap, subst, inl, inr, arith}
-use Rattle.std.proofs.lemmas.List.{reverse-append}
-use Rattle.std.proofs.lemmas.Bool.{eq-eqb, ne_eqb}
-use Rattle.std.proofs.lemmas.Bool.Decides.{eqb_tells}
-use Rattle.i2c_base.specs.declared.port.PortCall.{PortCall}
+use Rattle.journal_laws.proofs.Cited.{◌≡◌, ℕ, ◌+◌, Bool, true, false, cond, ◌&&◌, eqb, List, [], ◌∷◌, ◌++◌, reverse, Option, refl, sym, ◌∙◌}
+use Rattle.journal_laws.proofs.Cited.{ap, subst, inl, inr, arith, reverse-append, eq-eqb, ne_eqb, eqb_tells, PortCall, End, Entry}
+use Rattle.journal_laws.proofs.Cited.{BoardView, root_of, home_of_mux, IsTree, IsPlainBoard, MessageView, World, world_listener, talk}
+use Rattle.journal_laws.proofs.Cited.{block_limit, Asks, changed_at, Act, Job, job_bus, message_of, is_last, first_note, Now, now, current}
+use Rattle.journal_laws.proofs.Cited.{calls_of, talk_of, sent_by, lined_by, line_call, cut_of, is_cut, IsStepwise, LinesAreLocked}
+use Rattle.journal_laws.proofs.Cited.{AsksForMessages, IsOwnEnd, count_if, faults_in, failed_on}
 use Rattle.i2c_base.specs.declared.port.PortCall.TheVariants as call
-use Rattle.i2c_base.specs.declared.entry.End.{End}
 use Rattle.i2c_base.specs.declared.entry.End.TheVariants as end
-use Rattle.i2c_base.specs.declared.entry.Entry.{Entry}
 use Rattle.i2c_base.specs.declared.entry.Entry.TheVariants as entry
-use Rattle.i2c_base.specs.Board.{BoardView}
-use Rattle.i2c_spec.specs.Tree.{root_of, home_of_mux}
-use Rattle.i2c_spec.specs.TreeFacts.{IsTree}
-use Rattle.i2c_spec.specs.Plain.{IsPlainBoard}
-use Rattle.i2c_spec.specs.Messages.{MessageView}
-use Rattle.i2c_spec.specs.World.{World}
-use Rattle.i2c_spec.specs.Conversation.{world_listener, talk}
-use Rattle.i2c_spec.specs.Flat.{block_limit}
-use Rattle.i2c_spec.specs.History.{Asks, changed_at}
-use Rattle.bus_spec.specs.Walk.{Act, Job, job_bus, message_of, is_last}
-use Rattle.bus_spec.specs.Grammar.{first_note}
-use Rattle.bus_spec.specs.Past.{Now, now, current, calls_of, talk_of, sent_by, lined_by, line_call, cut_of}
-use Rattle.bus_spec.specs.Places.{is_cut}
-use Rattle.bus_spec.specs.Stepwise.{IsStepwise}
-use Rattle.bus_laws.specs.Lines.{LinesAreLocked}
-use Rattle.bus_laws.specs.Reach.{AsksForMessages}
-use Rattle.bus_laws.proofs.world.TalkLaws.{IsMade, IsOwnEnd, talk-ends}
+use Rattle.bus_laws.proofs.world.TalkLaws.{IsMade, talk-ends}
 use Rattle.bus_laws.proofs.past.Whole.{line_root}
-use Rattle.bus_spec.specs.Faults.{count_if, faults_in}
-use Rattle.journal_laws.specs.Counts.{failed_on}
 
 faults-append : (xs ys : List PortCall) → faults_in (xs ++ ys) ≡ faults_in xs + faults_in ys
 faults-append [] ys = omega arith

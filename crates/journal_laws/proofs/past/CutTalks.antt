@@ -1,17 +1,13 @@
 -- A message of which a call fails is the front of the same message with no call that fails. The inductions go over the
 -- bytes of a write, and over the bytes that are left to read.
-use Rattle.std.proofs.Common.{◌≡◌, ℕ, zero, suc, ◌+◌, ◌-◌, Bool, true, false, cond, ◌||◌, List, [], ◌∷◌, ◌++◌, length, Option, Some, None, eqb, ltb, refl, sym, ◌∙◌, ap, ◌⊎◌, inl, inr, append_assoc}
-use Rattle.std.specs.List.{AllByRecursion}
-use Rattle.i2c_base.specs.declared.event.Answer.{Answer}
+use Rattle.journal_laws.proofs.Cited.{◌≡◌, ℕ, zero, suc, ◌+◌, ◌-◌, Bool, true, false, cond, ◌||◌, List, [], ◌∷◌, ◌++◌, length, Option, Some}
+use Rattle.journal_laws.proofs.Cited.{None, eqb, refl, sym, ◌∙◌, ap, ◌⊎◌, inl, inr, append_assoc, AllByRecursion, Answer, PortCall, End}
+use Rattle.journal_laws.proofs.Cited.{MessageView, Listener, Said, TalkTold, is_it, silence, say, with_byte, told, call_then, ended, puts}
+use Rattle.journal_laws.proofs.Cited.{gets, gets_counted, by_answer, talk, IsOwnEnd, is_it-some}
+use Rattle.std.proofs.Common.{ltb}
 use Rattle.i2c_base.specs.declared.event.Answer.TheVariants as answer
-use Rattle.i2c_base.specs.declared.port.PortCall.{PortCall}
 use Rattle.i2c_base.specs.declared.port.PortCall.TheVariants as call
-use Rattle.i2c_base.specs.declared.entry.End.{End}
 use Rattle.i2c_base.specs.declared.entry.End.TheVariants as end
-use Rattle.i2c_spec.specs.Messages.{MessageView}
-use Rattle.i2c_spec.specs.Conversation.{Listener, Said, TalkTold, is_it, silence, say, with_byte, told, call_then, ended, puts, gets, gets_counted, by_answer, talk}
-use Rattle.bus_laws.proofs.world.TalkLaws.{IsOwnEnd}
-use Rattle.i2c_spec.proofs.MessageLemmas.{is_it-some}
 
 -- a call that didn't fail
 abbrev pub Went : PortCall → Type 0

@@ -1,55 +1,34 @@
 -- A settle tells a cut exactly where a step on the way of its transfer failed by the port, and says so in its reply. The
 -- induction goes over the entries.
-use Rattle.std.proofs.Common.{◌≡◌, ℕ, zero, suc, nat_lt, Bool, true, false, not, ◌&&◌, ◌||◌, cond, eqb, List, [], ◌∷◌, Option, Some, None, refl, sym, ◌∙◌, ap, subst, ◌⊎◌, inl, inr}
+use Rattle.journal_laws.proofs.Cited.{◌≡◌, ℕ, zero, suc, nat_lt, Bool, true, false, not, ◌&&◌, ◌||◌, cond, eqb, List, [], ◌∷◌, Option, Some}
+use Rattle.journal_laws.proofs.Cited.{None, refl, sym, ◌∙◌, ap, subst, ◌⊎◌, inl, inr, and_parts, eq-eqb, ne_eqb, eqb_tells, LockId, Errno}
+use Rattle.journal_laws.proofs.Cited.{End, Purpose, Entry, Cut, BoardView, TransferView, is_read, buses, root_of, refusal, IsTree}
+use Rattle.journal_laws.proofs.Cited.{IsPlainBoard, Asks, Job, Call, Select, SwitchOff, Act, Take, Free, Send, Shift, Settle, ActOutcome}
+use Rattle.journal_laws.proofs.Cited.{Passed, Sent, Lined, Note, WalkTree, Ends, Look, Then, goes, verdict_of, job_bus, job_purpose}
+use Rattle.journal_laws.proofs.Cited.{walk_by, seen, is_over, first_act, first_note, rest_of, caller_of, last_cut, cut_told, Now, begun}
+use Rattle.journal_laws.proofs.Cited.{current, now, sent_by, lined_by, outcome_of, walk_left, is_cut, IsNext, IsStepwise, reply_by, InLocks}
+use Rattle.journal_laws.proofs.Cited.{LinesAreLocked, AsksForMessages, NoSettle, IsDecided, GoesOn, Settles, IsAsked, first_is}
+use Rattle.journal_laws.proofs.Cited.{settles_seen, current-asked, past-asked, starts_seen, no_settle, past-due, cut-told, walk-starts}
+use Rattle.journal_laws.proofs.Cited.{is_failed, KeepsCuts, sends, shifts, over_ends, settles_next}
 use Rattle.std.proofs.Math.Bool.{or-true}
-use Rattle.std.proofs.lemmas.Bool.{and_parts, eq-eqb, or_cases, ne_eqb}
-use Rattle.std.proofs.lemmas.Bool.Decides.{eqb_tells}
+use Rattle.std.proofs.lemmas.Bool.{or_cases}
 use Rattle.std.specs.List.{list_any}
-use Rattle.i2c_base.specs.declared.ids.LockId.{LockId}
 use Rattle.i2c_base.specs.declared.ids.LockId.TheVariants as lock
-use Rattle.i2c_base.specs.declared.errno.Errno.{Errno}
 use Rattle.i2c_base.specs.declared.errno.Errno.TheVariants as errno
-use Rattle.i2c_base.specs.declared.entry.End.{End}
 use Rattle.i2c_base.specs.declared.entry.End.TheVariants as end
-use Rattle.i2c_base.specs.declared.entry.Purpose.{Purpose}
 use Rattle.i2c_base.specs.declared.entry.Purpose.TheVariants as purpose
-use Rattle.i2c_base.specs.declared.entry.Entry.{Entry}
 use Rattle.i2c_base.specs.declared.entry.Entry.TheVariants as entry
 use Rattle.i2c_base.specs.declared.reply.Reply.TheVariants as reply
-use Rattle.i2c_base.specs.declared.reply.Cut.{Cut}
 use Rattle.i2c_base.specs.declared.reply.Cut.TheVariants as cut
-use Rattle.i2c_base.specs.Board.{BoardView}
-use Rattle.i2c_base.specs.Transfer.{TransferView, is_read}
-use Rattle.i2c_spec.specs.Tree.{buses, root_of}
 use Rattle.i2c_spec.specs.Grant.{grant_of, is_busy}
-use Rattle.i2c_spec.specs.Flat.{refusal, is_plain, is_smbus_only}
-use Rattle.i2c_spec.specs.TreeFacts.{IsTree}
-use Rattle.i2c_spec.specs.Plain.{IsPlainBoard}
-use Rattle.i2c_spec.specs.History.{Asks}
-use Rattle.bus_spec.specs.Walk.{Job, Call, Select, SwitchOff, Act, Take, Free, Send, Shift, Settle, ActOutcome, Passed, Sent, Lined, Note, WalkTree, Ends, Look, Then, goes, verdict_of, job_bus, job_purpose}
-use Rattle.bus_spec.specs.Grammar.{walk_by, seen, is_over, first_act, first_note, rest_of}
-use Rattle.bus_spec.specs.Readings.{caller_of, is_call, last_cut, cut_told, message_cut}
-use Rattle.bus_spec.specs.Past.{Now, begun, current, now, is_on, sent_by, lined_by}
-use Rattle.bus_spec.specs.Places.{outcome_of, walk_left, is_cut}
-use Rattle.bus_spec.specs.Stepwise.{IsNext, IsStepwise, reply_by}
-use Rattle.bus_laws.specs.Runs.{InLocks}
-use Rattle.bus_laws.specs.Lines.{LinesAreLocked}
-use Rattle.bus_laws.specs.Reach.{AsksForMessages}
-use Rattle.bus_laws.specs.Settles.{NoSettle, IsDecided, GoesOn, Settles}
-use Rattle.bus_laws.specs.Calls.{IsAsked}
-use Rattle.bus_laws.proofs.past.StandsEntries.{first_is}
-use Rattle.bus_laws.proofs.past.Asked.{settles_seen, current-asked, past-asked}
-use Rattle.bus_laws.proofs.past.Placed.{starts_seen, no_settle, past-due, cut-told}
-use Rattle.bus_laws.proofs.walk.SettleLaw.{walk-starts}
-use Rattle.journal_laws.specs.Counts.{is_failed}
-use Rattle.journal_laws.specs.Faulty.{is_on_way, failed_on_way, CutAt, KeepsCuts}
+use Rattle.i2c_spec.specs.Flat.{is_plain, is_smbus_only}
+use Rattle.bus_spec.specs.Readings.{is_call, message_cut}
+use Rattle.bus_spec.specs.Past.{is_on}
+use Rattle.journal_laws.specs.Faulty.{is_on_way, failed_on_way, CutAt}
 use Rattle.journal_laws.proofs.past.Places.{walk-left}
 use Rattle.journal_laws.proofs.past.Due.{due-told}
-use Rattle.bus_laws.proofs.past.Laws.{sends, shifts}
 use Rattle.flat_laws.proofs.past.Ends.{holds-nothing}
 use Rattle.journal_laws.proofs.past.FailLaw.{FailsSettle, current-fails}
-use Rattle.bus_laws.proofs.past.StandsFacts.{over_ends}
-use Rattle.bus_laws.proofs.device.Past.{settles_next}
 
 -- WHAT A STEP DECIDES
 decided-verdict : (note : Note) (job : Job) (left : ℕ) (out : ActOutcome) (w : WalkTree) (v : Option Errno) → IsDecided note job left out w

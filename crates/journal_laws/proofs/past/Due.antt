@@ -1,35 +1,19 @@
 -- Where a settle is due, the last entry is a message or a line step that decides it, of a transfer that isn't refused. What
 -- is due for a caller stays due until it settles.
-use Rattle.std.proofs.Common.{◌≡◌, ℕ, ◌<◌, Bool, true, false, cond, List, [], ◌∷◌, Option, Some, None, refl, sym, ◌∙◌, ap, subst, inl, inr}
-use Rattle.std.proofs.lemmas.Bool.Decides.{eqb_tells}
-use Rattle.i2c_base.specs.declared.errno.Errno.{Errno}
-use Rattle.i2c_base.specs.declared.entry.Entry.{Entry}
+use Rattle.journal_laws.proofs.Cited.{◌≡◌, ℕ, ◌<◌, Bool, true, false, cond, List, [], ◌∷◌, Option, Some, None, refl, sym, ◌∙◌, ap, subst}
+use Rattle.journal_laws.proofs.Cited.{inl, inr, eqb_tells, Errno, Entry, BoardView, TransferView, Reply, refusal, Asks, Job, Call, Select}
+use Rattle.journal_laws.proofs.Cited.{SwitchOff, Take, Free, Send, Shift, Settle, ActOutcome, Sent, Lined, Note, WalkTree, Then, seen}
+use Rattle.journal_laws.proofs.Cited.{is_over, first_act, rest_of, caller_of, replies, Now, begun, current, now, is_due, IsNext, TellsNext}
+use Rattle.journal_laws.proofs.Cited.{IsStepwise, transfer_at, outcome_of, walk_left, IsPlaced, SettleAt, AsksForMessages, GoesOn, Settles}
+use Rattle.journal_laws.proofs.Cited.{CallsOf, IsAsked, at_same, first_is, current-asked, past-asked, settled-told, no_settle, settles_next}
+use Rattle.journal_laws.proofs.Cited.{ne_eqb}
 use Rattle.i2c_base.specs.declared.entry.Entry.TheVariants as entry
-use Rattle.i2c_base.specs.Board.{BoardView}
-use Rattle.i2c_base.specs.Transfer.{TransferView}
-use Rattle.i2c_base.specs.declared.reply.Reply.{Reply}
-use Rattle.i2c_spec.specs.Flat.{refusal}
-use Rattle.i2c_spec.specs.History.{Asks}
-use Rattle.bus_spec.specs.Walk.{Job, Call, Select, SwitchOff, Take, Free, Send, Shift, Settle, ActOutcome, Sent, Lined, Note, WalkTree, Then}
-use Rattle.bus_spec.specs.Grammar.{seen, is_over, first_act, rest_of}
-use Rattle.bus_spec.specs.Readings.{caller_of, replies}
-use Rattle.bus_spec.specs.Past.{Now, begun, current, now, is_due}
-use Rattle.bus_spec.specs.Stepwise.{IsNext, TellsNext, IsStepwise}
-use Rattle.bus_spec.specs.Places.{transfer_at, outcome_of, walk_left}
-use Rattle.bus_spec.specs.Legal.{IsDirectlyBehind, IsPlaced, SettleAt}
-use Rattle.bus_laws.specs.Reach.{AsksForMessages}
+use Rattle.bus_spec.specs.Legal.{IsDirectlyBehind}
 use Rattle.bus_laws.specs.Runs.{IsGranted}
-use Rattle.bus_laws.specs.Settles.{GoesOn, Settles}
-use Rattle.bus_laws.specs.Calls.{CallsOf, IsOnWay, IsAsked}
-use Rattle.bus_laws.proofs.past.StandsStep.{at_same}
-use Rattle.bus_laws.proofs.past.StandsEntries.{first_is}
-use Rattle.bus_laws.proofs.past.Asked.{current-asked, past-asked, settled-told}
-use Rattle.bus_laws.proofs.past.Placed.{no_settle}
+use Rattle.bus_laws.specs.Calls.{IsOnWay}
 use Rattle.flat_laws.proofs.past.First.{due_settles}
 use Rattle.journal_laws.proofs.past.Layers.{other_replies}
 use Rattle.journal_laws.proofs.past.Places.{walk-left}
-use Rattle.bus_laws.proofs.device.Past.{settles_next}
-use Rattle.std.proofs.lemmas.Bool.{ne_eqb}
 
 -- what a settle that is due is of
 pub record IsDue (b : BoardView) (asks : Asks) (past : List Entry) (c : ℕ) : Type 0 where

@@ -1,22 +1,17 @@
 -- A message or line step on the way to the caller's messages that failed by the port is followed by the settle, which says
 -- so. The inductions go over the messages of a job, over the locks, and over the hops.
-use Rattle.std.proofs.Common.{◌≡◌, ℕ, zero, suc, Bool, true, false, cond, ◌&&◌, List, [], ◌∷◌, Option, Some, None, refl, sym, ◌∙◌, ap, subst}
-use Rattle.i2c_base.specs.declared.ids.LockId.{LockId}
-use Rattle.i2c_base.specs.declared.errno.Errno.{Errno}
-use Rattle.i2c_base.specs.declared.errno.Errno.TheVariants.{Eremoteio}
+use Rattle.journal_laws.proofs.Cited.{◌≡◌, ℕ, zero, suc, Bool, true, false, cond, ◌&&◌, List, [], ◌∷◌, Option, Some, None, refl, sym, ◌∙◌}
+use Rattle.journal_laws.proofs.Cited.{ap, subst, LockId, Errno, Eremoteio, Entry, BoardView, TransferView, Hop, hops, root_of, messages_of}
+use Rattle.journal_laws.proofs.Cited.{refusal, Asks, Job, Call, Select, SwitchOff, Deselect, Close, Take, Free, Send, Shift, Settle}
+use Rattle.journal_laws.proofs.Cited.{ActOutcome, Sent, Lined, Note, WalkTree, Ends, Look, Then, goes, job_outcome, verdict_of, decides}
+use Rattle.journal_laws.proofs.Cited.{is_line, Slots, walk_by, walk_for, seen, is_over, first_act, rest_of, begun, current, now, outcome_of}
+use Rattle.journal_laws.proofs.Cited.{walk_left}
 use Rattle.i2c_base.specs.declared.entry.End.TheVariants as end
-use Rattle.i2c_base.specs.declared.entry.Entry.{Entry}
-use Rattle.i2c_base.specs.Board.{BoardView}
-use Rattle.i2c_base.specs.Transfer.{TransferView}
-use Rattle.i2c_spec.specs.Tree.{Hop, hops, root_of, locks_of}
-use Rattle.i2c_spec.specs.Messages.{messages_of}
-use Rattle.i2c_spec.specs.Flat.{refusal}
-use Rattle.i2c_spec.specs.History.{Asks}
-use Rattle.bus_spec.specs.Walk.{Job, Call, Select, SwitchOff, Deselect, Close, Take, Free, Send, Shift, Settle, ActOutcome, Sent, Lined, JobOutcome, Good, Refused, Unsent, Failed, Note, KeptOf, WalkTree, Ends, Look, Then, Go, On, Last, Over, goes, job_outcome, verdict_of, decides, is_line, more_of}
-use Rattle.bus_spec.specs.Slots.{Slots, answer_to}
-use Rattle.bus_spec.specs.Grammar.{Doer, plain, settled, over, by_go, messages, at_bus, locked, part, with_mark, aside, if_sent, if_good, kind_of, closing, left_behind, opened, chosen, keeps, crossed, behind, inner, walk_by, walk_for, seen, is_over, first_act, rest_of}
-use Rattle.bus_spec.specs.Past.{begun, current, now}
-use Rattle.bus_spec.specs.Places.{outcome_of, walk_left}
+use Rattle.i2c_spec.specs.Tree.{locks_of}
+use Rattle.bus_spec.specs.Walk.{JobOutcome, Good, Refused, Unsent, Failed, KeptOf, Go, On, Last, Over, more_of}
+use Rattle.bus_spec.specs.Slots.{answer_to}
+use Rattle.bus_spec.specs.Grammar.{Doer, plain, settled, over, by_go, messages, at_bus, locked, part, with_mark, aside, if_sent, if_good}
+use Rattle.bus_spec.specs.Grammar.{kind_of, closing, left_behind, opened, chosen, keeps, crossed, behind, inner}
 use Rattle.journal_laws.proofs.past.Places.{walk-left}
 
 -- what a step of the port says where it fails on the way

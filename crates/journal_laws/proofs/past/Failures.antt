@@ -1,11 +1,8 @@
 -- Calls by their number: a log is read newest call first, and the number of a call is how many are older. The inductions
 -- go over lists.
-use Rattle.std.proofs.Common.{◌≡◌, ℕ, zero, suc, ◌+◌, ◌<◌, ◌≤◌, List, [], ◌∷◌, ◌++◌, length, length-append, reverse, Option, Some, refl, sym, ◌∙◌, ap, arith, inl, inr}
-use Rattle.std.specs.Prelude.{slice_get}
-use Rattle.std.specs.List.{AllByRecursion}
-use Rattle.std.proofs.lemmas.Bool.Decides.{leb_tells}
-use Rattle.std.proofs.lemmas.List.{reverse-append, length-reverse}
-use Rattle.i2c_base.specs.declared.port.PortCall.{PortCall}
+use Rattle.journal_laws.proofs.Cited.{◌≡◌, ℕ, zero, suc, ◌+◌, ◌<◌, ◌≤◌, List, [], ◌∷◌, ◌++◌, length, length-append, reverse, Option, Some}
+use Rattle.journal_laws.proofs.Cited.{refl, sym, ◌∙◌, ap, arith, inl, inr, slice_get, AllByRecursion, leb_tells, reverse-append}
+use Rattle.journal_laws.proofs.Cited.{length-reverse, PortCall}
 use Rattle.i2c_base.specs.declared.port.PortCall.TheVariants as call
 use Rattle.journal_laws.proofs.past.CutTalks.{Went}
 use Rattle.i2c_base.proofs.ListLemmas.{get_front}

@@ -1,51 +1,31 @@
 -- Each reply that is settled is one that its transfer may get. The induction goes over the entries.
-use Rattle.std.proofs.Common.{◌≡◌, ℕ, zero, suc, ◌+◌, ◌-◌, ◌<◌, Bool, true, false, cond, List, [], ◌∷◌, ◌++◌, length, Option, Some, None, refl, sym, ◌∙◌, ap, subst, ◌⊎◌, inl, inr, arith}
-use Rattle.std.specs.Prelude.{take}
-use Rattle.std.proofs.lemmas.Bool.Decides.{eqb_tells}
+use Rattle.journal_laws.proofs.Cited.{◌≡◌, ℕ, zero, suc, ◌+◌, ◌-◌, ◌<◌, Bool, true, false, cond, List, [], ◌∷◌, ◌++◌, length, Option, Some}
+use Rattle.journal_laws.proofs.Cited.{None, refl, sym, ◌∙◌, ap, subst, ◌⊎◌, inl, inr, arith, take, eqb_tells, Msg, Errno, End, Entry, Reply}
+use Rattle.journal_laws.proofs.Cited.{BoardView, Fits, TransferView, root_of, MessageView, messages_of, world_listener, refusal}
+use Rattle.journal_laws.proofs.Cited.{block_limit, Asks, Job, Call, Select, SwitchOff, Act, Take, Free, Send, Shift, Settle, Passed, Sent}
+use Rattle.journal_laws.proofs.Cited.{Lined, Note, WalkTree, job_outcome, decides, verdict_of, message_of, is_last, is_line, nth_message}
+use Rattle.journal_laws.proofs.Cited.{Slots, walk_by, seen, is_over, first_act, first_note, rest_of, OfMessage, caller_of, Now, begun}
+use Rattle.journal_laws.proofs.Cited.{current, now, step, cut_of, got_after, TellsMessage, May, IsNext, IsStepwise, reply_by}
+use Rattle.journal_laws.proofs.Cited.{AsksForMessages, IsCall, NoSettle, IsDecided, Settles, CallsOf, ahead, KeepsFits, is_block_limit}
+use Rattle.journal_laws.proofs.Cited.{walk-settles, walk-starts, settles-taken, settles-freed, settles-sent, settles-shifted}
+use Rattle.journal_laws.proofs.Cited.{settles-settled, at_same, over_ends, settles_seen, settled-told, never, IsUntouched, entry-elsewhere}
 use Rattle.std.proofs.Math.Seq.{take-length}
-use Rattle.i2c_base.specs.declared.transfer.Msg.{Msg}
-use Rattle.i2c_base.specs.declared.errno.Errno.{Errno}
-use Rattle.i2c_base.specs.declared.entry.End.{End}
 use Rattle.i2c_base.specs.declared.entry.End.TheVariants as end
-use Rattle.i2c_base.specs.declared.entry.Entry.{Entry}
 use Rattle.i2c_base.specs.declared.entry.Entry.TheVariants as entry
-use Rattle.i2c_base.specs.declared.reply.Reply.{Reply}
-use Rattle.i2c_base.specs.Board.{BoardView}
-use Rattle.i2c_base.specs.Fitting.{Fits, FitsReads}
-use Rattle.i2c_base.specs.Transfer.{TransferView}
-use Rattle.i2c_spec.specs.Tree.{root_of}
-use Rattle.i2c_spec.specs.Messages.{MessageView, messages_of}
-use Rattle.i2c_spec.specs.Conversation.{world_listener}
-use Rattle.i2c_spec.specs.Flat.{refusal, block_limit}
-use Rattle.i2c_spec.specs.History.{Asks}
-use Rattle.bus_spec.specs.Walk.{Job, Call, Select, SwitchOff, Act, Take, Free, Send, Shift, Settle, Passed, Sent, Lined, Note, WalkTree, job_outcome, decides, verdict_of, message_of, is_last, is_line, nth_message}
-use Rattle.bus_spec.specs.Slots.{Slots}
-use Rattle.bus_spec.specs.Grammar.{walk_by, seen, is_over, first_act, first_note, rest_of}
-use Rattle.bus_spec.specs.Readings.{OfMessage, caller_of}
-use Rattle.bus_spec.specs.Past.{Now, begun, current, now, step, cut_of, got_after}
-use Rattle.bus_spec.specs.Tells.{TellsMessage}
-use Rattle.bus_spec.specs.Stepwise.{May, IsNext, IsStepwise, reply_by}
-use Rattle.bus_laws.specs.Reach.{AsksForMessages}
-use Rattle.bus_laws.specs.Runs.{IsCall}
-use Rattle.bus_laws.specs.Settles.{NoSettle, IsDecided, FollowsSend, Settles}
+use Rattle.i2c_base.specs.Fitting.{FitsReads}
+use Rattle.bus_laws.specs.Settles.{FollowsSend}
 use Rattle.bus_laws.specs.Jobs.{EachJob}
-use Rattle.bus_laws.specs.Calls.{CallsOf, FirstCalls}
-use Rattle.bus_laws.specs.Others.{ahead}
-use Rattle.journal_laws.specs.Spent.{FitsAt, KeepsFits}
+use Rattle.bus_laws.specs.Calls.{FirstCalls}
+use Rattle.journal_laws.specs.Spent.{FitsAt}
 use Rattle.i2c_spec.proofs.MessageLemmas.{length-messages}
-use Rattle.i2c_spec.proofs.BlockLemmas.{is_block_limit}
 use Rattle.bus_laws.proofs.world.TalkThrough.{GaveRead, talk-reads}
-use Rattle.bus_laws.proofs.walk.SettleLaw.{walk-settles, walk-starts}
 use Rattle.bus_laws.proofs.walk.Calls.{walk-calls}
 use Rattle.bus_laws.proofs.walk.Jobs.{walk-jobs}
 use Rattle.bus_laws.proofs.walk.First.{walk-first}
 use Rattle.bus_laws.proofs.walk.Reads.{message-reads}
-use Rattle.bus_laws.proofs.walk.Next.{seen-first, jobs-next, job-shifted, calls-next, call-sent, settles-taken, settles-freed, settles-sent, settles-shifted, settles-settled, quiet-next, what_follows, call-follows, first-taken, first-freed, first-selected, first-switched-off, first-shifted, first-sent}
-use Rattle.bus_laws.proofs.past.StandsStep.{at_same}
-use Rattle.bus_laws.proofs.past.StandsFacts.{over_ends}
-use Rattle.bus_laws.proofs.past.Asked.{settles_seen, settled-told, sent_settled, lined_settled}
-use Rattle.bus_laws.proofs.past.Known.{never}
-use Rattle.bus_laws.proofs.past.Others.{IsUntouched, entry-elsewhere}
+use Rattle.bus_laws.proofs.walk.Next.{seen-first, jobs-next, job-shifted, calls-next, call-sent, quiet-next, what_follows, call-follows}
+use Rattle.bus_laws.proofs.walk.Next.{first-taken, first-freed, first-selected, first-switched-off, first-shifted, first-sent}
+use Rattle.bus_laws.proofs.past.Asked.{sent_settled, lined_settled}
 use Rattle.journal_laws.proofs.past.Budgets.{message-got, line-got}
 use Rattle.bus_laws.proofs.past.Laws.{nobody}
 use Rattle.bus_laws.proofs.past.Bytes.{reply-fits}

@@ -1,14 +1,8 @@
 -- Each message is the one in flight where it stands. The induction goes over the entries.
-use Rattle.std.proofs.Common.{ℕ, List, [], ◌∷◌, Option, ap}
-use Rattle.i2c_base.specs.declared.entry.Entry.{Entry}
+use Rattle.journal_laws.proofs.Cited.{ℕ, List, [], ◌∷◌, Option, ap, Entry, BoardView, Asks, Act, message_of, OfMessage, now, May}
+use Rattle.journal_laws.proofs.Cited.{IsStepwise}
 use Rattle.i2c_base.specs.declared.entry.Entry.TheVariants as entry
-use Rattle.i2c_base.specs.Board.{BoardView}
-use Rattle.i2c_spec.specs.History.{Asks}
-use Rattle.bus_spec.specs.Walk.{Act, message_of}
-use Rattle.bus_spec.specs.Readings.{OfMessage}
-use Rattle.bus_spec.specs.Past.{now}
 use Rattle.bus_spec.specs.Places.{message_sent}
-use Rattle.bus_spec.specs.Stepwise.{May, IsStepwise}
 use Rattle.journal_laws.specs.Flight.{IsInFlight, AreInFlight}
 
 flight_at : (b : BoardView) (callers : ℕ) (asks : Asks) (past : List Entry) (e : Entry) → May b callers asks (now b asks past) e

@@ -1,24 +1,14 @@
 -- What the walks of a legal journal tell of each step of a caller: it is the next step of the walk under way, or the
 -- first one of the next walk. A journal that breaks the order of a walk is refused by this alone. The inductions go
 -- over the steps of a walk, and over the walks.
-use Rattle.std.proofs.Common.{◌≡◌, ℕ, Bool, true, false, cond, List, [], ◌∷◌, ◌++◌, Option, Some, refl, sym, ◌∙◌, ap, subst, append_assoc, append-nil}
-use Rattle.i2c_base.specs.declared.entry.Entry.{Entry}
-use Rattle.i2c_base.specs.declared.entry.End.{End}
-use Rattle.i2c_base.specs.declared.entry.Purpose.{Purpose}
+use Rattle.journal_laws.proofs.Cited.{◌≡◌, ℕ, Bool, true, false, cond, List, [], ◌∷◌, ◌++◌, Option, Some, refl, sym, ◌∙◌, ap, subst}
+use Rattle.journal_laws.proofs.Cited.{append_assoc, append-nil, Entry, End, Purpose, Reply, BoardView, TransferView, Job, Act, Send, Shift}
+use Rattle.journal_laws.proofs.Cited.{WalkTree, Ends, Look, Then, job_bus, job_purpose, part_of, parts_of, message_of, line_mux, line_level}
+use Rattle.journal_laws.proofs.Cited.{walk_for, seen, is_over, rest_of, Now, begun, talk_of, MessageEntry, TellsMessage, Tells, outcome_of}
+use Rattle.journal_laws.proofs.Cited.{Step, replies_in, AreTransfers, transfers-walks, Leads, AreWalks, none, whole, front, reply_at}
+use Rattle.journal_laws.proofs.Cited.{replies_first}
 use Rattle.i2c_base.specs.declared.entry.Purpose.TheVariants as purpose
-use Rattle.i2c_base.specs.declared.reply.Reply.{Reply}
-use Rattle.i2c_base.specs.Board.{BoardView}
-use Rattle.i2c_base.specs.Transfer.{TransferView}
-use Rattle.bus_spec.specs.Walk.{Job, Act, Send, Shift, WalkTree, Ends, Look, Then, job_bus, job_purpose, part_of, parts_of, message_of, line_mux, line_level}
-use Rattle.bus_spec.specs.Grammar.{walk_for, seen, is_over, rest_of}
-use Rattle.bus_spec.specs.Past.{Now, begun, talk_of}
-use Rattle.bus_spec.specs.Readings.{MessageEntry}
-use Rattle.bus_spec.specs.Tells.{TellsMessage, TellsLine, Tells}
-use Rattle.bus_spec.specs.Places.{outcome_of}
-use Rattle.bus_spec.specs.ByTree.{Step, replies_in, AreTransfers}
-use Rattle.flat_laws.proofs.walk.Rule.{transfers-walks}
-use Rattle.flat_laws.specs.Led.{Leads, AreWalks, none, whole, front}
-use Rattle.flat_laws.proofs.past.Walks.{reply_at, replies_first}
+use Rattle.bus_spec.specs.Tells.{TellsLine}
 use Rattle.flat_laws.proofs.past.Walks.{tells_none}
 
 -- what a message of the next step tells before it is sent: where it goes, why, which part it is of how many, and its

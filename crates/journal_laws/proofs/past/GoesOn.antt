@@ -1,38 +1,19 @@
 -- Who has a next step, and waits for nothing, has an entry that may come. No induction.
-use Rattle.std.proofs.Common.{◌≡◌, ℕ, ◌<◌, Bool, false, List, Option, Some, None, refl, sym, ◌∙◌, ap, subst, ◌⊎◌, inl, inr}
-use Rattle.i2c_base.specs.declared.ids.LockId.{LockId}
-use Rattle.i2c_base.specs.declared.ids.Node.{Node}
-use Rattle.i2c_base.specs.declared.errno.Errno.{Errno}
-use Rattle.i2c_base.specs.declared.entry.End.{End}
+use Rattle.journal_laws.proofs.Cited.{◌≡◌, ℕ, ◌<◌, Bool, false, List, Option, Some, None, refl, sym, ◌∙◌, ap, subst, ◌⊎◌, inl, inr, LockId}
+use Rattle.journal_laws.proofs.Cited.{Node, Errno, End, Entry, BoardView, root_of, IsTree, IsPlainBoard, World, hearers, TalkTold}
+use Rattle.journal_laws.proofs.Cited.{world_listener, talk, block_limit, Asks, Job, Call, Select, SwitchOff, off_mux, Act, Take, Free, Send}
+use Rattle.journal_laws.proofs.Cited.{Shift, Settle, job_bus, job_purpose, message_of, is_last, part_of, parts_of, line_mux, line_level}
+use Rattle.journal_laws.proofs.Cited.{first_act, caller_of, holder, Now, begun, current, now, talk_of, cut_of, heard_list, HearsIn, May}
+use Rattle.journal_laws.proofs.Cited.{IsNext, IsStepwise, reply_by, LinesAreLocked, AsksForMessages, who_hears, chip_where, CanGoOn}
+use Rattle.journal_laws.proofs.Cited.{IsOwnEnd, holder-told, never, IsDueBehind, due-made, call-reaches, control-switches, takes-below}
 use Rattle.i2c_base.specs.declared.entry.End.TheVariants as end
-use Rattle.i2c_base.specs.declared.entry.Entry.{Entry}
 use Rattle.i2c_base.specs.declared.entry.Entry.TheVariants as entry
-use Rattle.i2c_base.specs.Board.{BoardView}
-use Rattle.i2c_spec.specs.Tree.{root_of}
-use Rattle.i2c_spec.specs.TreeFacts.{IsTree}
-use Rattle.i2c_spec.specs.Plain.{IsPlainBoard}
-use Rattle.i2c_spec.specs.World.{World, hearers}
-use Rattle.i2c_spec.specs.Conversation.{TalkTold, world_listener, talk}
-use Rattle.i2c_spec.specs.Flat.{block_limit}
-use Rattle.i2c_spec.specs.History.{Asks}
-use Rattle.bus_spec.specs.Walk.{Job, Call, Select, SwitchOff, off_mux, Act, Take, Free, Send, Shift, Settle, job_bus, job_purpose, message_of, is_last, part_of, parts_of, line_mux, line_level}
-use Rattle.bus_spec.specs.Grammar.{first_act}
-use Rattle.bus_spec.specs.Readings.{caller_of, holder}
-use Rattle.bus_spec.specs.Past.{Now, begun, current, now, talk_of, cut_of}
-use Rattle.bus_spec.specs.Tells.{heard_list, HearsIn}
-use Rattle.bus_spec.specs.Stepwise.{May, IsNext, IsStepwise, reply_by}
-use Rattle.bus_laws.specs.Lines.{LinesAreLocked}
-use Rattle.bus_laws.specs.Reach.{AsksForMessages}
-use Rattle.bus_laws.specs.Next.{WillReach, who_hears, chip_where}
-use Rattle.bus_laws.specs.Ready.{IsStuck, CanGoOn, SomeCanGoOn}
-use Rattle.bus_laws.proofs.world.TalkLaws.{IsOwnEnd}
+use Rattle.bus_laws.specs.Next.{WillReach}
+use Rattle.bus_laws.specs.Ready.{IsStuck, SomeCanGoOn}
 use Rattle.journal_laws.proofs.past.CutTalks.{talk-front}
-use Rattle.bus_laws.proofs.past.Laws.{holder-told}
 use Rattle.bus_laws.proofs.past.Whole.{goes_on_from}
-use Rattle.bus_laws.proofs.past.Known.{takes, never}
-use Rattle.bus_laws.proofs.past.Placed.{IsDueBehind, due-made}
-use Rattle.bus_laws.proofs.past.Next.{call-reaches, control-switches}
-use Rattle.bus_laws.proofs.past.Ready.{takes-below, some-free}
+use Rattle.bus_laws.proofs.past.Known.{takes}
+use Rattle.bus_laws.proofs.past.Ready.{some-free}
 
 -- a message of which no call fails ends by itself
 hears_own : (w : World) (addr : ℕ) (reading : Bool) (heard : Option Node) (e : End) → IsOwnEnd e → hearers w addr reading ≡ heard_list heard

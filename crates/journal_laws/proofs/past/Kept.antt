@@ -1,45 +1,29 @@
 -- The channel that a mux keeps is the one that its last message or line step tells by its own byte or level, where the mux
 -- isn't marked; and a close leaves none. The inductions go over the channels of a mux, and over the entries.
-use Rattle.std.proofs.Common.{◌≡◌, ℕ, zero, suc, ◌+◌, ◌<◌, ◌≤◌, ◌≢◌, Bool, true, false, cond, not, ◌&&◌, eqb, List, [], ◌∷◌, Option, Some, None, refl, sym, ◌∙◌, ap, subst, ◌⊎◌, inl, inr, arith}
-use Rattle.std.specs.Prelude.{slice_get, unwrap_or}
-use Rattle.std.specs.List.{position_from, range_with_len}
+use Rattle.journal_laws.proofs.Cited.{◌≡◌, ℕ, zero, suc, ◌+◌, ◌<◌, ◌≤◌, ◌≢◌, Bool, true, false, cond, not, ◌&&◌, eqb, List, [], ◌∷◌, Option}
+use Rattle.journal_laws.proofs.Cited.{Some, None, refl, sym, ◌∙◌, ap, subst, ◌⊎◌, inl, inr, arith, slice_get, range_with_len, eqb_tells}
+use Rattle.journal_laws.proofs.Cited.{MuxSpec, MuxKind, LockId, End, Entry, Purpose, BoardView, TransferView, Hop, root_of, home_of_mux}
+use Rattle.journal_laws.proofs.Cited.{IsTree, IsHop, IsPlainBoard, world_listener, is_good, block_limit, Asks, Mark, Job, Call, Select}
+use Rattle.journal_laws.proofs.Cited.{SwitchOff, Off, off_bus, off_mux, Act, Send, Shift, Sent, Lined, Note, job_bus, job_purpose}
+use Rattle.journal_laws.proofs.Cited.{message_of, is_last, is_arbitrator, line_mux, line_level, Slots, At, MuxSlot, Clean, Marked, turned}
+use Rattle.journal_laws.proofs.Cited.{set_marks, polled_slot, after_job, first_note, Now, current, now, kept_channel, cut_of, sent_by}
+use Rattle.journal_laws.proofs.Cited.{lined_by, channel_opened, channel_written, switches, kept_left, is_cut, IsStepwise, IsOfMux}
+use Rattle.journal_laws.proofs.Cited.{FindsSelect, MayFail, MaySend, MayShift, LinesAreLocked, AsksForMessages, talk-writes, sends, shifts}
+use Rattle.std.specs.Prelude.{unwrap_or}
+use Rattle.std.specs.List.{position_from}
 use Rattle.std.specs.Option.{option_map}
-use Rattle.std.proofs.lemmas.Bool.Decides.{eqb_tells}
-use Rattle.i2c_base.specs.declared.board.MuxSpec.{MuxSpec}
-use Rattle.i2c_base.specs.declared.board.MuxKind.{MuxKind}
-use Rattle.i2c_base.specs.declared.ids.LockId.{LockId}
-use Rattle.i2c_base.specs.declared.entry.End.{End}
 use Rattle.i2c_base.specs.declared.entry.End.TheVariants as end
-use Rattle.i2c_base.specs.declared.entry.Entry.{Entry}
 use Rattle.i2c_base.specs.declared.entry.Entry.TheVariants as entry
-use Rattle.i2c_base.specs.declared.entry.Purpose.{Purpose}
-use Rattle.i2c_base.specs.Board.{BoardView}
-use Rattle.i2c_base.specs.Transfer.{TransferView}
 use Rattle.i2c_base.specs.Muxes.{facts_of}
-use Rattle.i2c_spec.specs.Tree.{Hop, root_of, home_of_mux, of_mux}
-use Rattle.i2c_spec.specs.TreeFacts.{IsTree, IsHop}
-use Rattle.i2c_spec.specs.Plain.{IsPlainBoard}
+use Rattle.i2c_spec.specs.Tree.{of_mux}
 use Rattle.i2c_spec.specs.Chips.{opens, select_value, close_value}
-use Rattle.i2c_spec.specs.Conversation.{world_listener, is_good}
-use Rattle.i2c_spec.specs.Flat.{block_limit}
-use Rattle.i2c_spec.specs.History.{Asks}
-use Rattle.bus_spec.specs.Walk.{Mark, Job, Call, Select, SwitchOff, Off, off_bus, off_mux, Act, Send, Shift, Sent, Lined, Note, job_bus, job_purpose, message_of, is_last, is_arbitrator, line_mux, line_level}
-use Rattle.bus_spec.specs.Slots.{Slots, At, MuxSlot, Clean, Marked, turned, set_marks, polled_slot, after_job}
-use Rattle.bus_spec.specs.Grammar.{first_note}
-use Rattle.bus_spec.specs.Past.{Now, current, now, kept_channel, cut_of, sent_by, lined_by}
-use Rattle.bus_spec.specs.Places.{channel_opened, channel_written, switches, kept_left, is_cut}
-use Rattle.bus_spec.specs.Stepwise.{IsStepwise}
-use Rattle.bus_laws.specs.Runs.{IsOfMux, FindsSelect, HeadsMarks, MayFail, MaySend, MayShift}
-use Rattle.bus_laws.specs.Lines.{LinesAreLocked}
-use Rattle.bus_laws.specs.Reach.{AsksForMessages}
+use Rattle.bus_laws.specs.Runs.{HeadsMarks}
 use Rattle.bus_laws.proofs.tree.Slots.{turned-same, turned-other, set_marks-head}
 use Rattle.bus_laws.proofs.world.BoardFacts.{mux_at, has_channel}
 use Rattle.bus_laws.proofs.world.ChipLaws.{OpensOne, value_opens, shut_at_zero}
 use Rattle.bus_laws.proofs.world.Sends.{own_select, own_open}
 use Rattle.bus_laws.proofs.world.Slots.{kept_own, kept_other, of_marked, set_marks-only}
-use Rattle.bus_laws.proofs.world.TalkThrough.{talk-writes}
 use Rattle.journal_laws.specs.Faulty.{SwitchesOff, HasSwitchedOff}
-use Rattle.bus_laws.proofs.past.Laws.{sends, shifts}
 
 -- THE FIRST CHANNEL that is open: the only one, or none
 first_is : (test : ℕ → Bool) (n i c : ℕ) → i ≤ c → c < i + n → test c ≡ true → ((d : ℕ) → test d ≡ true → c ≡ d)

@@ -1,25 +1,13 @@
 -- A legal past is stepwise: each rule over the whole of it tells of each entry what it takes to come where it does. The
 -- inductions go over the steps of a caller, and over the entries.
-use Rattle.std.proofs.Common.{◌≡◌, ℕ, Bool, false, cond, List, [], ◌∷◌, ◌++◌, Option, refl, sym, ◌∙◌, ap, subst, inl, inr, append_assoc, append-nil}
-use Rattle.std.proofs.lemmas.Bool.{eq-eqb, ne_eqb}
-use Rattle.std.proofs.lemmas.Bool.Decides.{eqb_tells}
-use Rattle.i2c_base.specs.declared.entry.Entry.{Entry}
+use Rattle.journal_laws.proofs.Cited.{◌≡◌, ℕ, Bool, false, cond, List, [], ◌∷◌, ◌++◌, Option, refl, sym, ◌∙◌, ap, subst, inl, inr}
+use Rattle.journal_laws.proofs.Cited.{append_assoc, append-nil, eq-eqb, ne_eqb, eqb_tells, Entry, Reply, BoardView, TransferView, Asks}
+use Rattle.journal_laws.proofs.Cited.{WalkTree, Ends, walk_for, seen, first_act, rest_of, caller_of, replies, Everywhere, current, now}
+use Rattle.journal_laws.proofs.Cited.{is_due, Tells, TellsNext, outcome_of, walk_left, Step, deed_next, step_next, replies_in, steps_in}
+use Rattle.journal_laws.proofs.Cited.{Leads, AreWalks, none, whole, front, settled-told, reply_at, replies_first}
 use Rattle.i2c_base.specs.declared.entry.Entry.TheVariants as entry
-use Rattle.i2c_base.specs.declared.reply.Reply.{Reply}
-use Rattle.i2c_base.specs.Board.{BoardView}
-use Rattle.i2c_base.specs.Transfer.{TransferView}
-use Rattle.i2c_spec.specs.History.{Asks}
-use Rattle.bus_spec.specs.Walk.{WalkTree, Ends}
-use Rattle.bus_spec.specs.Grammar.{walk_for, seen, first_act, rest_of}
-use Rattle.bus_spec.specs.Readings.{caller_of, replies, Everywhere}
-use Rattle.bus_spec.specs.Past.{current, now, is_due}
-use Rattle.bus_spec.specs.Tells.{Tells}
-use Rattle.bus_spec.specs.Stepwise.{TellsNext}
-use Rattle.bus_spec.specs.Places.{outcome_of, walk_left}
-use Rattle.bus_spec.specs.ByTree.{Step, deed_next, step_next, replies_in, steps_in}
-use Rattle.flat_laws.specs.Led.{Leads, AreWalks, none, whole, front, AreAllWalks}
-use Rattle.bus_laws.proofs.past.Asked.{settled-told}
-use Rattle.flat_laws.proofs.past.Walks.{reply_at, replies_first, replies_more}
+use Rattle.flat_laws.specs.Led.{AreAllWalks}
+use Rattle.flat_laws.proofs.past.Walks.{replies_more}
 use Rattle.journal_laws.proofs.past.Follow.{at_hand, Follow, under-way, begins, walks-follow}
 use Rattle.journal_laws.proofs.past.Places.{walk-left}
 
@@ -37,7 +25,8 @@ module _ (b : BoardView) (asks : List Reply → Option TransferView) where
 
   pub replies_shift : (rs : List Reply) (s : Step) (ss : List Step) → (rs ++ reply_at s.entry) ++ replies_in ss ≡ rs ++ replies_in (s ∷ ss)
   replies_shift rs s ss =
-      append_assoc rs (reply_at s.entry) (replies_in ss) ∙ ap (λ (xs : List Reply). rs ++ xs) (sym (replies_first s.before s.deed s.entry ss))
+      append_assoc rs (reply_at s.entry) (replies_in ss) ∙ ap (λ (xs : List Reply). rs ++ xs)
+      (sym (replies_first s.before s.deed s.entry ss))
 
   behind_last : (rs : List Reply) (w : WalkTree) (ss : List Step) (s : Step)
       → walk_behind rs w (ss ++ s ∷ []) ≡ rest_of (seen s.before.slot (hand_behind rs w ss)) (outcome_of s.entry)

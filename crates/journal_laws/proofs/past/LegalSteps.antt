@@ -1,36 +1,20 @@
 -- A legal past is stepwise, and so are its prefixes, which are legal where no settle is due after them. The inductions
 -- go over the entries.
-use Rattle.std.proofs.Common.{◌≡◌, ℕ, ◌<◌, true, false, List, [], ◌∷◌, ◌++◌, Option, Some, None, refl, sym, ◌∙◌, ap, subst, ◌⊎◌, inl, inr}
+use Rattle.journal_laws.proofs.Cited.{◌≡◌, ℕ, ◌<◌, true, false, List, [], ◌∷◌, ◌++◌, Option, Some, None, refl, sym, ◌∙◌, ap, subst, ◌⊎◌}
+use Rattle.journal_laws.proofs.Cited.{inl, inr, eqb_tells, Entry, Reply, Cut, BoardView, TransferView, IsTree, IsPlainBoard, MeetsRules}
+use Rattle.journal_laws.proofs.Cited.{Asks, changed_at, caller_of, replies, Everywhere, Now, now, is_due, TellsNext, reply_by, May}
+use Rattle.journal_laws.proofs.Cited.{IsStepwise, IsPlaced, SettleAt, KeepsSettles, IsLegal, LinesAreLocked, AsksForMessages}
+use Rattle.journal_laws.proofs.Cited.{AsksWithinLimits, at_same, at_other, past-stands, holder-told, cut-told, settles-kept, lines-locked}
+use Rattle.journal_laws.proofs.Cited.{replies-kept, legal-with, walks-led, same_Some}
 use Rattle.std.specs.Option.{option_and_then}
-use Rattle.std.proofs.lemmas.Bool.Decides.{eqb_tells}
-use Rattle.i2c_base.specs.declared.entry.Entry.{Entry}
 use Rattle.i2c_base.specs.declared.entry.Entry.TheVariants as entry
-use Rattle.i2c_base.specs.declared.reply.Reply.{Reply}
-use Rattle.i2c_base.specs.declared.reply.Cut.{Cut}
-use Rattle.i2c_base.specs.Board.{BoardView}
-use Rattle.i2c_base.specs.Transfer.{TransferView}
-use Rattle.i2c_spec.specs.TreeFacts.{IsTree}
-use Rattle.i2c_spec.specs.Plain.{IsPlainBoard}
-use Rattle.i2c_spec.specs.Rules.{MeetsRules}
-use Rattle.i2c_spec.specs.History.{Asks, History, history, one_more, with_told, changed_at}
+use Rattle.i2c_spec.specs.History.{History, history, one_more, with_told}
 use Rattle.i2c_spec.specs.Flat.{flat}
-use Rattle.bus_spec.specs.Readings.{caller_of, replies, order, Everywhere}
-use Rattle.bus_spec.specs.Past.{Now, now, is_due}
-use Rattle.bus_spec.specs.Stepwise.{TellsNext, reply_by, May, IsStepwise}
-use Rattle.bus_spec.specs.Legal.{LocksAt, KeepsLocks, IsPlaced, SettleAt, KeepsSettles, KeepsReplies, IsLegal}
-use Rattle.bus_laws.specs.Lines.{LinesAreLocked}
-use Rattle.bus_laws.specs.Reach.{AsksForMessages, AsksWithinLimits}
-use Rattle.bus_laws.proofs.past.StandsStep.{at_same, at_other}
-use Rattle.bus_laws.proofs.past.Laws.{past-stands, holder-told}
-use Rattle.bus_laws.proofs.past.Placed.{cut-told, settles-kept}
+use Rattle.bus_spec.specs.Readings.{order}
+use Rattle.bus_spec.specs.Legal.{LocksAt, KeepsLocks, KeepsReplies}
 use Rattle.journal_laws.specs.Layers.{BelongsTo}
-use Rattle.bus_laws.proofs.world.LineFacts.{lines-locked}
-use Rattle.flat_laws.proofs.device.Law.{replies-kept}
 use Rattle.journal_laws.proofs.past.Layers.{own_replies, other_replies, walks-tell, walks-due}
 use Rattle.journal_laws.proofs.past.Due.{IsDue, IsParted, due-told, tells-due, parts, stays-parted}
-use Rattle.flat_laws.proofs.past.Legal.{legal-with}
-use Rattle.flat_laws.proofs.walk.Rule.{walks-led}
-use Rattle.std.proofs.lemmas.Option.{same_Some}
 use Rattle.bus_laws.proofs.tree.Falls.{is_below_all}
 
 -- THE REPLIES of a prefix are those of its history
@@ -184,7 +168,8 @@ module _ (b : BoardView) (tree : IsTree b) (plain : IsPlainBoard b) (lines : Lin
 
   pub legal-steps : (past : List Entry) → IsLegal b callers asks past → IsStepwise b callers asks past
   legal-steps past legal =
-      steps_of past legal.known legal.locks (walks-tell b asks past (walks-led b asks past legal.walks)) legal.settles (whole_parts past legal) legal.replies_kept
+      steps_of past legal.known legal.locks (walks-tell b asks past (walks-led b asks past legal.walks)) legal.settles
+      (whole_parts past legal) legal.replies_kept
 
   pub legal-due : (past : List Entry) → IsLegal b callers asks past → (now b asks past).due ≡ None
   legal-due past legal = by (now b asks past).due refl

@@ -1,27 +1,16 @@
 -- A mark stays until a close of the marked mux was sent without failing, and until then no message goes through a mux on
 -- its bus. The inductions go over the marks of one step, and over the entries.
-use Rattle.std.proofs.Common.{◌≡◌, ℕ, zero, suc, Bool, true, false, cond, List, [], ◌∷◌, ◌++◌, Option, Some, None, refl, sym, ◌∙◌, ap, subst, ◌⊎◌, inl, inr}
-use Rattle.std.proofs.lemmas.Bool.Decides.{eqb_tells}
-use Rattle.i2c_base.specs.declared.ids.LockId.{LockId}
-use Rattle.i2c_base.specs.declared.entry.Entry.{Entry}
+use Rattle.journal_laws.proofs.Cited.{◌≡◌, ℕ, zero, suc, Bool, true, false, cond, List, [], ◌∷◌, ◌++◌, Option, Some, None, refl, sym, ◌∙◌}
+use Rattle.journal_laws.proofs.Cited.{ap, subst, ◌⊎◌, inl, inr, eqb_tells, LockId, Entry, BoardView, Hop, hops, IsAmongHops, IsTree}
+use Rattle.journal_laws.proofs.Cited.{IsPlainBoard, Asks, Mark, Job, Call, Select, SwitchOff, Off, Deselect, Close, off_bus, Act, Send}
+use Rattle.journal_laws.proofs.Cited.{Shift, job_bus, is_arbitrator, Slots, At, MuxSlot, Clean, Marked, mark_in, first_act, first_note}
+use Rattle.journal_laws.proofs.Cited.{OfMessage, caller_of, Now, current, now, mark, mark_among, mark_after, mark_sent, mark_lined, mark_by}
+use Rattle.journal_laws.proofs.Cited.{is_cut, IsNext, IsStepwise, FindsSelect, IsOfMux, MayFail, LinesAreLocked, AsksForMessages, sends}
+use Rattle.journal_laws.proofs.Cited.{shifts}
 use Rattle.i2c_base.specs.declared.entry.Entry.TheVariants as entry
-use Rattle.i2c_base.specs.Board.{BoardView}
-use Rattle.i2c_spec.specs.Tree.{Hop, hops, IsAmongHops}
-use Rattle.i2c_spec.specs.TreeFacts.{IsTree}
-use Rattle.i2c_spec.specs.Plain.{IsPlainBoard}
-use Rattle.i2c_spec.specs.History.{Asks}
-use Rattle.bus_spec.specs.Walk.{Mark, Job, Call, Select, SwitchOff, Off, Deselect, Close, off_bus, Act, Send, Shift, job_bus, is_arbitrator}
-use Rattle.bus_spec.specs.Slots.{Slots, At, MuxSlot, Clean, Marked, Polled, Found, mark_in}
-use Rattle.bus_spec.specs.Grammar.{first_act, first_note}
-use Rattle.bus_spec.specs.Readings.{OfMessage, caller_of}
-use Rattle.bus_spec.specs.Past.{Now, current, now, mark}
-use Rattle.bus_spec.specs.Places.{mark_among, mark_after, mark_sent, mark_lined, mark_by, is_cut}
-use Rattle.bus_spec.specs.Stepwise.{IsNext, IsStepwise}
-use Rattle.bus_laws.specs.Runs.{FindsPoll, FindsSelect, FindsOpen, IsOfMux, MayFail}
-use Rattle.bus_laws.specs.Lines.{LinesAreLocked}
-use Rattle.bus_laws.specs.Reach.{AsksForMessages}
+use Rattle.bus_spec.specs.Slots.{Polled, Found}
+use Rattle.bus_laws.specs.Runs.{FindsPoll, FindsOpen}
 use Rattle.bus_laws.proofs.tree.Slots.{marked_slot}
-use Rattle.bus_laws.proofs.past.Laws.{sends, shifts}
 use Rattle.journal_laws.specs.Faulty.{Closes, HasClosed, NoneCloses, PassesBy}
 use Rattle.journal_laws.proofs.past.Places.{mark-left}
 

@@ -1,32 +1,18 @@
 -- Two entries of one caller that may come at the same place are the same, where the same calls of the ports fail in what
 -- comes of them. No induction.
-use Rattle.std.proofs.Common.{◌≡◌, ℕ, zero, suc, ◌+◌, ◌<◌, Bool, true, false, List, [], ◌∷◌, ◌++◌, length, length-append, append-nil, append_assoc, Option, Some, None, refl, sym, ◌∙◌, ap, subst, inl, inr, arith}
-use Rattle.std.specs.List.{AllByRecursion}
-use Rattle.std.proofs.lemmas.Bool.Decides.{eqb_tells, leb_tells}
-use Rattle.i2c_base.specs.declared.ids.Node.{Node}
-use Rattle.i2c_base.specs.declared.entry.End.{End}
+use Rattle.journal_laws.proofs.Cited.{◌≡◌, ℕ, zero, suc, ◌+◌, ◌<◌, Bool, true, false, List, [], ◌∷◌, ◌++◌, length, length-append}
+use Rattle.journal_laws.proofs.Cited.{append-nil, append_assoc, Option, Some, None, refl, sym, ◌∙◌, ap, subst, inl, inr, arith}
+use Rattle.journal_laws.proofs.Cited.{AllByRecursion, eqb_tells, leb_tells, Node, End, Entry, PortCall, BoardView, root_of, MessageView}
+use Rattle.journal_laws.proofs.Cited.{World, TalkTold, world_listener, talk, block_limit, Asks, Job, Act, Take, Free, Send, Shift, Settle}
+use Rattle.journal_laws.proofs.Cited.{job_bus, message_of, is_last, line_mux, line_level, first_act, first_note, MessageEntry, caller_of}
+use Rattle.journal_laws.proofs.Cited.{Now, current, step, cut_of, talk_of, line_call, sent_by, lined_by, heard_list, HearsIn, TellsMessage}
+use Rattle.journal_laws.proofs.Cited.{May, IsNext, reply_by, at_same, Does, does-next}
 use Rattle.i2c_base.specs.declared.entry.End.TheVariants as end
-use Rattle.i2c_base.specs.declared.entry.Entry.{Entry}
 use Rattle.i2c_base.specs.declared.entry.Entry.TheVariants as entry
-use Rattle.i2c_base.specs.declared.port.PortCall.{PortCall}
 use Rattle.i2c_base.specs.declared.port.PortCall.TheVariants as call
-use Rattle.i2c_base.specs.Board.{BoardView}
-use Rattle.i2c_spec.specs.Tree.{root_of}
-use Rattle.i2c_spec.specs.Messages.{MessageView}
-use Rattle.i2c_spec.specs.World.{World}
-use Rattle.i2c_spec.specs.Conversation.{TalkTold, world_listener, talk}
-use Rattle.i2c_spec.specs.Flat.{block_limit}
-use Rattle.i2c_spec.specs.History.{Asks}
-use Rattle.bus_spec.specs.Walk.{Job, Act, Take, Free, Send, Shift, Settle, job_bus, message_of, is_last, line_mux, line_level}
-use Rattle.bus_spec.specs.Grammar.{first_act, first_note}
-use Rattle.bus_spec.specs.Readings.{MessageEntry, caller_of}
-use Rattle.bus_spec.specs.Past.{Now, current, step, cut_of, talk_of, line_call, sent_by, lined_by}
-use Rattle.bus_spec.specs.Tells.{heard_list, HearsIn, TellsMessage}
-use Rattle.bus_spec.specs.Stepwise.{May, IsNext, reply_by}
 use Rattle.journal_laws.proofs.past.CutTalks.{Went, BreaksOff, IsFront, talk-front}
-use Rattle.bus_laws.proofs.past.StandsStep.{at_same}
 use Rattle.journal_laws.proofs.past.Failures.{number_of, number-older, number-of, none-failed, went-older}
-use Rattle.bus_laws.proofs.past.Known.{message_entry, Does, does-next}
+use Rattle.bus_laws.proofs.past.Known.{message_entry}
 
 -- in the logs that come of an entry a call of this root failed
 abbrev pub Logs : Type 0

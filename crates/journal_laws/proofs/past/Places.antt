@@ -1,20 +1,15 @@
 -- The fold over a past has each reading of a place: what a caller's walk has left, and the mark of each bus. The induction
 -- goes over the entries.
-use Rattle.std.proofs.Common.{◌≡◌, ℕ, zero, suc, Bool, true, false, cond, eqb, List, [], ◌∷◌, Option, Some, None, refl, sym, ◌∙◌, ap, inl, inr}
-use Rattle.std.proofs.lemmas.Bool.Decides.{eqb_tells}
-use Rattle.i2c_base.specs.declared.entry.End.{End}
+use Rattle.journal_laws.proofs.Cited.{◌≡◌, ℕ, zero, suc, Bool, true, false, cond, eqb, List, [], ◌∷◌, Option, Some, None, refl, sym, ◌∙◌}
+use Rattle.journal_laws.proofs.Cited.{ap, inl, inr, eqb_tells, End, Entry, BoardView, Hop, Asks, changed_at, Mark, Job, Call, Select}
+use Rattle.journal_laws.proofs.Cited.{SwitchOff, off_bus, off_mux, Act, Take, Free, Send, Shift, Settle, ActOutcome, Passed, Sent, Lined}
+use Rattle.journal_laws.proofs.Cited.{Note, WalkTree, Slots, At, MuxSlot, Clean, Marked, mark_in, set_marks, polled_slot, turned, after_job}
+use Rattle.journal_laws.proofs.Cited.{first_act, first_note, rest_of, caller_of, Now, now, current, mark, sent_by, lined_by, walk_left}
+use Rattle.journal_laws.proofs.Cited.{mark_among, mark_after, mark_sent, mark_lined, mark_by, is_cut}
 use Rattle.i2c_base.specs.declared.entry.End.TheVariants as end
-use Rattle.i2c_base.specs.declared.entry.Entry.{Entry}
 use Rattle.i2c_base.specs.declared.entry.Entry.TheVariants as entry
-use Rattle.i2c_base.specs.Board.{BoardView}
-use Rattle.i2c_spec.specs.Tree.{Hop}
-use Rattle.i2c_spec.specs.History.{Asks, changed_at}
-use Rattle.bus_spec.specs.Walk.{Mark, Job, Call, Select, SwitchOff, off_bus, off_mux, Act, Take, Free, Send, Shift, Settle, ActOutcome, Passed, Sent, Lined, Note, WalkTree}
-use Rattle.bus_spec.specs.Slots.{Slots, At, MuxSlot, Clean, Marked, mark_in, set_marks, polled_slot, select_told, turned_at, turned, after_job}
-use Rattle.bus_spec.specs.Grammar.{first_act, first_note, rest_of}
-use Rattle.bus_spec.specs.Readings.{caller_of}
-use Rattle.bus_spec.specs.Past.{Now, now, current, mark, sent_by, lined_by}
-use Rattle.bus_spec.specs.Places.{walk_left, mark_among, mark_after, mark_sent, mark_lined, mark_by, mark_left, is_cut}
+use Rattle.bus_spec.specs.Slots.{select_told, turned_at}
+use Rattle.bus_spec.specs.Places.{mark_left}
 use Rattle.bus_laws.proofs.past.Marks.{poll_unmarked}
 
 -- a caller's walk

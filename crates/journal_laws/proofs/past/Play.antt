@@ -1,50 +1,28 @@
 -- What play adds may come where it does, and what may come is what play adds. The inductions go over the calls of a
 -- message, and over the words.
-use Rattle.std.proofs.Common.{◌≡◌, ℕ, zero, suc, ◌+◌, ◌-◌, ◌<◌, ◌≤◌, ◌≢◌, nat_lt, arith, find, Bool, true, false, cond, eqb, ◌||◌, List, [], ◌∷◌, length, reverse, Option, Some, None, refl, sym, ◌∙◌, ap, subst, ◌⊎◌, inl, inr}
-use Rattle.std.specs.Prelude.{slice_get}
-use Rattle.std.specs.List.{range_with_len, AllByRecursion}
-use Rattle.std.proofs.lemmas.Bool.Decides.{eqb_tells}
+use Rattle.journal_laws.proofs.Cited.{◌≡◌, ℕ, zero, suc, ◌+◌, ◌-◌, ◌<◌, ◌≤◌, ◌≢◌, nat_lt, arith, Bool, true, false, cond, eqb, ◌||◌, List}
+use Rattle.journal_laws.proofs.Cited.{[], ◌∷◌, length, reverse, Option, Some, None, refl, sym, ◌∙◌, ap, subst, ◌⊎◌, inl, inr, slice_get}
+use Rattle.journal_laws.proofs.Cited.{range_with_len, AllByRecursion, eqb_tells, Errno, Answer, LockId, Node, PortCall, End, Entry, Reply}
+use Rattle.journal_laws.proofs.Cited.{Cut, Purpose, BoardView, root_of, IsTree, IsPlainBoard, MessageView, World, hearers, Listener, Said}
+use Rattle.journal_laws.proofs.Cited.{TalkTold, world_listener, is_it, silence, say, with_byte, told, call_then, ended, puts, gets}
+use Rattle.journal_laws.proofs.Cited.{gets_counted, by_answer, talk, block_limit, Asks, Job, Call, Select, SwitchOff, off_mux, Act, Take}
+use Rattle.journal_laws.proofs.Cited.{Free, Send, Shift, Settle, job_bus, job_purpose, part_of, parts_of, line_level, message_of, is_last}
+use Rattle.journal_laws.proofs.Cited.{first_act, Now, current, now, step, cut_of, talk_of, MessageEntry, caller_of, HearsIn, heard_list}
+use Rattle.journal_laws.proofs.Cited.{TellsMessage, IsNext, May, IsStepwise, reply_by, Failing, played, LinesAreLocked, AsksForMessages}
+use Rattle.journal_laws.proofs.Cited.{who_hears, chip_where, call-reaches, control-switches, takes-below, is_it-some, same_Some}
+use Rattle.std.proofs.Common.{find}
 use Rattle.std.proofs.lemmas.List.{reverse-reverse}
-use Rattle.i2c_base.specs.declared.errno.Errno.{Errno}
-use Rattle.i2c_base.specs.declared.event.Answer.{Answer}
 use Rattle.i2c_base.specs.declared.event.Answer.TheVariants as answer
-use Rattle.i2c_base.specs.declared.ids.LockId.{LockId}
-use Rattle.i2c_base.specs.declared.ids.Node.{Node}
-use Rattle.i2c_base.specs.declared.port.PortCall.{PortCall}
 use Rattle.i2c_base.specs.declared.port.PortCall.TheVariants as call
-use Rattle.i2c_base.specs.declared.entry.End.{End}
 use Rattle.i2c_base.specs.declared.entry.End.TheVariants as end
-use Rattle.i2c_base.specs.declared.entry.Entry.{Entry}
 use Rattle.i2c_base.specs.declared.entry.Entry.TheVariants as entry
-use Rattle.i2c_base.specs.declared.reply.Reply.{Reply}
-use Rattle.i2c_base.specs.declared.reply.Cut.{Cut}
-use Rattle.i2c_base.specs.declared.entry.Purpose.{Purpose}
-use Rattle.i2c_base.specs.Board.{BoardView}
-use Rattle.i2c_spec.specs.Tree.{root_of}
-use Rattle.i2c_spec.specs.TreeFacts.{IsTree}
-use Rattle.i2c_spec.specs.Plain.{IsPlainBoard}
-use Rattle.i2c_spec.specs.Messages.{MessageView}
-use Rattle.i2c_spec.specs.World.{World, hearers}
-use Rattle.i2c_spec.specs.Conversation.{Listener, Said, TalkTold, world_listener, is_it, silence, say, with_byte, told, call_then, ended, puts, gets, gets_counted, data_of, by_answer, talk}
-use Rattle.i2c_spec.specs.Flat.{block_limit}
-use Rattle.i2c_spec.specs.History.{Asks}
-use Rattle.bus_spec.specs.Walk.{Job, Call, Select, SwitchOff, off_mux, Act, Take, Free, Send, Shift, Settle, job_bus, job_purpose, part_of, parts_of, line_level, message_of, is_last}
-use Rattle.bus_spec.specs.Grammar.{first_act}
-use Rattle.bus_spec.specs.Past.{Now, opening, current, now, step, cut_of, talk_of}
-use Rattle.bus_spec.specs.Readings.{MessageEntry, caller_of}
-use Rattle.bus_spec.specs.Tells.{HearsIn, heard_list, TellsMessage}
-use Rattle.bus_spec.specs.Stepwise.{IsNext, May, IsStepwise, reply_by}
-use Rattle.bus_spec.specs.Play.{Failing, heard_in, played_talk, talk_in, next_failing, message_entry, take_if, entry_by, next_entry, Played, add, add_due, play_one, play, played}
-use Rattle.bus_laws.specs.Lines.{LinesAreLocked}
-use Rattle.bus_laws.specs.Reach.{AsksForMessages}
-use Rattle.bus_laws.specs.Next.{who_hears, chip_where}
-use Rattle.bus_laws.proofs.past.Next.{call-reaches, control-switches}
-use Rattle.bus_laws.proofs.past.Ready.{takes-below}
+use Rattle.i2c_spec.specs.Conversation.{data_of}
+use Rattle.bus_spec.specs.Past.{opening}
+use Rattle.bus_spec.specs.Play.{heard_in, played_talk, talk_in, next_failing, message_entry, take_if, entry_by, next_entry, Played, add}
+use Rattle.bus_spec.specs.Play.{add_due, play_one, play}
 use Rattle.journal_laws.specs.Layers.{FailsAs}
 use Rattle.journal_laws.proofs.past.GoesOn.{message-may}
 use Rattle.journal_laws.proofs.past.Due.{due-told, due-known, due-settles}
-use Rattle.i2c_spec.proofs.MessageLemmas.{is_it-some}
-use Rattle.std.proofs.lemmas.Option.{same_Some}
 
 -- A MESSAGE that a call cuts off ends so, or it is as if no call failed
 module _ (l : Listener World) (cut : Option ℕ) where

@@ -1,21 +1,11 @@
 -- The world of each root is the opening one after the calls that the journal tells. The induction goes over the entries.
-use Rattle.std.proofs.Common.{◌≡◌, ℕ, Bool, cond, List, [], ◌∷◌, ◌++◌, reverse, Option, Some, None, refl, sym, ◌∙◌, ap, subst, inl, inr}
-use Rattle.std.proofs.lemmas.List.{reverse-append}
-use Rattle.std.proofs.lemmas.Bool.Decides.{eqb_tells}
-use Rattle.i2c_base.specs.declared.port.PortCall.{PortCall}
-use Rattle.i2c_base.specs.declared.entry.End.{End}
-use Rattle.i2c_base.specs.declared.entry.Entry.{Entry}
+use Rattle.journal_laws.proofs.Cited.{◌≡◌, ℕ, Bool, cond, List, [], ◌∷◌, ◌++◌, reverse, Option, Some, None, refl, sym, ◌∙◌, ap, subst, inl}
+use Rattle.journal_laws.proofs.Cited.{inr, reverse-append, eqb_tells, PortCall, End, Entry, BoardView, root_of, MessageView, World}
+use Rattle.journal_laws.proofs.Cited.{world_listener, talk, block_limit, Asks, changed_at, Act, Take, Free, Send, Shift, Settle, Note}
+use Rattle.journal_laws.proofs.Cited.{job_bus, message_of, is_last, first_act, first_note, Now, current, now, talk_of, sent_by, lined_by}
+use Rattle.journal_laws.proofs.Cited.{line_call, cut_of}
 use Rattle.i2c_base.specs.declared.entry.Entry.TheVariants as entry
-use Rattle.i2c_base.specs.Board.{BoardView}
-use Rattle.i2c_spec.specs.Tree.{root_of}
-use Rattle.i2c_spec.specs.Messages.{MessageView}
-use Rattle.i2c_spec.specs.World.{World, after, after_all, opening_world}
-use Rattle.i2c_spec.specs.Conversation.{world_listener, talk}
-use Rattle.i2c_spec.specs.Flat.{block_limit}
-use Rattle.i2c_spec.specs.History.{Asks, changed_at}
-use Rattle.bus_spec.specs.Walk.{Act, Take, Free, Send, Shift, Settle, Note, job_bus, message_of, is_last}
-use Rattle.bus_spec.specs.Grammar.{first_act, first_note}
-use Rattle.bus_spec.specs.Past.{Now, current, now, talk_of, sent_by, lined_by, line_call, cut_of}
+use Rattle.i2c_spec.specs.World.{after, after_all, opening_world}
 use Rattle.bus_laws.proofs.world.TalkLaws.{talk-tells}
 
 after_all-append : (w : World) (xs ys : List PortCall) → after_all w (xs ++ ys) ≡ after_all (after_all w xs) ys

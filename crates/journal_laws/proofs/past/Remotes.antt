@@ -1,37 +1,21 @@
 -- One call that fails makes at most one reply EREMOTEIO. The induction goes over the entries.
-use Rattle.std.proofs.Common.{◌≡◌, ◌≢◌, ℕ, zero, suc, ◌+◌, ◌≤◌, ◌<◌, ◌&&◌, eqb, length, Bool, true, false, cond, List, [], ◌∷◌, Some, None, refl, sym, ◌∙◌, ap, subst, ◌⊎◌, inl, inr, arith}
-use Rattle.std.proofs.lemmas.Bool.{eq-eqb, ne_eqb}
-use Rattle.std.proofs.lemmas.Bool.Decides.{eqb_tells}
+use Rattle.journal_laws.proofs.Cited.{◌≡◌, ◌≢◌, ℕ, zero, suc, ◌+◌, ◌≤◌, ◌<◌, ◌&&◌, eqb, length, Bool, true, false, cond, List, [], ◌∷◌}
+use Rattle.journal_laws.proofs.Cited.{Some, None, refl, sym, ◌∙◌, ap, subst, ◌⊎◌, inl, inr, arith, eq-eqb, ne_eqb, eqb_tells}
+use Rattle.journal_laws.proofs.Cited.{range_with_len, Entry, Reply, Cut, BoardView, buses, root_of, home_of_mux, IsTree, IsPlainBoard, Asks}
+use Rattle.journal_laws.proofs.Cited.{Job, Call, Select, SwitchOff, off_mux, Send, job_bus, first_act, caller_of, cut_told, last_cut, now}
+use Rattle.journal_laws.proofs.Cited.{calls_of, is_due, is_cut, IsNext, IsStepwise, LinesAreLocked, AsksForMessages, call-reaches, cut-told}
+use Rattle.journal_laws.proofs.Cited.{count_if, faults_in, is_failed, failed_on, failures, remotes, sends}
 use Rattle.std.proofs.lemmas.List.Sums.{sum_by-cons}
-use Rattle.std.specs.List.{sum_by, range_with_len}
+use Rattle.std.specs.List.{sum_by}
 use Rattle.i2c_base.specs.declared.errno.Errno.TheVariants as errno
-use Rattle.i2c_base.specs.declared.entry.Entry.{Entry}
 use Rattle.i2c_base.specs.declared.entry.Entry.TheVariants as entry
-use Rattle.i2c_base.specs.declared.reply.Reply.{Reply}
 use Rattle.i2c_base.specs.declared.reply.Reply.TheVariants as reply
-use Rattle.i2c_base.specs.declared.reply.Cut.{Cut}
 use Rattle.i2c_base.specs.declared.reply.Cut.TheVariants as cut
-use Rattle.i2c_base.specs.Board.{BoardView}
-use Rattle.i2c_spec.specs.Tree.{buses, root_of, home_of_mux}
-use Rattle.i2c_spec.specs.TreeFacts.{IsTree}
-use Rattle.i2c_spec.specs.Plain.{IsPlainBoard}
-use Rattle.i2c_spec.specs.History.{Asks}
-use Rattle.bus_spec.specs.Walk.{Job, Call, Select, SwitchOff, off_mux, Send, job_bus}
-use Rattle.bus_spec.specs.Grammar.{first_act}
-use Rattle.bus_spec.specs.Readings.{caller_of, cut_told, last_cut, is_on_root}
-use Rattle.bus_spec.specs.Past.{now, calls_of, is_due}
-use Rattle.bus_spec.specs.Places.{is_cut}
-use Rattle.bus_spec.specs.Stepwise.{IsNext, IsStepwise}
-use Rattle.bus_laws.specs.Lines.{LinesAreLocked}
-use Rattle.bus_laws.specs.Reach.{AsksForMessages}
+use Rattle.bus_spec.specs.Readings.{is_on_root}
 use Rattle.bus_laws.proofs.past.Marks.{home_there}
-use Rattle.bus_laws.proofs.past.Next.{call-reaches}
-use Rattle.bus_laws.proofs.past.Placed.{cut-told}
-use Rattle.bus_spec.specs.Faults.{count_if, faults_in}
-use Rattle.journal_laws.specs.Counts.{is_failed, failed_on, failures, has_remote, remotes}
+use Rattle.journal_laws.specs.Counts.{has_remote}
 use Rattle.journal_laws.proofs.past.Due.{by-due}
 use Rattle.journal_laws.proofs.past.Counts.{counts-kept}
-use Rattle.bus_laws.proofs.past.Laws.{sends}
 use Rattle.journal_laws.proofs.past.Cuts.{cut-is, cut-at, failed-says, failed-due}
 
 -- the test of a reply

@@ -1,30 +1,21 @@
 -- A journal that keeps the rules where they are told without a walk tree keeps them where they are told by it: what each entry is
 -- said to do is the next step of its caller's walk. The inductions go over the steps and the entries.
-use Rattle.std.proofs.Common.{◌≡◌, ℕ, Bool, true, false, cond, List, [], ◌∷◌, ◌++◌, map, reverse, Option, Some, refl, sym, ◌∙◌, ap, subst, inl, inr, append_assoc, append-nil}
-use Rattle.std.proofs.lemmas.Bool.{eq-eqb, ne_eqb}
-use Rattle.std.proofs.lemmas.Bool.Decides.{eqb_tells}
+use Rattle.journal_laws.proofs.Cited.{◌≡◌, ℕ, Bool, true, false, cond, List, [], ◌∷◌, ◌++◌, reverse, Option, Some, refl, sym, ◌∙◌, ap}
+use Rattle.journal_laws.proofs.Cited.{subst, inl, inr, append_assoc, append-nil, eq-eqb, ne_eqb, eqb_tells, Entry, Reply, BoardView}
+use Rattle.journal_laws.proofs.Cited.{TransferView, root_of, Asks, Act, ActOutcome, WalkTree, Ends, Look, Then, Slots, walk_for, seen}
+use Rattle.journal_laws.proofs.Cited.{is_over, rest_of, OfMessage, caller_of, Now, current, now, calls_of, transfer_at, outcome_of, Deed}
+use Rattle.journal_laws.proofs.Cited.{Step, deed_next, step_next, AreTransfers, steps_in, Stand, IsLegal, IsRuled, reply_at, walk-path}
+use Rattle.journal_laws.proofs.Cited.{front-path}
+use Rattle.std.proofs.Common.{map}
 use Rattle.std.proofs.lemmas.List.{map_push}
-use Rattle.i2c_base.specs.declared.entry.Entry.{Entry}
 use Rattle.i2c_base.specs.declared.entry.Entry.TheVariants as entry
-use Rattle.i2c_base.specs.declared.reply.Reply.{Reply}
-use Rattle.i2c_base.specs.Board.{BoardView}
-use Rattle.i2c_base.specs.Transfer.{TransferView}
-use Rattle.i2c_spec.specs.Tree.{root_of}
-use Rattle.i2c_spec.specs.History.{Asks}
-use Rattle.bus_spec.specs.Walk.{Act, ActOutcome, WalkTree, Ends, Look, Then}
-use Rattle.bus_spec.specs.Slots.{Slots}
-use Rattle.bus_spec.specs.Grammar.{walk_for, seen, is_over, rest_of}
-use Rattle.bus_spec.specs.Readings.{OfMessage, caller_of}
-use Rattle.bus_spec.specs.Past.{Now, current, now, world_at, calls_of}
-use Rattle.bus_spec.specs.Places.{transfer_at, outcome_of}
-use Rattle.bus_spec.specs.WalkRule.{Deed, PathStep, Saw, Did}
-use Rattle.bus_spec.specs.ByTree.{Step, deed_next, step_next, TellsAct, AreTold, AreTransfers, no_more, one_more, under_way, steps_in}
-use Rattle.bus_spec.specs.Stand.{Stand, stand_behind, stand, calls_by}
-use Rattle.bus_spec.specs.Legal.{IsReached, is_forced, Reaches, IsLegal}
-use Rattle.bus_spec.specs.Ruled.{SaysAct, Doing, doings_in, replies_said, AreSaid, AreDone, nothing, transfer, begun, ReachesBy, IsRuled}
+use Rattle.bus_spec.specs.Past.{world_at}
+use Rattle.bus_spec.specs.WalkRule.{PathStep, Saw, Did}
+use Rattle.bus_spec.specs.ByTree.{TellsAct, AreTold, no_more, one_more, under_way}
+use Rattle.bus_spec.specs.Stand.{stand_behind, stand, calls_by}
+use Rattle.bus_spec.specs.Legal.{IsReached, is_forced, Reaches}
+use Rattle.bus_spec.specs.Ruled.{SaysAct, Doing, doings_in, replies_said, AreSaid, AreDone, nothing, transfer, begun, ReachesBy}
 use Rattle.flat_laws.specs.Paths.{IsPath}
-use Rattle.flat_laws.proofs.past.Walks.{reply_at}
-use Rattle.flat_laws.proofs.walk.Rule.{walk-path, front-path}
 use Rattle.flat_laws.proofs.walk.Ruled.{stand_of, doing_of, step-stands, replies-said}
 use Rattle.journal_laws.proofs.past.Follow.{at_hand, begins}
 use Rattle.journal_laws.proofs.past.Layers.{walk_behind, hand_behind, replies_shift, hand, walk_steps}
@@ -181,7 +172,8 @@ module _ (b : BoardView) (asks : Asks) where
       last c = step_next n (current b asks n c) e
 
       own_steps_is : (c : ℕ) → caller_of e ≡ c → steps_in b asks c (e ∷ past) ≡ steps_in b asks c past ++ last c ∷ []
-      own_steps_is c is = ap (λ (t : Bool). cond t (steps_in b asks c past ++ last c ∷ []) (steps_in b asks c past)) (eq-eqb (caller_of e) c is)
+      own_steps_is c is = ap (λ (t : Bool). cond t (steps_in b asks c past ++ last c ∷ []) (steps_in b asks c past))
+          (eq-eqb (caller_of e) c is)
 
       one_more_same : Same (d ∷ deeds) (e ∷ past)
       one_more_same =
@@ -190,7 +182,8 @@ module _ (b : BoardView) (asks : Asks) where
                 ∙ ap (λ (x : Deed). stand_behind b (stand_of n) x e) deed_is ∙ sym (step-stands b asks n e);
             doings = λ c. elim (eqb_tells (caller_of e) c) [
               | inl h ↦ own_said c h.1 ∙ ap (λ (xs : List Doing). xs ++ said ∷ []) (same.doings c)
-                  ∙ ap (λ (s : Stand). map doing_of (steps_in b asks c past) ++ (record { before = s; deed = d; entry = e }) ∷ []) same.stands
+                  ∙ ap (λ (s : Stand). map doing_of (steps_in b asks c past) ++ (record { before = s; deed = d; entry = e })
+                  ∷ []) same.stands
                   ∙ ap (λ (x : Deed). map doing_of (steps_in b asks c past) ++ (record { before = stand_of n; deed = x; entry = e }) ∷ [])
                   (deed_is ∙ ap (λ (i : ℕ). deed_next (current b asks n i)) h.1)
                   ∙ sym (map_push doing_of (steps_in b asks c past) (last c))

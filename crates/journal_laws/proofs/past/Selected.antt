@@ -1,36 +1,22 @@
 -- Each message goes through muxes that are selected: a mux that keeps a channel was selected last with the hop of that channel,
 -- by the caller that switched it last. The inductions go over the entries.
-use Rattle.std.proofs.Common.{◌≡◌, ℕ, zero, suc, Bool, true, false, cond, not, ◌&&◌, eqb, List, [], ◌∷◌, Option, Some, None, refl, sym, ◌∙◌, ap, subst, inl, inr}
-use Rattle.std.proofs.lemmas.Bool.Decides.{eqb_tells}
-use Rattle.i2c_base.specs.declared.ids.LockId.{LockId}
+use Rattle.journal_laws.proofs.Cited.{◌≡◌, ℕ, zero, suc, Bool, true, false, cond, not, ◌&&◌, eqb, List, [], ◌∷◌, Option, Some, None, refl}
+use Rattle.journal_laws.proofs.Cited.{sym, ◌∙◌, ap, subst, inl, inr, eqb_tells, LockId, End, Entry, Purpose, BoardView, TransferView, Hop}
+use Rattle.journal_laws.proofs.Cited.{hops, root_of, home_of_mux, IsAmongHops, IsTree, IsHop, IsPlainBoard, world_listener, is_good}
+use Rattle.journal_laws.proofs.Cited.{block_limit, Asks, Mark, Job, Call, Select, SwitchOff, Off, off_mux, Act, job_bus, job_purpose}
+use Rattle.journal_laws.proofs.Cited.{message_of, is_last, line_mux, line_level, Slots, Clean, Marked, mark_in, first_act, first_note}
+use Rattle.journal_laws.proofs.Cited.{OfMessage, holder, Now, current, now, kept_channel, cut_of, channel_opened, channel_written, switches}
+use Rattle.journal_laws.proofs.Cited.{kept_left, IsStepwise, MaySend, MayShift, InLocks, LinesAreLocked, AsksForMessages, talk-writes}
+use Rattle.journal_laws.proofs.Cited.{past-stands, holder-told, sends, shifts}
 use Rattle.i2c_base.specs.declared.ids.LockId.TheVariants as lock
-use Rattle.i2c_base.specs.declared.entry.End.{End}
 use Rattle.i2c_base.specs.declared.entry.End.TheVariants as end
-use Rattle.i2c_base.specs.declared.entry.Entry.{Entry}
 use Rattle.i2c_base.specs.declared.entry.Entry.TheVariants as entry
-use Rattle.i2c_base.specs.declared.entry.Purpose.{Purpose}
-use Rattle.i2c_base.specs.Board.{BoardView}
-use Rattle.i2c_base.specs.Transfer.{TransferView}
-use Rattle.i2c_spec.specs.Tree.{Hop, hops, root_of, home_of_mux, IsAmongHops}
-use Rattle.i2c_spec.specs.TreeFacts.{IsTree, IsHop}
-use Rattle.i2c_spec.specs.Plain.{IsPlainBoard}
-use Rattle.i2c_spec.specs.Conversation.{world_listener, is_good}
-use Rattle.i2c_spec.specs.Flat.{block_limit}
-use Rattle.i2c_spec.specs.History.{Asks}
-use Rattle.bus_spec.specs.Walk.{Mark, Job, Call, Select, SwitchOff, Off, off_mux, Act, job_bus, job_purpose, message_of, is_last, line_mux, line_level}
-use Rattle.bus_spec.specs.Slots.{Slots, Clean, Marked, mark_in}
-use Rattle.bus_spec.specs.Grammar.{first_act, first_note}
-use Rattle.bus_spec.specs.Readings.{OfMessage, holder}
-use Rattle.bus_spec.specs.Past.{Now, current, now, kept_channel, cut_of}
-use Rattle.bus_spec.specs.Places.{channel_opened, channel_written, switches, switched_by, kept_left}
-use Rattle.bus_spec.specs.Stepwise.{IsStepwise}
-use Rattle.bus_laws.specs.Runs.{IsOpenOn, MaySend, MayShift, InLocks}
-use Rattle.bus_laws.specs.Lines.{LinesAreLocked}
-use Rattle.bus_laws.specs.Reach.{AsksForMessages, KeepsItsChannel}
-use Rattle.bus_laws.proofs.world.TalkThrough.{talk-writes}
-use Rattle.bus_laws.proofs.past.Laws.{past-stands, holder-told, sends, shifts}
+use Rattle.bus_spec.specs.Places.{switched_by}
+use Rattle.bus_laws.specs.Runs.{IsOpenOn}
+use Rattle.bus_laws.specs.Reach.{KeepsItsChannel}
 use Rattle.bus_laws.proofs.past.Closed.{closed-kept}
-use Rattle.journal_laws.specs.Selected.{Selected, selected_after, selected_sent, selected_lined, selected_left, IsSelectedFor, GoesThroughSelected}
+use Rattle.journal_laws.specs.Selected.{Selected, selected_after, selected_sent, selected_lined, selected_left, IsSelectedFor}
+use Rattle.journal_laws.specs.Selected.{GoesThroughSelected}
 use Rattle.journal_laws.proofs.past.Kept.{sent_told, lined_told, TellsWritten, select_channel, close_channel, kept-reads}
 
 -- this select is one of channel c of mux m, by the caller that switched the mux last

@@ -1,29 +1,11 @@
 -- No caller spends more than its transfers cost, and no walk more than its own. The induction goes over the entries.
-use Rattle.std.proofs.Common.{◌≡◌, ℕ, ◌+◌, ◌*◌, ◌≤◌, Bool, true, false, cond, List, [], ◌∷◌, ◌++◌, length, Option, Some, None, eqb, refl, sym, ◌∙◌, ap, subst, inl, inr, arith, append_assoc}
-use Rattle.std.specs.Option.{option_map_or}
-use Rattle.std.proofs.lemmas.Bool.{eq-eqb}
-use Rattle.std.proofs.lemmas.Bool.Decides.{eqb_tells}
-use Rattle.i2c_base.specs.declared.entry.Entry.{Entry}
-use Rattle.i2c_base.specs.declared.reply.Reply.{Reply}
-use Rattle.i2c_base.specs.Board.{BoardView}
-use Rattle.i2c_base.specs.Transfer.{TransferView}
-use Rattle.i2c_spec.specs.TreeFacts.{IsTree}
-use Rattle.i2c_spec.specs.Rules.{MeetsRules}
-use Rattle.i2c_spec.specs.Cost.{cost_of}
-use Rattle.i2c_spec.specs.History.{Asks}
-use Rattle.bus_spec.specs.Walk.{WalkTree, Ends}
-use Rattle.bus_spec.specs.Grammar.{seen, is_over, first_act}
-use Rattle.bus_spec.specs.Readings.{caller_of, replies}
-use Rattle.bus_spec.specs.Past.{Now, begun, now, step}
-use Rattle.bus_spec.specs.Places.{transfer_at}
-use Rattle.bus_spec.specs.Stepwise.{May, IsStepwise}
-use Rattle.bus_laws.specs.Reach.{AsksForMessages}
-use Rattle.bus_laws.specs.Settles.{Settles}
-use Rattle.journal_laws.specs.Spent.{Count, one_entry, its_bytes, its_calls, of_caller, of_walk, whose_walk, cost_at, cost_from, IsWithinCost}
-use Rattle.bus_laws.proofs.past.StandsFacts.{over_ends}
-use Rattle.bus_laws.proofs.past.Asked.{settled-told}
-use Rattle.bus_laws.proofs.past.Known.{never}
-use Rattle.bus_laws.proofs.past.Others.{IsUntouched, entry-elsewhere}
+use Rattle.journal_laws.proofs.Cited.{◌≡◌, ℕ, ◌+◌, ◌*◌, ◌≤◌, Bool, true, false, cond, List, [], ◌∷◌, ◌++◌, length, Option, Some, None, eqb}
+use Rattle.journal_laws.proofs.Cited.{refl, sym, ◌∙◌, ap, subst, inl, inr, arith, append_assoc, option_map_or, eq-eqb, eqb_tells, Entry}
+use Rattle.journal_laws.proofs.Cited.{Reply, BoardView, TransferView, IsTree, MeetsRules, cost_of, Asks, WalkTree, Ends, seen, is_over}
+use Rattle.journal_laws.proofs.Cited.{first_act, caller_of, replies, Now, begun, now, step, transfer_at, May, IsStepwise, AsksForMessages}
+use Rattle.journal_laws.proofs.Cited.{Settles, Count, one_entry, its_bytes, its_calls, of_caller, cost_at, cost_from, IsWithinCost}
+use Rattle.journal_laws.proofs.Cited.{over_ends, settled-told, never, IsUntouched, entry-elsewhere}
+use Rattle.journal_laws.specs.Spent.{of_walk, whose_walk}
 use Rattle.journal_laws.proofs.past.Budgets.{IsBudget, IsPaid, budget-begins, budget-pays}
 
 -- what the transfers cost that are settled, and the one behind

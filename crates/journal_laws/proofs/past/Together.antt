@@ -1,36 +1,19 @@
 -- All callers together spend no more than what they have left at the beginning. The inductions go over the entries, and
 -- over the callers.
-use Rattle.std.proofs.Common.{◌≡◌, ℕ, zero, suc, ◌+◌, ◌*◌, ◌<◌, ◌≤◌, Bool, true, false, cond, List, [], ◌∷◌, ◌++◌, length, length-append, reverse, Option, Some, None, eqb, refl, sym, ap, subst, inl, inr, arith}
-use Rattle.std.specs.Option.{option_map_or}
-use Rattle.std.proofs.lemmas.Bool.Decides.{eqb_tells}
-use Rattle.std.proofs.lemmas.List.{length-reverse}
-use Rattle.i2c_base.specs.declared.entry.End.{End}
-use Rattle.i2c_base.specs.declared.entry.Entry.{Entry}
+use Rattle.journal_laws.proofs.Cited.{◌≡◌, ℕ, zero, suc, ◌+◌, ◌*◌, ◌<◌, ◌≤◌, Bool, true, false, cond, List, [], ◌∷◌, ◌++◌, length}
+use Rattle.journal_laws.proofs.Cited.{length-append, reverse, Option, Some, None, eqb, refl, sym, ap, subst, inl, inr, arith, option_map_or}
+use Rattle.journal_laws.proofs.Cited.{eqb_tells, length-reverse, End, Entry, PortCall, Reply, BoardView, Fits, TransferView, root_of}
+use Rattle.journal_laws.proofs.Cited.{IsTree, MeetsRules, cost_of, Asks, changed_at, Act, Take, Free, Send, Shift, Settle, Note, job_bus}
+use Rattle.journal_laws.proofs.Cited.{first_act, first_note, caller_of, replies, Now, current, now, talk_of, line_call, sent_by, lined_by}
+use Rattle.journal_laws.proofs.Cited.{IsStepwise, Turn, turns, turn_of, IsPlaced, KeepsSettles, AsksForMessages, Count, one_entry}
+use Rattle.journal_laws.proofs.Cited.{its_bytes, its_calls, bytes_in, calls_for, of_caller, cost_at, cost_from, IsWithinCost, KeepsFits}
+use Rattle.journal_laws.proofs.Cited.{settles-kept, entry_known}
 use Rattle.i2c_base.specs.declared.entry.Entry.TheVariants as entry
 use Rattle.i2c_base.specs.declared.errno.Errno.TheVariants as errno
-use Rattle.i2c_base.specs.declared.port.PortCall.{PortCall}
-use Rattle.i2c_base.specs.declared.reply.Reply.{Reply}
 use Rattle.i2c_base.specs.declared.reply.Reply.TheVariants as reply
-use Rattle.i2c_base.specs.Board.{BoardView}
-use Rattle.i2c_base.specs.Fitting.{Fits}
-use Rattle.i2c_base.specs.Transfer.{TransferView}
-use Rattle.i2c_spec.specs.Tree.{root_of}
-use Rattle.i2c_spec.specs.TreeFacts.{IsTree}
-use Rattle.i2c_spec.specs.Rules.{MeetsRules}
-use Rattle.i2c_spec.specs.Cost.{cost_of}
-use Rattle.i2c_spec.specs.History.{Asks, changed_at}
-use Rattle.bus_spec.specs.Walk.{Act, Take, Free, Send, Shift, Settle, Note, job_bus}
-use Rattle.bus_spec.specs.Grammar.{first_act, first_note}
-use Rattle.bus_spec.specs.Readings.{caller_of, replies}
-use Rattle.bus_spec.specs.Past.{Now, current, now, talk_of, line_call, sent_by, lined_by}
-use Rattle.bus_spec.specs.Stepwise.{IsStepwise}
-use Rattle.bus_spec.specs.Schedule.{Turn, turns, turn_of, with_entry, joins}
-use Rattle.bus_spec.specs.Legal.{IsPlaced, KeepsSettles}
-use Rattle.bus_laws.specs.Reach.{AsksForMessages}
-use Rattle.journal_laws.specs.Spent.{Count, one_entry, its_bytes, its_calls, bytes_in, calls_for, of_caller, cost_at, cost_from, IsWithinCost, KeepsFits, CoversCosts, sum_below, all_bytes, AreWithin}
-use Rattle.bus_laws.proofs.past.Placed.{settles-kept}
+use Rattle.bus_spec.specs.Schedule.{with_entry, joins}
+use Rattle.journal_laws.specs.Spent.{CoversCosts, sum_below, all_bytes, AreWithin}
 use Rattle.journal_laws.proofs.past.Fits.{fits-kept}
-use Rattle.bus_laws.proofs.past.Known.{entry_known}
 use Rattle.journal_laws.proofs.past.Spent.{cost_more, caller-spends}
 
 -- WHAT IS LEFT of a caller's own bound covers what its transfers cost

@@ -1,38 +1,21 @@
 -- Two journals that follow one schedule, and in which the same calls of the ports failed, are the same. The inductions go
 -- over the words of the schedule, and over the steps after the last word.
-use Rattle.std.proofs.Common.{◌≡◌, ◌↔◌, ℕ, ◌<◌, ◌≤◌, Bool, true, false, not, cond, List, [], ◌∷◌, ◌++◌, Option, Some, None, refl, sym, ◌∙◌, ap, subst, inl, inr, append_assoc, arith}
+use Rattle.journal_laws.proofs.Cited.{◌≡◌, ℕ, ◌<◌, ◌≤◌, Bool, true, false, not, cond, List, [], ◌∷◌, ◌++◌, Option, Some, None, refl, sym}
+use Rattle.journal_laws.proofs.Cited.{◌∙◌, ap, subst, inl, inr, append_assoc, arith, eqb_tells, leb_tells, LockId, Entry, PortCall}
+use Rattle.journal_laws.proofs.Cited.{BoardView, TransferView, End, root_of, IsTree, IsPlainBoard, Asks, changed_at, Act, Take, Free, Send}
+use Rattle.journal_laws.proofs.Cited.{Shift, Settle, Note, WalkTree, job_bus, seen, is_over, first_act, first_note, caller_of, holder, Now}
+use Rattle.journal_laws.proofs.Cited.{begun, current, now, step, is_due, talk_of, line_call, sent_by, lined_by, May, IsNext, IsStepwise}
+use Rattle.journal_laws.proofs.Cited.{Turn, turns, is_ready, is_settle, past_after, FollowsRest, FollowsWords, Follows, IsComplete}
+use Rattle.journal_laws.proofs.Cited.{LinesAreLocked, AsksForMessages, CanGoOn, ahead, IsTurn, Comes, after_all, at_same, at_other}
+use Rattle.journal_laws.proofs.Cited.{past-stands, holder-told, settled-told, IsDueBehind, due-made, Does, does-next, never, entry_known}
+use Rattle.std.proofs.Common.{◌↔◌}
 use Rattle.std.specs.Prelude.{reverse, MatchBool, ◌==◌}
 use Rattle.std.specs.List.{find}
-use Rattle.std.proofs.lemmas.Bool.Decides.{eqb_tells, leb_tells}
-use Rattle.i2c_base.specs.declared.ids.LockId.{LockId}
-use Rattle.i2c_base.specs.declared.entry.Entry.{Entry}
 use Rattle.i2c_base.specs.declared.entry.Entry.TheVariants as entry
-use Rattle.i2c_base.specs.declared.port.PortCall.{PortCall}
-use Rattle.i2c_base.specs.Board.{BoardView}
-use Rattle.i2c_base.specs.Transfer.{TransferView}
-use Rattle.i2c_base.specs.declared.entry.End.{End}
-use Rattle.i2c_spec.specs.Tree.{root_of}
-use Rattle.i2c_spec.specs.TreeFacts.{IsTree}
-use Rattle.i2c_spec.specs.Plain.{IsPlainBoard}
-use Rattle.i2c_spec.specs.History.{Asks, changed_at}
-use Rattle.bus_spec.specs.Walk.{Act, Take, Free, Send, Shift, Settle, Note, WalkTree, job_bus}
-use Rattle.bus_spec.specs.Grammar.{seen, is_over, first_act, first_note}
-use Rattle.bus_spec.specs.Readings.{caller_of, holder}
-use Rattle.bus_spec.specs.Past.{Now, begun, current, now, step, is_due, talk_of, line_call, sent_by, lined_by}
 use Rattle.bus_spec.specs.Failures.{FailAlike}
-use Rattle.bus_spec.specs.Stepwise.{May, IsNext, IsStepwise}
-use Rattle.bus_spec.specs.Schedule.{Turn, turns, waits_for, is_taken, is_ready, is_settle, past_after, FollowsRest, FollowsWords, Follows}
-use Rattle.bus_spec.specs.Legal.{is_stepping, IsComplete}
-use Rattle.bus_laws.specs.Lines.{LinesAreLocked}
-use Rattle.bus_laws.specs.Reach.{AsksForMessages}
-use Rattle.bus_laws.specs.Ready.{CanGoOn}
-use Rattle.bus_laws.specs.Others.{ahead}
-use Rattle.bus_laws.specs.Coming.{IsOne, IsTwo, IsTurn, Comes, after_all}
-use Rattle.bus_laws.proofs.past.StandsStep.{at_same, at_other}
-use Rattle.bus_laws.proofs.past.Laws.{past-stands, holder-told}
-use Rattle.bus_laws.proofs.past.Asked.{settled-told}
-use Rattle.bus_laws.proofs.past.Placed.{IsDueBehind, due-made}
-use Rattle.bus_laws.proofs.past.Known.{Does, does-next, never, entry_known}
+use Rattle.bus_spec.specs.Schedule.{waits_for, is_taken}
+use Rattle.bus_spec.specs.Legal.{is_stepping}
+use Rattle.bus_laws.specs.Coming.{IsOne, IsTwo}
 use Rattle.journal_laws.proofs.past.GoesOn.{goes-on-or-stuck}
 use Rattle.journal_laws.proofs.past.OneEntry.{Logs, FailIn, GoOnFrom, one-entry}
 use Rattle.bus_laws.proofs.schedule.Coming.{ready_by, turn-leaves, first_of, stuck-waits, turn-ready, word-made, word-passed}

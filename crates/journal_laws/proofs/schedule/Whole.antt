@@ -1,30 +1,13 @@
 -- A journal in which no settle is due is its steps, one after the other, and none is due between them. The induction goes
 -- over the entries.
-use Rattle.std.proofs.Common.{◌≡◌, ℕ, Bool, true, false, cond, List, [], ◌∷◌, ◌++◌, Option, Some, None, refl, sym, ◌∙◌, ap, subst, inl, inr, append_assoc}
+use Rattle.journal_laws.proofs.Cited.{◌≡◌, ℕ, Bool, true, false, cond, List, [], ◌∷◌, ◌++◌, Option, Some, None, refl, sym, ◌∙◌, ap, subst}
+use Rattle.journal_laws.proofs.Cited.{inl, inr, append_assoc, Errno, Entry, BoardView, TransferView, IsTree, IsPlainBoard, refusal, Asks}
+use Rattle.journal_laws.proofs.Cited.{Settle, walk_by, seen, is_over, first_act, caller_of, Now, begun, now, is_due, May, IsNext}
+use Rattle.journal_laws.proofs.Cited.{IsStepwise, Turn, turns, turn_of, past_after, is_settle, LinesAreLocked, AsksForMessages, NoSettle}
+use Rattle.journal_laws.proofs.Cited.{ahead, IsTurn, Comes, after_all, walk-starts, IsDueBehind, past-due, due-made, starts_seen, no_settle}
 use Rattle.std.specs.Prelude.{reverse}
 use mathlib.Core.List.{reverse-cons}
-use Rattle.i2c_base.specs.declared.errno.Errno.{Errno}
-use Rattle.i2c_base.specs.declared.entry.Entry.{Entry}
 use Rattle.i2c_base.specs.declared.entry.Entry.TheVariants as entry
-use Rattle.i2c_base.specs.Board.{BoardView}
-use Rattle.i2c_base.specs.Transfer.{TransferView}
-use Rattle.i2c_spec.specs.TreeFacts.{IsTree}
-use Rattle.i2c_spec.specs.Plain.{IsPlainBoard}
-use Rattle.i2c_spec.specs.Flat.{refusal}
-use Rattle.i2c_spec.specs.History.{Asks}
-use Rattle.bus_spec.specs.Walk.{Settle}
-use Rattle.bus_spec.specs.Grammar.{walk_by, seen, is_over, first_act}
-use Rattle.bus_spec.specs.Readings.{caller_of}
-use Rattle.bus_spec.specs.Past.{Now, begun, now, is_due}
-use Rattle.bus_spec.specs.Stepwise.{May, IsNext, IsStepwise}
-use Rattle.bus_spec.specs.Schedule.{Turn, turns, turn_of, past_after, is_settle}
-use Rattle.bus_laws.specs.Lines.{LinesAreLocked}
-use Rattle.bus_laws.specs.Reach.{AsksForMessages}
-use Rattle.bus_laws.specs.Settles.{NoSettle}
-use Rattle.bus_laws.specs.Others.{ahead}
-use Rattle.bus_laws.specs.Coming.{IsTurn, Comes, after_all}
-use Rattle.bus_laws.proofs.walk.SettleLaw.{walk-starts}
-use Rattle.bus_laws.proofs.past.Placed.{IsDueBehind, past-due, due-made, starts_seen, no_settle}
 use Rattle.bus_laws.proofs.schedule.Turns.{turns-more}
 
 -- these steps come, and no settle is due after any of them

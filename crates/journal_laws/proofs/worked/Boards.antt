@@ -1,22 +1,21 @@
 -- The small boards of the worked examples are accepted ones, and their transfers within the limits.
-use Rattle.std.proofs.Common.{◌≡◌, ℕ, Bool, true, false, Some, reverse, ◌<◌, ◌≤◌, List, [], ◌∷◌, length, refl, arith, ◌&&◌, leb, nat_lt}
-use Rattle.std.specs.List.{AllByRecursion}
-use Rattle.std.proofs.lemmas.Bool.{and_parts, leb-true, ltb-true}
+use Rattle.journal_laws.proofs.Cited.{◌≡◌, ℕ, Bool, true, false, Some, reverse, ◌<◌, ◌≤◌, List, [], ◌∷◌, length, refl, arith, ◌&&◌, nat_lt}
+use Rattle.journal_laws.proofs.Cited.{AllByRecursion, and_parts, ltb-true, BoardView, MuxSpec, MuxKind, Pca9548, IsTransfer, buses}
+use Rattle.journal_laws.proofs.Cited.{IsPlainBoard, MeetsRules}
+use Rattle.std.proofs.Common.{leb}
+use Rattle.std.proofs.lemmas.Bool.{leb-true}
 use Rattle.i2c_base.specs.Addr.{IsTargetAddress}
 use Rattle.i2c_base.specs.Limits.{FIRST_ADDRESS, LAST_ADDRESS}
-use Rattle.i2c_base.specs.Board.{BoardView, DeviceView}
+use Rattle.i2c_base.specs.Board.{DeviceView}
 use Rattle.i2c_base.specs.Bytes.{IsByte}
-use Rattle.i2c_base.specs.declared.board.MuxSpec.{MuxSpec}
-use Rattle.i2c_base.specs.declared.board.MuxKind.{MuxKind}
-use Rattle.i2c_base.specs.declared.board.MuxKind.TheVariants.{Pca9548, Pca9546}
+use Rattle.i2c_base.specs.declared.board.MuxKind.TheVariants.{Pca9546}
 use Rattle.i2c_base.specs.declared.board.LockMode.{LockMode}
 use Rattle.i2c_base.specs.declared.board.LockMode.TheVariants.{Parent, Mux}
 use Rattle.i2c_base.specs.declared.board.Idle.{Idle}
 use Rattle.i2c_base.specs.declared.board.Idle.TheVariants.{Disconnect, AsIs}
-use Rattle.i2c_base.specs.Transfer.{IsMessage, IsTransfer}
-use Rattle.i2c_spec.specs.Tree.{buses}
-use Rattle.i2c_spec.specs.Plain.{FitsChannels, FitsChip, FitsForeign, IsPlanted, IsPlainBoard, IsPlainMux, IsPlainDevice, IsPlainRun}
-use Rattle.i2c_spec.specs.Rules.{MeetsRules, clashes, items, is_too_deep, is_locked_under, is_wrongly_locked, breaks_idle}
+use Rattle.i2c_base.specs.Transfer.{IsMessage}
+use Rattle.i2c_spec.specs.Plain.{FitsChannels, FitsChip, FitsForeign, IsPlanted, IsPlainMux, IsPlainDevice, IsPlainRun}
+use Rattle.i2c_spec.specs.Rules.{clashes, items, is_too_deep, is_locked_under, is_wrongly_locked, breaks_idle}
 use Rattle.bus_spec.specs.Rows as row
 use Rattle.journal_laws.proofs.worked.Checks.{none_of, none-of, no_pair, no-pair, all-each}
 

@@ -1,18 +1,14 @@
 -- Tests that are computed on a small board, its scripts and its schedule, each with the fact that it shows. The inductions
 -- go over numbers, transfers and steps.
-use Rattle.std.proofs.Common.{◌≡◌, ℕ, zero, suc, ◌<◌, ◌≢◌, nat_lt, Bool, true, false, not, ◌&&◌, cond, eqb, List, [], ◌∷◌, length, Some, None, ◌∙◌, ap, subst, inl, inr, arith, All}
-use Rattle.std.specs.Prelude.{slice_get}
+use Rattle.journal_laws.proofs.Cited.{◌≡◌, ℕ, zero, suc, ◌<◌, ◌≢◌, nat_lt, Bool, true, false, not, ◌&&◌, cond, eqb, List, [], ◌∷◌, length}
+use Rattle.journal_laws.proofs.Cited.{Some, None, ◌∙◌, ap, subst, inl, inr, arith, slice_get, list_all, AllByRecursion, and_parts, ltb-true}
+use Rattle.journal_laws.proofs.Cited.{eqb_tells, Entry, Reply, TransferView, transfers_of, Turn, turns, is_ready, past_after, FollowsRest}
+use Rattle.journal_laws.proofs.Cited.{FollowsWords, Follows}
+use Rattle.std.proofs.Common.{All}
 use Rattle.std.specs.Bool.{MatchBool}
-use Rattle.std.specs.List.{list_all, AllByRecursion}
 use Rattle.std.proofs.lemmas.List.Elements.{All-cons, All-nil}
-use Rattle.std.proofs.lemmas.Bool.{and_parts, eqb-true, ltb-true, not-true}
-use Rattle.std.proofs.lemmas.Bool.Decides.{eqb_tells}
-use Rattle.i2c_base.specs.declared.entry.Entry.{Entry}
-use Rattle.i2c_base.specs.declared.reply.Reply.{Reply}
-use Rattle.i2c_base.specs.Transfer.{TransferView}
+use Rattle.std.proofs.lemmas.Bool.{eqb-true, not-true}
 use Rattle.i2c_spec.specs.Rules.{NoPair, NoneOf}
-use Rattle.bus_spec.specs.Play.{transfers_of}
-use Rattle.bus_spec.specs.Schedule.{Turn, turns, is_ready, past_after, FollowsRest, FollowsWords, Follows}
 
 -- none of these numbers passes a test
 abbrev pub none_of : (ℕ → Bool) → ℕ → Bool

@@ -1,24 +1,10 @@
 -- A journal that is played is worked out, where its callers are through and it follows the schedule.
-use Rattle.std.proofs.Common.{◌≡◌, ℕ, ◌<◌, nat_lt, true, List, [], length, reverse, None, subst}
-use Rattle.std.specs.List.{list_all, AllByRecursion}
-use Rattle.i2c_base.specs.declared.entry.Entry.{Entry}
-use Rattle.i2c_base.specs.Board.{BoardView}
-use Rattle.i2c_base.specs.Transfer.{TransferView, IsTransfer}
-use Rattle.i2c_spec.specs.TreeFacts.{IsTree}
-use Rattle.i2c_spec.specs.Plain.{IsPlainBoard}
-use Rattle.i2c_spec.specs.Rules.{MeetsRules}
-use Rattle.bus_spec.specs.Past.{now}
-use Rattle.bus_spec.specs.Play.{Failing, played, transfers_of}
-use Rattle.bus_spec.specs.Schedule.{turns}
-use Rattle.bus_spec.specs.Stepwise.{IsStepwise}
-use Rattle.bus_laws.specs.Lines.{LinesAreLocked}
-use Rattle.bus_laws.specs.Reach.{AsksForMessages, AsksWithinLimits}
-use Rattle.bus_laws.proofs.world.LineFacts.{lines-locked}
-use Rattle.flat_laws.specs.Ends.{IsDone}
+use Rattle.journal_laws.proofs.Cited.{◌≡◌, ℕ, ◌<◌, nat_lt, true, List, [], length, reverse, None, subst, list_all, AllByRecursion, Entry}
+use Rattle.journal_laws.proofs.Cited.{BoardView, TransferView, IsTransfer, IsTree, IsPlainBoard, MeetsRules, now, Failing, played}
+use Rattle.journal_laws.proofs.Cited.{transfers_of, turns, IsStepwise, LinesAreLocked, AsksForMessages, AsksWithinLimits, lines-locked}
+use Rattle.journal_laws.proofs.Cited.{IsDone, replies-kept, legal-with}
 use Rattle.journal_laws.specs.Worked.{IsWorkedOut}
-use Rattle.flat_laws.proofs.device.Law.{replies-kept}
 use Rattle.flat_laws.proofs.past.Ends.{complete-then}
-use Rattle.flat_laws.proofs.past.Legal.{legal-with}
 use Rattle.journal_laws.proofs.past.Play.{played-steps}
 use Rattle.journal_laws.proofs.worked.Boards.{IsAccepted}
 use Rattle.journal_laws.proofs.worked.Checks.{all-below, asks-each, follows_words, follows}

@@ -1,5 +1,4 @@
-use Rattle.std.proofs.Common.{◌≡◌, drop}
-use Rattle.addr_atr.specs.Lowering.{are_distinct}
+use Rattle.addr_atr.proofs.Cited.{◌≡◌, drop, are_distinct}
 use Rattle.addr_atr.proofs.check.are_distinct.Given as goal
 
 abbrev pub invariant-loop-index : goal.invariant-loop-index

@@ -1,5 +1,4 @@
-use Rattle.std.proofs.Common.{◌≡◌, [], take, drop}
-use Rattle.addr_atr.specs.Lowering.{fault_after}
+use Rattle.addr_atr.proofs.Cited.{◌≡◌, [], take, drop, fault_after}
 use Rattle.addr_atr.proofs.check.map_fault.Given as goal
 
 abbrev pub invariant-loop-index : goal.invariant-loop-index

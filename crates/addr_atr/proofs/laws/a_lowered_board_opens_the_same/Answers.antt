@@ -1,4 +1,4 @@
-use Rattle.i2c_spec.proofs.AddressLemmas.{tree_of}
+use Rattle.addr_atr.proofs.Cited.{tree_of}
 use Rattle.addr_atr.proofs.OpenLemmas.{lowered-opens}
 use Rattle.addr_atr.proofs.RouteLemmas.{lowered-plain}
 use Rattle.addr_atr.proofs.laws.a_lowered_board_opens_the_same.Goals as goal

@@ -1,4 +1,4 @@
-use Rattle.i2c_spec.proofs.AddressLemmas.{tree_of}
+use Rattle.addr_atr.proofs.Cited.{tree_of}
 use Rattle.addr_atr.proofs.CostLemmas.{translated-root}
 use Rattle.addr_atr.proofs.laws.a_translated_transfer_stays_on_its_root.Goals as goal
 

@@ -1,4 +1,4 @@
-use Rattle.i2c_spec.proofs.AddressLemmas.{tree_of}
+use Rattle.addr_atr.proofs.Cited.{tree_of}
 use Rattle.addr_atr.proofs.OwnLemmas.{own-grant}
 use Rattle.addr_atr.proofs.laws.an_own_address_leads_to_its_device.Goals as goal
 

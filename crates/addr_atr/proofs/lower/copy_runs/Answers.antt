@@ -1,6 +1,4 @@
-use Rattle.std.proofs.Common.{◌∙◌, arith}
-use Rattle.std.proofs.lemmas.List.{take_all}
-use Rattle.i2c_base.proofs.ListLemmas.{one-made}
+use Rattle.addr_atr.proofs.Cited.{◌∙◌, arith, take_all, one-made}
 use Rattle.addr_atr.proofs.lower.copy_runs.Goals as goal
 use mathlib.Core.List.{map-id}
 

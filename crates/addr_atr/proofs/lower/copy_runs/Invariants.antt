@@ -1,5 +1,4 @@
-use Rattle.std.proofs.Common.{vec_capacity, vec_len}
-use Rattle.i2c_base.proofs.ListLemmas.{AreMade}
+use Rattle.addr_atr.proofs.Cited.{vec_capacity, vec_len, AreMade}
 use Rattle.addr_atr.proofs.lower.copy_runs.Given as goal
 
 abbrev pub invariant-loop-run : goal.invariant-loop-run

@@ -1,8 +1,5 @@
-use Rattle.std.proofs.Common.{◌≡◌, ◌∙◌, ap, subst, map}
+use Rattle.addr_atr.proofs.Cited.{◌≡◌, ◌∙◌, ap, subst, map, BoardView, IsPlainBoard, lowered_device}
 use Rattle.std.specs.Prelude.{IfOk}
-use Rattle.i2c_base.specs.Board.{BoardView}
-use Rattle.i2c_spec.specs.Plain.{IsPlainBoard}
-use Rattle.addr_atr.specs.Lowering.{lowered_device}
 use Rattle.addr_atr.proofs.RouteLemmas.{lowered-parts, parts-same}
 use Rattle.addr_atr.proofs.lower.lower.Goals as goal
 

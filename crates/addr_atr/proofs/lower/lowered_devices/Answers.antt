@@ -1,7 +1,4 @@
-use Rattle.std.proofs.Common.{◌∙◌, ap, map, arith}
-use Rattle.std.proofs.lemmas.List.{take_all}
-use Rattle.i2c_base.proofs.ListLemmas.{one-made}
-use Rattle.addr_atr.specs.Lowering.{lowered_device}
+use Rattle.addr_atr.proofs.Cited.{◌∙◌, ap, map, arith, take_all, one-made, lowered_device}
 use Rattle.addr_atr.proofs.lower.lowered_devices.Goals as goal
 
 pub push_reserved-requires : goal.push_reserved-requires

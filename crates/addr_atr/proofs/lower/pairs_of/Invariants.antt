@@ -1,5 +1,4 @@
-use Rattle.std.proofs.Common.{◌≡◌, drop}
-use Rattle.addr_atr.specs.Maps.{pairs_of}
+use Rattle.addr_atr.proofs.Cited.{◌≡◌, drop, pairs_of}
 use Rattle.addr_atr.proofs.lower.pairs_of.Given as goal
 
 abbrev pub invariant-loop-translator : goal.invariant-loop-translator

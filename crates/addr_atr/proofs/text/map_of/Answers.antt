@@ -1,8 +1,4 @@
-use Rattle.std.proofs.Common.{◌∙◌, [], sym, ap, map, length, arith}
-use Rattle.std.proofs.lemmas.List.{length-map}
-use Rattle.i2c_boardtext.specs.Rows.{row_of, rows_of}
-use Rattle.addr_atr.specs.Lowering.{fault_after}
-use Rattle.addr_atr.specs.MapTexts.{translator_value}
+use Rattle.addr_atr.proofs.Cited.{◌∙◌, [], sym, ap, map, length, arith, length-map, row_of, rows_of, fault_after, translator_value}
 use Rattle.addr_atr.proofs.MapTextLemmas.{fault-told, map-told, map-is}
 use Rattle.addr_atr.proofs.text.map_of.Goals as goal
 
@@ -18,7 +14,8 @@ map_fault-requires c =
 pub returns-in-Some-clause-told : goal.returns-in-Some-clause-told
 returns-in-Some-clause-told c =
     let b = c.args.board.now in
-    fault-told b (map translator_value (rows_of c.args.rows.now)) c.deref.result.now c.in-Some.fault (c.deref.ensures.value ∙ c.in_ok-translators.ensures)
+    fault-told b (map translator_value (rows_of c.args.rows.now)) c.deref.result.now c.in-Some.fault
+    (c.deref.ensures.value ∙ c.in_ok-translators.ensures)
     (sym c.map_fault.ensures ∙ c.in-Some.is)
 
 pub returns-in-None-clause-told : goal.returns-in-None-clause-told

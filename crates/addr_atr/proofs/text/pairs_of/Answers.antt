@@ -1,8 +1,4 @@
-use Rattle.std.proofs.Common.{◌∙◌, ap, map, arith}
-use Rattle.std.proofs.lemmas.List.{take_all}
-use Rattle.toml.specs.View.{view}
-use Rattle.i2c_base.proofs.ListLemmas.{one-made}
-use Rattle.addr_atr.specs.MapTexts.{pair_value}
+use Rattle.addr_atr.proofs.Cited.{◌∙◌, ap, map, arith, take_all, view, one-made, pair_value}
 use Rattle.i2c_boardtext.proofs.DataLemmas.{mapped}
 use Rattle.addr_atr.proofs.text.pairs_of.Goals as goal
 

@@ -1,7 +1,4 @@
-use Rattle.std.proofs.Common.{vec_capacity, vec_len}
-use Rattle.toml.specs.View.{view}
-use Rattle.i2c_base.proofs.ListLemmas.{AreMade}
-use Rattle.addr_atr.specs.MapTexts.{pair_value}
+use Rattle.addr_atr.proofs.Cited.{vec_capacity, vec_len, view, AreMade, pair_value}
 use Rattle.addr_atr.proofs.text.pairs_of.Given as goal
 
 abbrev pub invariant-loop-value : goal.invariant-loop-value

@@ -1,10 +1,7 @@
-use Rattle.std.proofs.Common.{◌∙◌, Ok, List, refl, sym, ap, subst}
-use Rattle.toml.specs.View.{table_view}
-use Rattle.i2c_base.specs.Board.{BoardView}
-use Rattle.i2c_spec.specs.Rules.{MeetsRules, TellsBroken}
-use Rattle.addr_atr.specs.Lowering.{lowered}
-use Rattle.addr_atr.specs.MapTexts.{FailsRead, map_in}
-use Rattle.addr_atr.specs.Maps.{TranslatorView}
+use Rattle.addr_atr.proofs.Cited.{◌∙◌, List, refl, sym, ap, subst, table_view, BoardView, MeetsRules, lowered, FailsRead, map_in}
+use Rattle.addr_atr.proofs.Cited.{TranslatorView}
+use Rattle.std.proofs.Common.{Ok}
+use Rattle.i2c_spec.specs.Rules.{TellsBroken}
 use Rattle.addr_atr.proofs.MapTextLemmas.{not-toml, not-map, in-document}
 use Rattle.addr_atr.proofs.text.read_map.Goals as goal
 
@@ -30,7 +27,8 @@ returns-in-Ok-accept c =
         board = ap (λ m. m.board) c.new.ensures;
         told = in-document b c.args.text.now ms c.in-Ok.ensures.ok ∙ told ∙ ap (λ (x : List TranslatorView). Ok x) (sym ts);
         rules =
-            subst MeetsRules (c.in_ok-low.ensures ∙ ap (lowered b) (c.deref.ensures.value ∙ sym ts)) (c.in-Ok-accept.ensures.accepted.0 refl);
+            subst MeetsRules (c.in_ok-low.ensures ∙ ap (lowered b) (c.deref.ensures.value ∙ sym ts))
+            (c.in-Ok-accept.ensures.accepted.0 refl);
       };
     }
 

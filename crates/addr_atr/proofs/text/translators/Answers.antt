@@ -1,7 +1,4 @@
-use Rattle.std.proofs.Common.{◌∙◌, ap, map, arith}
-use Rattle.std.proofs.lemmas.List.{take_all}
-use Rattle.addr_atr.specs.MapTexts.{translator_value}
-use Rattle.i2c_boardtext.specs.Rows.{row_of}
+use Rattle.addr_atr.proofs.Cited.{◌∙◌, ap, map, arith, take_all, translator_value, row_of}
 use Rattle.addr_atr.proofs.MapTextLemmas.{map_both}
 use Rattle.addr_atr.proofs.text.translators.Goals as goal
 

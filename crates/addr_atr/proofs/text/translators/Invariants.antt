@@ -1,7 +1,4 @@
-use Rattle.std.proofs.Common.{vec_capacity, vec_len}
-use Rattle.i2c_base.proofs.ListLemmas.{AreMade}
-use Rattle.addr_atr.specs.MapTexts.{translator_value}
-use Rattle.i2c_boardtext.specs.Rows.{row_of}
+use Rattle.addr_atr.proofs.Cited.{vec_capacity, vec_len, AreMade, translator_value, row_of}
 use Rattle.addr_atr.proofs.text.translators.Given as goal
 
 abbrev pub invariant-loop-value : goal.invariant-loop-value

@@ -1,8 +1,4 @@
-use Rattle.std.proofs.Common.{◌∙◌, sym, ap, arith, ◌-◌}
-use Rattle.bus_clear.specs.Cuts.{MOST_PULSES}
-use Rattle.bus_clear.specs.Pulls.{clear_from}
-use Rattle.i2c_bits.specs.Wiring.{the_table, mask_at}
-use Rattle.ports.specs.Causes.{counted}
+use Rattle.bus_clear.proofs.Cited.{◌∙◌, sym, ap, arith, ◌-◌, MOST_PULSES, clear_from, the_table, mask_at, counted}
 use Rattle.bus_clear.proofs.PullLemmas.{none_left, pulse_up, pulse_low, freed, more_one}
 use Rattle.bus_clear.proofs.clear.make_pulses.Goals as goal
 
@@ -11,8 +7,10 @@ returns-then-pulses-eq-MOST_PULSES-clause-bus g c tells =
     let bus = g.L.Lines.bus in
     let k = g.L.Lines.board c.args.lines.now in
     let i = c.loop-high.invariant in
-    none_left the_table k (MOST_PULSES - c.loop-high.pulses) c.loop-high.pulses (bus c.loop-high.lines) (omega (arith, c.if-pulses-eq-MOST_PULSES.true))
-    ∙ (ap (λ h. clear_from the_table (mask_at k) h (MOST_PULSES - c.loop-high.pulses) c.loop-high.pulses (bus c.loop-high.lines)) (sym c.loop-high-test.true)
+    none_left the_table k (MOST_PULSES - c.loop-high.pulses) c.loop-high.pulses (bus c.loop-high.lines)
+    (omega (arith, c.if-pulses-eq-MOST_PULSES.true))
+    ∙ (ap (λ h. clear_from the_table (mask_at k) h (MOST_PULSES - c.loop-high.pulses) c.loop-high.pulses (bus c.loop-high.lines))
+    (sym c.loop-high-test.true)
     ∙ i.bus tells)
 
 pub returns-in-Err-clause-bus : goal.returns-in-Err-clause-bus
@@ -23,7 +21,8 @@ returns-in-Err-clause-bus g c tells =
     let i = c.loop-high.invariant in
     pulse_low the_table k (board c.loop-high.lines) c.loop-high.pulses (bus c.loop-high.lines) (bus c.pulse.new.lines) i.board
     i.few c.if-pulses-eq-MOST_PULSES.false (c.in-Err.ensures.bus tells)
-    ∙ (ap (λ h. clear_from the_table (mask_at k) h (MOST_PULSES - c.loop-high.pulses) c.loop-high.pulses (bus c.loop-high.lines)) (sym c.loop-high-test.true)
+    ∙ (ap (λ h. clear_from the_table (mask_at k) h (MOST_PULSES - c.loop-high.pulses) c.loop-high.pulses (bus c.loop-high.lines))
+    (sym c.loop-high-test.true)
     ∙ i.bus tells)
 
 pub loop-high-preserved : goal.loop-high-preserved
@@ -35,7 +34,8 @@ loop-high-preserved g c =
     record {
       board = c.in-Ok.ensures.board ∙ i.board;
       bus = λ tells.
-          pulse_up the_table k (board c.loop-high.lines) c.loop-high.pulses (bus c.loop-high.lines) (bus c.pulse.new.lines) i.board c.in-Ok.level
+          pulse_up the_table k (board c.loop-high.lines) c.loop-high.pulses (bus c.loop-high.lines)
+          (bus c.pulse.new.lines) i.board c.in-Ok.level
           i.few c.if-pulses-eq-MOST_PULSES.false (c.in-Ok.ensures.bus tells)
           ∙ (ap (λ h. clear_from the_table (mask_at k) h (MOST_PULSES - c.loop-high.pulses) c.loop-high.pulses (bus c.loop-high.lines))
           (sym c.loop-high-test.true)
@@ -55,5 +55,6 @@ returns-clause-bus g c tells =
     let i = c.loop-high.invariant in
     freed the_table k (board c.loop-high.lines) c.loop-high.pulses (bus c.loop-high.lines) (bus c.start_and_stop.new.lines) i.board
     (MOST_PULSES - c.loop-high.pulses) (c.start_and_stop.ensures.bus tells)
-    ∙ (ap (λ h. clear_from the_table (mask_at k) h (MOST_PULSES - c.loop-high.pulses) c.loop-high.pulses (bus c.loop-high.lines)) (sym c.loop-high-test.false)
+    ∙ (ap (λ h. clear_from the_table (mask_at k) h (MOST_PULSES - c.loop-high.pulses) c.loop-high.pulses (bus c.loop-high.lines))
+    (sym c.loop-high-test.false)
     ∙ i.bus tells)

@@ -1,8 +1,5 @@
-use Rattle.std.proofs.Common.{◌-◌, ◌≡◌, ◌≤◌, IsTrue}
-use Rattle.bus_clear.specs.Clears.{more_pulses}
-use Rattle.bus_clear.specs.Cuts.{MOST_PULSES}
-use Rattle.bus_clear.specs.Pulls.{clear_from}
-use Rattle.i2c_bits.specs.Wiring.{the_table, mask_at, AreLetGo}
+use Rattle.bus_clear.proofs.Cited.{◌-◌, ◌≡◌, ◌≤◌, IsTrue, more_pulses, MOST_PULSES, clear_from, the_table, mask_at}
+use Rattle.i2c_bits.specs.Wiring.{AreLetGo}
 use Rattle.bus_clear.proofs.clear.make_pulses.Given as goal
 
 -- the pulses that are left come to what all of them come to

@@ -1,4 +1,4 @@
-use Rattle.std.proofs.Common.{◌∙◌, arith}
+use Rattle.bus_clear.proofs.Cited.{◌∙◌, arith}
 use Rattle.bus_clear.proofs.ClearLemmas.{level_told, clear_told}
 use Rattle.bus_clear.proofs.cut.clear_cut.Goals as goal
 
@@ -10,7 +10,8 @@ returns-clause-level g c tells =
     c.a_start_on_the_sites_is_one_in_the_world.ensures c.a_get_on_the_sites_is_one_in_the_world.ensures
     c.a_stop_on_the_sites_is_one_in_the_world.ensures (board c.args.lines.now) (bus c.args.lines.now) (c.requires.free tells)
     (c.requires.quiet tells) c.args.addr (omega (arith, c.get.ensures.range.1)) c.args.cut c.requires.cut.0 c.requires.cut.1
-    (board c.look-high.new.self) (c.look-high.ensures.board ∙ c.cut_read.ensures.board) (bus c.cut_read.new.lines) (bus c.look-high.new.self)
+    (board c.look-high.new.self) (c.look-high.ensures.board ∙ c.cut_read.ensures.board) (bus c.cut_read.new.lines)
+    (bus c.look-high.new.self)
     (bus c.clear_bus.new.lines) c.look-high.result.1 c.clear_bus.result (c.cut_read.ensures.bus tells) (c.look-high.ensures.level tells)
     (c.look-high.ensures.bus tells) (c.clear_bus.ensures.bus tells)
 
@@ -22,6 +23,7 @@ returns-clause-told g c tells =
     c.a_start_on_the_sites_is_one_in_the_world.ensures c.a_get_on_the_sites_is_one_in_the_world.ensures
     c.a_stop_on_the_sites_is_one_in_the_world.ensures (board c.args.lines.now) (bus c.args.lines.now) (c.requires.free tells)
     (c.requires.quiet tells) c.args.addr (omega (arith, c.get.ensures.range.1)) c.args.cut c.requires.cut.0 c.requires.cut.1
-    (board c.look-high.new.self) (c.look-high.ensures.board ∙ c.cut_read.ensures.board) (bus c.cut_read.new.lines) (bus c.look-high.new.self)
+    (board c.look-high.new.self) (c.look-high.ensures.board ∙ c.cut_read.ensures.board) (bus c.cut_read.new.lines)
+    (bus c.look-high.new.self)
     (bus c.clear_bus.new.lines) c.look-high.result.1 c.clear_bus.result (c.cut_read.ensures.bus tells) (c.look-high.ensures.level tells)
     (c.look-high.ensures.bus tells) (c.clear_bus.ensures.bus tells)

@@ -1,4 +1,4 @@
-use Rattle.i2c_bits.specs.Wiring.{the_table}
+use Rattle.bus_clear.proofs.Cited.{the_table}
 use Rattle.bus_clear.proofs.PullLemmas.{clock_is}
 use Rattle.bus_clear.proofs.cut.clock.Goals as goal
 

@@ -1,6 +1,4 @@
-use Rattle.std.proofs.Common.{◌∙◌, ap, arith, ◌-◌, ◌+◌, ◌*◌}
-use Rattle.bus_clear.specs.Pulls.{cut_pulls}
-use Rattle.i2c_bits.specs.Wiring.{the_table, mask_at}
+use Rattle.bus_clear.proofs.Cited.{◌∙◌, ap, arith, ◌-◌, ◌+◌, ◌*◌, cut_pulls, the_table, mask_at}
 use Rattle.bus_clear.proofs.PullLemmas.{clock_on, clocks_end, cut_is}
 use Rattle.bus_clear.proofs.cut.cut_read.Goals as goal
 

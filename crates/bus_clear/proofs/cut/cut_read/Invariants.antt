@@ -1,7 +1,4 @@
-use Rattle.std.proofs.Common.{◌-◌, ◌≡◌, ◌≤◌, IsTrue}
-use Rattle.wire_spec.specs.Calls.{start_pulls}
-use Rattle.bus_clear.specs.Pulls.{cut_clocks}
-use Rattle.i2c_bits.specs.Wiring.{the_table, mask_at}
+use Rattle.bus_clear.proofs.Cited.{◌-◌, ◌≡◌, ◌≤◌, IsTrue, start_pulls, cut_clocks, the_table, mask_at}
 use Rattle.bus_clear.proofs.cut.cut_read.Given as goal
 
 -- the clocks that are left come to what all of them come to

@@ -1,5 +1,6 @@
-use Rattle.i2c_spec.specs.Chips.{chip_table, chip_opening}
-use Rattle.i2c_spec.specs.Targets.{state_table, opening_state}
+use Rattle.bus_clear.proofs.Cited.{chip_table, state_table}
+use Rattle.i2c_spec.specs.Chips.{chip_opening}
+use Rattle.i2c_spec.specs.Targets.{opening_state}
 use Rattle.bus_clear.proofs.LawLemmas.{quiet_all}
 use Rattle.bus_clear.proofs.laws.an_opening_world_is_quiet.Goals as goal
 

@@ -1,7 +1,6 @@
-use Rattle.std.proofs.Common.{sym, ap, subst, refl}
+use Rattle.bus_clear.proofs.Cited.{sym, ap, subst, refl, IsQuietWorld, pulses_of}
 use Rattle.i2c_spec.specs.Flat.{block_limit}
 use Rattle.i2c_spec.specs.World.{opening_world}
-use Rattle.bus_clear.specs.Cuts.{IsQuietWorld, pulses_of}
 use Rattle.bus_clear.proofs.LawLemmas.{root_level, root_pulses, root_reply}
 use Rattle.bus_clear.proofs.root.clear_root.Goals as goal
 
@@ -17,13 +16,16 @@ returns c =
     let told = c.clear_cut-high.ensures.told refl in
     record {
       level =
-          root_level old.rooted new.rooted c.clear_cut-high.ensures.board old.bus new.bus c.args.addr c.args.cut (block_limit c.args.board.now) w
+          root_level old.rooted new.rooted c.clear_cut-high.ensures.board old.bus new.bus c.args.addr c.args.cut
+          (block_limit c.args.board.now) w
           c.in_ok-lines.ensures.world c.clear_cut-high.result.high (c.clear_cut-high.ensures.level refl);
       pulses_are = c.pulses_made.ensures (pulses_of w c.args.addr c.args.cut)
-          (root_pulses old.rooted new.rooted c.clear_cut-high.ensures.board old.bus new.bus c.args.addr c.args.cut (block_limit c.args.board.now) w
+          (root_pulses old.rooted new.rooted c.clear_cut-high.ensures.board old.bus new.bus c.args.addr c.args.cut
+          (block_limit c.args.board.now) w
           c.in_ok-lines.ensures.world c.clear_cut-high.result.cleared told);
       reply =
-          root_reply old.rooted new.rooted c.clear_cut-high.ensures.board old.bus new.bus c.args.addr c.args.cut (block_limit c.args.board.now) w
+          root_reply old.rooted new.rooted c.clear_cut-high.ensures.board old.bus new.bus c.args.addr c.args.cut
+          (block_limit c.args.board.now) w
           c.in_ok-lines.ensures.world c.clear_cut-high.result.cleared c.receive.result c.open-port.result.world told
           (ap (λ p. p.world) c.open-port.ensures) (c.receive.ensures.reply refl (block_limit c.args.board.now));
     }

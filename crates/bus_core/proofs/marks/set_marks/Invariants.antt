@@ -1,6 +1,5 @@
-use Rattle.std.proofs.Common.{◌≡◌, drop}
-use Rattle.core_laws.specs.Spots.{seen_of, turned_to}
-use Rattle.bus_core.specs.Marks.{AreHeld, words_after}
+use Rattle.bus_core.proofs.Cited.{◌≡◌, seen_of, turned_to, AreHeld, words_after}
+use Rattle.std.proofs.Common.{drop}
 use Rattle.bus_core.proofs.marks.set_marks.Given as goal
 
 -- the words after what is left are those behind all

@@ -1,14 +1,10 @@
-use Rattle.std.proofs.Common.{◌≡◌, ◌+◌, ◌<◌, ◌≤◌, ℕ, [], ◌∷◌, length, get_or, sym, ◌∙◌, ap, subst, arith, inl, inr}
-use Rattle.std.specs.List.{All}
-use Rattle.std.proofs.lemmas.Bool.Decides.{eqb_tells}
-use Rattle.std.proofs.lemmas.List.{get_or_push, get_or_append_left, length-append}
+use Rattle.bus_core.proofs.Cited.{◌≡◌, ◌+◌, ◌<◌, ◌≤◌, ℕ, [], ◌∷◌, length, get_or, sym, ◌∙◌, ap, subst, arith, inl, inr, All, eqb_tells}
+use Rattle.bus_core.proofs.Cited.{length-append, BoardView, IsPlainBoard, buses, depth, IsDepth}
+use Rattle.std.proofs.lemmas.List.{get_or_push, get_or_append_left}
 use Rattle.std.proofs.lemmas.List.Elements.{All-push}
-use Rattle.i2c_base.specs.Board.{BoardView}
 use Rattle.i2c_board.specs.Layouts.{board_of}
-use Rattle.i2c_spec.specs.Plain.{IsPlainBoard}
-use Rattle.i2c_spec.specs.Tree.{buses, depth, hops}
+use Rattle.i2c_spec.specs.Tree.{hops}
 use Rattle.i2c_spec.proofs.CostLemmas.{hops_few}
-use Rattle.seg_locks.specs.Locks.{IsDepth}
 use Rattle.bus_core.proofs.opening.depths.Goals as goal
 
 pub loop-bus-preserved : goal.loop-bus-preserved

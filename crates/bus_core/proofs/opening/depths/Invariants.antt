@@ -1,8 +1,5 @@
-use Rattle.std.proofs.Common.{◌≡◌, ◌<◌, ◌≤◌, ℕ, length}
-use Rattle.std.specs.Prelude.{slice_index_or, vec_capacity}
-use Rattle.std.specs.List.{All}
-use Rattle.i2c_spec.specs.Tree.{buses, depth}
-use Rattle.seg_locks.specs.Locks.{IsDepth}
+use Rattle.bus_core.proofs.Cited.{◌≡◌, ◌<◌, ◌≤◌, ℕ, length, vec_capacity, All, buses, depth, IsDepth}
+use Rattle.std.specs.Prelude.{slice_index_or}
 use Rattle.bus_core.proofs.opening.depths.Given as goal
 
 -- the buses so far have their depths

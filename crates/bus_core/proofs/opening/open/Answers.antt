@@ -1,13 +1,7 @@
-use Rattle.std.proofs.Common.{◌≡◌, ℕ, List, length, refl, sym, ◌∙◌, ap, subst, rules}
-use Rattle.i2c_base.specs.Board.{BoardView}
-use Rattle.bus_journal.specs.View.{JournalView}
-use Rattle.i2c_spec.specs.Plain.{IsPlainBoard}
-use Rattle.i2c_spec.specs.Rules.{MeetsRules}
-use Rattle.core_laws.specs.Opens.{AreDepths, AreFree}
+use Rattle.bus_core.proofs.Cited.{◌≡◌, ℕ, List, length, refl, sym, ◌∙◌, ap, subst, rules, BoardView, JournalView, IsPlainBoard, MeetsRules}
+use Rattle.bus_core.proofs.Cited.{AreDepths, opened, roots_of, AreSeated, MayOpen}
+use Rattle.core_laws.specs.Opens.{AreFree}
 use Rattle.core_laws.proofs.Laws.{opened-free}
-use Rattle.seg_locks.specs.Locks.{opened}
-use Rattle.bus_core.specs.Kept.{roots_of}
-use Rattle.bus_core.specs.Opens.{AreSeated, MayOpen}
 use Rattle.bus_core.proofs.Opened.{opened-core}
 use Rattle.bus_core.proofs.Seating.{seated-all, seated-untaken}
 use Rattle.bus_core.proofs.opening.open.Goals as goal

@@ -1,14 +1,6 @@
-use Rattle.std.proofs.Common.{◌≡◌, ◌⊎◌, ◌<◌, true, false, sym, ◌∙◌, ap, subst, arith}
-use Rattle.std.specs.Prelude.{take, sum_by}
-use Rattle.i2c_base.specs.Transfer.{TransferView, written_of}
-use Rattle.i2c_spec.specs.Tree.{buses, root_of}
-use Rattle.bus_spec.specs.Grammar.{walk_for}
-use Rattle.bus_spec.specs.Walk.{WalkTree}
-use Rattle.core_laws.specs.Core.{IsLone}
-use Rattle.bus_core.specs.Kept.{roots_of}
-use Rattle.bus_core.specs.Opening.{HasRoot}
+use Rattle.bus_core.proofs.Cited.{◌≡◌, ◌⊎◌, ◌<◌, true, false, sym, ◌∙◌, ap, subst, arith, take, sum_by, TransferView, written_of, buses}
+use Rattle.bus_core.proofs.Cited.{root_of, walk_for, WalkTree, IsLone, roots_of, HasRoot, Seat}
 use Rattle.bus_core.specs.Places.{HasRoom}
-use Rattle.bus_core.specs.declared.seat.Seat.{Seat}
 use Rattle.bus_core.proofs.SeatLemmas.{asks_or_not}
 use Rattle.bus_core.proofs.There.{there-for}
 use Rattle.bus_core.proofs.opening.seat_of.Goals as goal

@@ -1,12 +1,6 @@
-use Rattle.std.proofs.Common.{◌≡◌, ◌+◌, ◌<◌, ◌≤◌, ℕ, List, [], ◌∷◌, ◌++◌, length, set, Option, Some, refl, sym, ◌∙◌, ap, subst, arith, rules}
-use Rattle.std.specs.Prelude.{slice_get, vec_len, vec_capacity}
-use Rattle.std.specs.Vec.Iter.{into_iter_items, into_iter_len}
-use Rattle.std.proofs.lemmas.List.{length-append, append_assoc}
-use Rattle.i2c_base.specs.Board.{BoardView}
-use Rattle.i2c_base.specs.Limits.{MOST_CALLERS}
-use Rattle.bus_core.specs.Kept.{roots_of}
-use Rattle.bus_core.specs.Opens.{AreSeated, IsFreshSeat}
-use Rattle.bus_core.specs.declared.seat.Seat.{Seat}
+use Rattle.bus_core.proofs.Cited.{◌≡◌, ◌+◌, ◌<◌, ◌≤◌, ℕ, List, [], ◌∷◌, ◌++◌, length, set, Option, Some, refl, sym, ◌∙◌, ap, subst, arith}
+use Rattle.bus_core.proofs.Cited.{rules, slice_get, vec_len, vec_capacity, into_iter_items, into_iter_len, length-append, append_assoc}
+use Rattle.bus_core.proofs.Cited.{BoardView, MOST_CALLERS, roots_of, AreSeated, IsFreshSeat, Seat}
 use Rattle.bus_core.proofs.Seating.{fresh_as, seated-none, seated-one, room-for-one, push_here}
 use Rattle.bus_core.proofs.opening.seats_of.Goals as goal
 

@@ -1,8 +1,4 @@
-use Rattle.std.proofs.Common.{◌≡◌, ◌≤◌, ◌++◌, length}
-use Rattle.std.specs.Prelude.{vec_capacity}
-use Rattle.std.specs.Vec.Iter.{into_iter_items, into_iter_len}
-use Rattle.bus_core.specs.Kept.{roots_of}
-use Rattle.bus_core.specs.Opens.{AreSeated}
+use Rattle.bus_core.proofs.Cited.{◌≡◌, ◌≤◌, ◌++◌, length, vec_capacity, into_iter_items, into_iter_len, roots_of, AreSeated}
 use Rattle.bus_core.proofs.opening.seats_of.Given as goal
 
 abbrev pub invariant-loop-number : goal.invariant-loop-number

@@ -1,7 +1,5 @@
-use Rattle.std.proofs.Common.{◌≡◌, ◌<◌, ℕ, Some, not, sym, ◌∙◌, ap, subst, inl, inr}
-use Rattle.bus_spec.specs.Walk.{Act, Take}
-use Rattle.mux_plan.specs.Plans.{action_of}
-use Rattle.seg_locks.specs.Locks.{holder_in}
+use Rattle.bus_core.proofs.Cited.{◌≡◌, ◌<◌, ℕ, Some, sym, ◌∙◌, ap, subst, inl, inr, Act, Take, action_of, holder_in}
+use Rattle.std.proofs.Common.{not}
 use Rattle.bus_core.proofs.ActionLemmas.{some-act, none-of}
 use Rattle.bus_core.proofs.Nexts.{tells-next, take-there, comes-take}
 use Rattle.bus_core.proofs.SeatLemmas.{none-told, some-told, there_read}

@@ -1,10 +1,6 @@
-use Rattle.std.proofs.Common.{◌≡◌, ℕ, ◌<◌, length, Some, None, sym, ◌∙◌, ap, subst, arith, inl, inr}
-use Rattle.std.specs.Prelude.{slice_get}
-use Rattle.std.proofs.lemmas.Bool.Decides.{eqb_tells}
-use Rattle.std.proofs.lemmas.List.{length-map}
-use Rattle.std.proofs.lemmas.Option.{slice_get_within}
-use Rattle.bus_core.specs.Places.{script_of, scripts_of}
-use Rattle.bus_core.specs.Ready.{CanStepAt, IsHeldUpAt}
+use Rattle.bus_core.proofs.Cited.{◌≡◌, ℕ, ◌<◌, length, Some, None, sym, ◌∙◌, ap, subst, arith, inl, inr, slice_get, eqb_tells, length-map}
+use Rattle.bus_core.proofs.Cited.{slice_get_within, script_of, scripts_of, IsHeldUpAt}
+use Rattle.bus_core.specs.Ready.{CanStepAt}
 use Rattle.bus_core.proofs.SeatLemmas.{number_read}
 use Rattle.bus_core.proofs.readiness.ready.Goals.{in-Some+else-can_step, in_default}
 use Rattle.bus_core.proofs.readiness.ready.Goals as goal

@@ -1,4 +1,4 @@
-use Rattle.bus_core.specs.Ready.{AreHeldUpBelow}
+use Rattle.bus_core.proofs.Cited.{AreHeldUpBelow}
 use Rattle.bus_core.proofs.readiness.ready.Given as goal
 
 abbrev pub invariant-loop-number : goal.invariant-loop-number

@@ -1,10 +1,5 @@
-use Rattle.std.proofs.Common.{◌≡◌, ℕ, Some, None, true, false, sym, ◌∙◌, subst, arith}
-use Rattle.std.proofs.lemmas.Option.{slice_get_within}
-use Rattle.bus_core.specs.Kept.{IsCore, HasStepped}
-use Rattle.bus_core.specs.Ready.{IsHeldUpAt}
-use Rattle.bus_core.specs.Runs.{HasWaited}
-use Rattle.bus_core.specs.Steps.{IsBlockedAt, HasEndedAt}
-use Rattle.bus_core.specs.declared.parts.CoreInside.{CoreInside}
+use Rattle.bus_core.proofs.Cited.{◌≡◌, ℕ, Some, None, true, false, sym, ◌∙◌, subst, arith, slice_get_within, IsCore, HasStepped, IsHeldUpAt}
+use Rattle.bus_core.proofs.Cited.{HasWaited, IsBlockedAt, HasEndedAt, CoreInside}
 use Rattle.bus_core.proofs.Advances.{waits-by, within as is_within, blocked-held_up, ended-held_up, blocked-stuck, ended-stuck, has-made}
 use Rattle.bus_core.proofs.SeatLemmas.{number_read}
 use Rattle.bus_core.proofs.running.advance.Goals as goal

@@ -1,12 +1,7 @@
-use Rattle.std.proofs.Common.{◌≡◌, ◌<◌, length, Some, refl, sym, ◌∙◌, ap, subst, arith, inl, inr}
-use Rattle.std.specs.Prelude.{slice_get}
-use Rattle.std.proofs.lemmas.Bool.Decides.{eqb_tells}
-use Rattle.std.proofs.lemmas.Option.{slice_get_within}
-use Rattle.bus_core.specs.Kept.{IsCore}
-use Rattle.bus_core.specs.Ready.{IsHeldUpAt}
-use Rattle.bus_core.specs.Runs.{HasMade}
-use Rattle.bus_core.specs.declared.parts.CoreInside.{CoreInside}
-use Rattle.bus_core.proofs.running.advance_least.Goals.{else-not-is_through-via-then-not-is_through+else-advance, else-not-is_through-via-else-not-is_through}
+use Rattle.bus_core.proofs.Cited.{◌≡◌, ◌<◌, length, Some, refl, sym, ◌∙◌, ap, subst, arith, inl, inr, slice_get, eqb_tells}
+use Rattle.bus_core.proofs.Cited.{slice_get_within, IsCore, IsHeldUpAt, HasMade, CoreInside}
+use Rattle.bus_core.proofs.running.advance_least.Goals.{else-not-is_through-via-then-not-is_through+else-advance}
+use Rattle.bus_core.proofs.running.advance_least.Goals.{else-not-is_through-via-else-not-is_through}
 use Rattle.bus_core.proofs.running.advance_least.Goals as goal
 
 pub loop-number-init : goal.loop-number-init

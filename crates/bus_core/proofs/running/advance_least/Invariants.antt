@@ -1,5 +1,4 @@
-use Rattle.std.proofs.Common.{◌≡◌}
-use Rattle.bus_core.specs.Ready.{AreHeldUpBelow}
+use Rattle.bus_core.proofs.Cited.{◌≡◌, AreHeldUpBelow}
 use Rattle.bus_core.proofs.running.advance_least.Given as goal
 
 -- so far none could make a step

@@ -1,12 +1,5 @@
-use Rattle.std.proofs.Common.{List, [], reverse, sym, subst}
-use Rattle.std.proofs.lemmas.List.{reverse-reverse}
-use Rattle.i2c_base.specs.declared.entry.Entry.{Entry}
-use Rattle.i2c_base.specs.Limits.{MOST_CALLERS}
-use Rattle.bus_laws.specs.Following.{GoesOnBy}
-use Rattle.bus_core.specs.Kept.{asks_in, HasCome}
-use Rattle.bus_core.specs.Runs.{KeepsSchedule}
-use Rattle.bus_core.specs.State.{AllThrough, state_of}
-use Rattle.bus_core.specs.declared.parts.CoreInside.{CoreInside}
+use Rattle.bus_core.proofs.Cited.{List, [], reverse, sym, subst, reverse-reverse, Entry, MOST_CALLERS, GoesOnBy, asks_in, HasCome}
+use Rattle.bus_core.proofs.Cited.{KeepsSchedule, AllThrough, state_of, CoreInside}
 use Rattle.bus_core.proofs.Loops.{come-refl, come-then, least-keeps, all-through}
 use Rattle.bus_core.proofs.running.finish.Goals as goal
 

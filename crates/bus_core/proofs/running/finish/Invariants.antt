@@ -1,7 +1,4 @@
-use Rattle.std.proofs.Common.{ℕ, List, []}
-use Rattle.i2c_base.specs.declared.entry.Entry.{Entry}
-use Rattle.bus_core.specs.Kept.{IsCore, HasCome}
-use Rattle.bus_core.specs.Runs.{KeepsSchedule}
+use Rattle.bus_core.proofs.Cited.{ℕ, List, [], Entry, IsCore, HasCome, KeepsSchedule}
 use Rattle.bus_core.proofs.running.finish.Given as goal
 
 abbrev pub invariant-steps : goal.invariant-steps

@@ -1,13 +1,5 @@
-use Rattle.std.proofs.Common.{◌≡◌, ℕ, ◌+◌, List, [], reverse, get_or, refl, sym, subst, arith}
-use Rattle.std.specs.Prelude.{drop}
-use Rattle.std.proofs.lemmas.List.{reverse-reverse}
-use Rattle.std.proofs.lemmas.List.Elements.{All-get_or}
-use Rattle.i2c_base.specs.declared.entry.Entry.{Entry}
-use Rattle.i2c_base.specs.Limits.{MOST_CALLERS}
-use Rattle.bus_laws.specs.Following.{GoesOnBy}
-use Rattle.bus_core.specs.Kept.{asks_in, HasCome}
-use Rattle.bus_core.specs.Ready.{HasPlace}
-use Rattle.bus_core.specs.Runs.{KeepsSchedule}
+use Rattle.bus_core.proofs.Cited.{◌≡◌, ℕ, ◌+◌, List, [], reverse, get_or, refl, sym, subst, arith, drop, reverse-reverse, All-get_or, Entry}
+use Rattle.bus_core.proofs.Cited.{MOST_CALLERS, GoesOnBy, asks_in, HasCome, HasPlace, KeepsSchedule}
 use Rattle.bus_core.proofs.Loops.{come-refl, come-then, stepped-or-waited, drop-next}
 use Rattle.bus_core.proofs.running.follow.Goals as goal
 use Rattle.i2c_base.proofs.ListLemmas.{drop_all}

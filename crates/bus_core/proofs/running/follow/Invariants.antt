@@ -1,7 +1,4 @@
-use Rattle.std.proofs.Common.{◌≡◌, length, reverse}
-use Rattle.std.specs.Prelude.{drop}
-use Rattle.bus_core.specs.Kept.{IsCore, HasCome}
-use Rattle.bus_core.specs.Runs.{KeepsSchedule}
+use Rattle.bus_core.proofs.Cited.{◌≡◌, length, reverse, drop, IsCore, HasCome, KeepsSchedule}
 use Rattle.bus_core.proofs.running.follow.Given as goal
 
 abbrev pub invariant-loop-place : goal.invariant-loop-place

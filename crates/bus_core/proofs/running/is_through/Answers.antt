@@ -1,7 +1,4 @@
-use Rattle.std.proofs.Common.{◌≡◌, ℕ, ◌<◌, length, Some, None, sym, ◌∙◌, ap, subst, arith}
-use Rattle.std.proofs.lemmas.Option.{slice_get-get_or}
-use Rattle.bus_core.specs.Ready.{IsHeldUpAt}
-use Rattle.bus_core.specs.Steps.{HasEndedAt}
+use Rattle.bus_core.proofs.Cited.{◌≡◌, ℕ, ◌<◌, length, Some, None, sym, ◌∙◌, ap, subst, arith, slice_get-get_or, IsHeldUpAt, HasEndedAt}
 use Rattle.bus_core.proofs.Advances.{within as is_within, ended-held_up}
 use Rattle.bus_core.proofs.SeatLemmas.{number_read}
 use Rattle.bus_core.proofs.running.is_through.Goals as goal

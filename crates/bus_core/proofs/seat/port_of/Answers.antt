@@ -1,11 +1,7 @@
-use Rattle.std.proofs.Common.{◌≡◌, ◌<◌, ℕ, length, get_or, sym, ◌∙◌, ap, arith, rules, inl, inr}
-use Rattle.std.proofs.lemmas.Bool.Decides.{eqb_tells}
-use Rattle.std.proofs.lemmas.List.{length-map}
-use Rattle.std.proofs.lemmas.Option.{get_or_from_slice_get, slice_get_within}
-use Rattle.bus_core.specs.Kept.{roots_of}
+use Rattle.bus_core.proofs.Cited.{◌≡◌, ◌<◌, ℕ, length, get_or, sym, ◌∙◌, ap, arith, rules, inl, inr, eqb_tells, length-map}
+use Rattle.bus_core.proofs.Cited.{get_or_from_slice_get, slice_get_within, roots_of, map_from}
 use Rattle.bus_core.proofs.SeatLemmas.{told_apart}
 use Rattle.bus_core.proofs.seat.port_of.Goals as goal
-use Rattle.i2c_base.proofs.ListLemmas.{map_from}
 
 pub loop-place-preserved : goal.loop-place-preserved
 loop-place-preserved g c =

@@ -1,6 +1,4 @@
-use Rattle.std.proofs.Common.{◌≡◌, ◌<◌, ℕ, Some, length}
-use Rattle.std.specs.Prelude.{slice_get}
-use Rattle.bus_core.specs.Kept.{roots_of}
+use Rattle.bus_core.proofs.Cited.{◌≡◌, ◌<◌, ℕ, Some, length, slice_get, roots_of}
 use Rattle.bus_core.proofs.seat.port_of.Given as goal
 
 -- no port so far has the root

@@ -1,14 +1,7 @@
-use Rattle.std.proofs.Common.{◌≡◌, ℕ, ◌<◌, List, [], ◌∷◌, ◌++◌, Some, None, refl, sym, ◌∙◌, ap, subst, arith}
-use Rattle.i2c_base.specs.Limits.{MOST_CALLERS}
+use Rattle.bus_core.proofs.Cited.{◌≡◌, ℕ, ◌<◌, List, [], ◌∷◌, ◌++◌, Some, None, refl, sym, ◌∙◌, ap, subst, arith, MOST_CALLERS, holder_in}
+use Rattle.bus_core.proofs.Cited.{roots_of, run_of, whole_of, seen_of, IsLookedAt, place_of, MayEnd, HasFreed, Seat}
 use Rattle.i2c_base.specs.declared.entry.Entry.TheVariants as entry
-use Rattle.seg_locks.specs.Locks.{holder_in}
 use Rattle.core_laws.proofs.Laws.{free-wants}
-use Rattle.bus_core.specs.Kept.{roots_of, run_of, whole_of}
-use Rattle.core_laws.specs.Spots.{seen_of}
-use Rattle.bus_core.specs.Looks.{IsLookedAt}
-use Rattle.bus_core.specs.Places.{place_of}
-use Rattle.bus_core.specs.Seats.{MayEnd, HasFreed}
-use Rattle.bus_core.specs.declared.seat.Seat.{Seat}
 use Rattle.bus_core.proofs.Kept.{place-here, number-small}
 use Rattle.bus_core.proofs.Looking.{looked-locks, same_words}
 use Rattle.bus_core.proofs.Locks.{free-room, free-may, free-kept, freed-number}

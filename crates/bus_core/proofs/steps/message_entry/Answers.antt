@@ -1,4 +1,4 @@
-use Rattle.std.proofs.Common.{arith}
+use Rattle.bus_core.proofs.Cited.{arith}
 use Rattle.std.proofs.lemmas.Grind.{common_steps}
 use Rattle.bus_core.proofs.steps.message_entry.Goals as goal
 

@@ -1,13 +1,5 @@
-use Rattle.std.proofs.Common.{◌<◌, ℕ, List, Option, Some, None, refl, sym, ◌∙◌, ap, subst}
-use Rattle.std.proofs.lemmas.Option.{slice_get_within}
-use Rattle.i2c_base.specs.declared.errno.Errno.{Errno}
-use Rattle.bus_spec.specs.Walk.{Settle}
-use Rattle.core_laws.proofs.Laws.{settle-errs}
-use Rattle.bus_core.specs.Kept.{roots_of, run_of, whole_of}
-use Rattle.bus_core.specs.Looks.{IsLookedAt}
-use Rattle.bus_core.specs.Places.{place_of}
-use Rattle.bus_core.specs.Seats.{MayRefuse, IsRefusedIn}
-use Rattle.bus_core.specs.declared.seat.Seat.{Seat}
+use Rattle.bus_core.proofs.Cited.{◌<◌, ℕ, List, Option, Some, None, refl, sym, ◌∙◌, ap, subst, slice_get_within, Errno, Settle, settle-errs}
+use Rattle.bus_core.proofs.Cited.{roots_of, run_of, whole_of, IsLookedAt, place_of, MayRefuse, IsRefusedIn, Seat}
 use Rattle.bus_core.proofs.Kept.{place-here}
 use Rattle.bus_core.proofs.Looking.{looked-locks}
 use Rattle.bus_core.proofs.Refuse.{may-refuse, refused-kept}

@@ -1,21 +1,9 @@
-use Rattle.std.proofs.Common.{◌≡◌, ◌≤◌, ◌<◌, ◌+◌, ◌++◌, [], ◌∷◌, ℕ, List, length, set, refl, sym, ◌∙◌, ap, subst, arith}
-use Rattle.std.proofs.lemmas.List.{length-map}
-use Rattle.std.proofs.lemmas.Option.{slice_get_within}
-use Rattle.i2c_base.specs.Limits.{MOST_CALLERS}
-use Rattle.i2c_base.specs.declared.entry.Entry.{Entry}
-use Rattle.bus_message.specs.Cursors.{CursorView}
-use Rattle.bus_message.specs.Ports.{RootPort, root_port, root_ports}
+use Rattle.bus_core.proofs.Cited.{◌≡◌, ◌≤◌, ◌<◌, ◌+◌, ◌++◌, [], ◌∷◌, ℕ, List, length, set, refl, sym, ◌∙◌, ap, subst, arith, length-map}
+use Rattle.bus_core.proofs.Cited.{slice_get_within, MOST_CALLERS, Entry, CursorView, RootPort, root_port, root_ports, socket-is, MuxUpdate}
+use Rattle.bus_core.proofs.Cited.{Send, LocksView, turned_to, seen_of, AreLooked, IsLookedAt, words_after, AreHeld, MaySettle, updates_of}
+use Rattle.bus_core.proofs.Cited.{Seat}
 use Rattle.bus_message.specs.Sends.{MaySend}
-use Rattle.bus_message.proofs.PortLemmas.{socket-is}
-use Rattle.mux_plan.specs.declared.marks.MuxUpdate.{MuxUpdate}
-use Rattle.bus_spec.specs.Walk.{Send}
 use Rattle.bus_spec.specs.Walk as walk
-use Rattle.seg_locks.specs.Locks.{LocksView}
-use Rattle.core_laws.specs.Spots.{turned_to, seen_of}
-use Rattle.bus_core.specs.Looks.{AreLooked, IsLookedAt}
-use Rattle.bus_core.specs.Marks.{words_after, AreHeld}
-use Rattle.bus_core.specs.Seats.{MaySettle, updates_of}
-use Rattle.bus_core.specs.declared.seat.Seat.{Seat}
 use Rattle.bus_core.proofs.Kept.{number-small, seated-here}
 use Rattle.bus_core.proofs.Looking.{route-on, updates-looked, heard-looked, looked-turned, turned}
 use Rattle.bus_core.proofs.Converse.{comes-next, said-on, may-speak, may-hear, message-room, message-bytes, updates-own}
@@ -111,7 +99,8 @@ set_marks-requires g c =
     let number : t.number ≡ old.number = ap (λ (y : Seat _). y.number) (c.message_done.ensures.heard x.locks
     (c.requires.rests.looked c.args.place old m.here)).same in
     let updates : c.as_slice.result.now ≡ updates_of x.locks (walk.Sent out.end bytes) old = c.as_slice.ensures.value
-    ∙ c.message_done.ensures.updates ∙ updates-looked x.locks old (walk.Sent out.end bytes) (c.requires.rests.looked c.args.place old m.here) in
+    ∙ c.message_done.ensures.updates ∙ updates-looked x.locks old (walk.Sent out.end bytes)
+    (c.requires.rests.looked c.args.place old m.here) in
     record {
       caller = subst (λ (n : ℕ). n < MOST_CALLERS) (sym number)
           (number-small g.P.Port g.C.Caller x c.requires.rests.kept c.args.place old m.here);

@@ -1,9 +1,6 @@
-use Rattle.std.proofs.Common.{◌≡◌, ◌<◌, ℕ, Some, refl, sym, ◌∙◌, ap, subst}
-use Rattle.i2c_base.specs.declared.ids.LockId.{LockId}
+use Rattle.bus_core.proofs.Cited.{◌≡◌, ◌<◌, ℕ, Some, refl, sym, ◌∙◌, ap, subst, LockId, holder_in, HasStepped, CoreInside}
 use Rattle.mux_plan.specs.declared.task.Action.TheVariants as action
-use Rattle.seg_locks.specs.Locks.{holder_in}
-use Rattle.bus_core.specs.Kept.{HasStepped, IsResting}
-use Rattle.bus_core.specs.declared.parts.CoreInside.{CoreInside}
+use Rattle.bus_core.specs.Kept.{IsResting}
 use Rattle.bus_core.specs.declared.steps.StepAnswer.TheVariants as answer
 use Rattle.bus_core.proofs.Nexts.{tells-next, take-there, comes-take, comes-free, comes-settle, comes-message, comes-shift}
 use Rattle.bus_core.proofs.SeatLemmas.{there_read}
@@ -86,7 +83,8 @@ returns-clause-stepped g c is =
       | in-Free w ↦ subst (λ (y : CoreInside _ _). HasStepped g.P.Port g.C.Caller c.args.place x y) (sym w.parts-is) w.free.ensures.stepped
       | in-Send w ↦ subst (λ (y : CoreInside _ _). HasStepped g.P.Port g.C.Caller c.args.place x y)
           (sym w.parts-is) w.send_and_record.ensures.stepped
-      | in-Line w ↦ subst (λ (y : CoreInside _ _). HasStepped g.P.Port g.C.Caller c.args.place x y) (sym w.parts-is) w.switch.ensures.stepped
+      | in-Line w ↦ subst (λ (y : CoreInside _ _). HasStepped g.P.Port g.C.Caller c.args.place x y)
+          (sym w.parts-is) w.switch.ensures.stepped
       | in-Settle w ↦ subst (λ (y : CoreInside _ _). HasStepped g.P.Port g.C.Caller c.args.place x y)
           (sym w.parts-is) w.refuse.ensures.stepped
     ]

@@ -1,16 +1,8 @@
-use Rattle.std.proofs.Common.{◌≡◌, ◌++◌, [], ◌∷◌, ℕ, List, set, refl, sym, ◌∙◌, ap, subst, arith}
-use Rattle.std.proofs.lemmas.List.{length-map, map-set}
-use Rattle.std.proofs.lemmas.Option.{slice_get_within}
+use Rattle.bus_core.proofs.Cited.{◌≡◌, ◌++◌, [], ◌∷◌, ℕ, List, set, refl, sym, ◌∙◌, ap, subst, arith, length-map, map-set, slice_get_within}
+use Rattle.bus_core.proofs.Cited.{RootPort, MayShift, Shifted, root_port, root_ports, socket-here, socket-is, MuxUpdate, Lined, Shift}
+use Rattle.bus_core.proofs.Cited.{line_mux, line_level, LocksView, turned_to, seen_of, AreLooked, IsLookedAt, words_after, AreHeld}
+use Rattle.bus_core.proofs.Cited.{MaySettle, cut_of_line, updates_of}
 use Rattle.i2c_base.specs.declared.entry.Entry.TheVariants as entry
-use Rattle.bus_message.specs.Ports.{RootPort, MayShift, Shifted, root_port, root_ports}
-use Rattle.bus_message.proofs.PortLemmas.{socket-here, socket-is}
-use Rattle.mux_plan.specs.declared.marks.MuxUpdate.{MuxUpdate}
-use Rattle.bus_spec.specs.Walk.{Lined, Shift, line_mux, line_level}
-use Rattle.seg_locks.specs.Locks.{LocksView}
-use Rattle.core_laws.specs.Spots.{turned_to, seen_of}
-use Rattle.bus_core.specs.Looks.{AreLooked, IsLookedAt}
-use Rattle.bus_core.specs.Marks.{words_after, AreHeld}
-use Rattle.bus_core.specs.Seats.{MaySettle, cut_of_line, updates_of}
 use Rattle.bus_core.proofs.Kept.{number-small, seated-here}
 use Rattle.bus_core.proofs.Looking.{looked-turned, turned, route-on, updates-looked, went-looked}
 use Rattle.bus_core.proofs.SeatLemmas.{read_comes}
@@ -150,7 +142,8 @@ returns g c =
     (c.shift_line-failed.ensures.shifted q.0)) in
     let all = line-done g.P.Port g.C.Caller x c.requires.rests.kept c.args.place old comes.0 need.job comes.1 failed t went
     c.push.new.self entries c.push.ensures.room room_bytes
-    (record x { ports = _; seats = _; locks = c.set_marks.new.locks; journal = c.settle.new.journal; updates = c.line_done.new.updates }) refl
+    (record x { ports = _; seats = _; locks = c.set_marks.new.locks; journal = c.settle.new.journal; updates = c.line_done.new.updates })
+    refl
     locks (root_port g.P.Port q) (root_port g.P.Port (q.0, c.shift_line-failed.new.port))
     (socket-here g.P.Port x.ports.items old.port q c.index_mut.ensures.value plugged.0 plugged.1)
     (map-set (root_port g.P.Port) x.ports.items old.port (q.0, c.shift_line-failed.new.port)) shifted refl refl

@@ -1,17 +1,9 @@
-use Rattle.std.proofs.Common.{◌≡◌, ℕ, ◌<◌, [], ◌∷◌, ◌++◌, Some, None, refl, sym, ◌∙◌, ap, subst, arith}
-use Rattle.i2c_base.specs.Limits.{MOST_CALLERS}
+use Rattle.bus_core.proofs.Cited.{◌≡◌, ℕ, ◌<◌, [], ◌∷◌, ◌++◌, Some, None, refl, sym, ◌∙◌, ap, subst, arith, MOST_CALLERS, Passed, holder_in}
+use Rattle.bus_core.proofs.Cited.{with_holder, take-wants, run_of, whole_of, seen_of, IsLookedAt, place_of, IsOn, WentOn, Seat}
 use Rattle.i2c_base.specs.declared.entry.Entry.TheVariants as entry
 use Rattle.i2c_base.specs.declared.reply.Cut.TheVariants as cut_at
-use Rattle.bus_spec.specs.Walk.{Passed}
-use Rattle.seg_locks.specs.Locks.{IsBelowHeld, holder_in, with_holder}
+use Rattle.seg_locks.specs.Locks.{IsBelowHeld}
 use Rattle.seg_locks.specs.declared.locks.Held.{Held}
-use Rattle.core_laws.proofs.Laws.{take-wants}
-use Rattle.bus_core.specs.Kept.{run_of, whole_of}
-use Rattle.core_laws.specs.Spots.{seen_of}
-use Rattle.bus_core.specs.Looks.{IsLookedAt}
-use Rattle.bus_core.specs.Places.{place_of}
-use Rattle.bus_core.specs.Seats.{IsOn, WentOn}
-use Rattle.bus_core.specs.declared.seat.Seat.{Seat}
 use Rattle.bus_core.proofs.Kept.{place-here, number-small, seated-here}
 use Rattle.bus_core.proofs.Looking.{looked-locks, same_words}
 use Rattle.bus_core.proofs.Locks.{is_given, take-room, take-kept, take-stepped}

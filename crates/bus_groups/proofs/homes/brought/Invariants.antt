@@ -1,5 +1,5 @@
-use Rattle.std.proofs.Common.{◌≡◌, map, take, if◌then◌else◌}
-use Rattle.bus_groups.specs.Homes.{names_home, least_home}
+use Rattle.bus_groups.proofs.Cited.{◌≡◌, map, take, names_home, least_home}
+use Rattle.std.proofs.Common.{if◌then◌else◌}
 use Rattle.bus_groups.proofs.homes.brought.Given as goal
 
 abbrev pub invariant-loop-home : goal.invariant-loop-home

@@ -1,6 +1,4 @@
-use Rattle.std.proofs.Common.{◌≡◌, map, take, fold}
-use Rattle.std.specs.List.{range_with_len}
-use Rattle.bus_groups.specs.Homes.{brought, homes_of, caller_home}
+use Rattle.bus_groups.proofs.Cited.{◌≡◌, map, take, fold, range_with_len, brought, homes_of, caller_home}
 use Rattle.bus_groups.proofs.homes.groups.Given as goal
 
 abbrev pub invariant-loop-mask : goal.invariant-loop-mask

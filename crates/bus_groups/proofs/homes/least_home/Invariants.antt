@@ -1,6 +1,4 @@
-use Rattle.std.proofs.Common.{◌≡◌, length, fold}
-use Rattle.std.specs.List.{range_with_len}
-use Rattle.bus_groups.specs.Homes.{lower}
+use Rattle.bus_groups.proofs.Cited.{◌≡◌, length, fold, range_with_len, lower}
 use Rattle.bus_groups.proofs.homes.least_home.Given as goal
 
 abbrev pub invariant-loop-root : goal.invariant-loop-root

@@ -1,9 +1,7 @@
-use Rattle.std.proofs.Common.{◌≡◌, ℕ, Bool, false, sym, ◌∙◌, ap, ap₂, length, get_or, ◌==◌, ◌&&◌, eq-eqb}
-use Rattle.bus_groups.specs.Homes.{names}
+use Rattle.bus_groups.proofs.Cited.{◌≡◌, ℕ, Bool, false, sym, ◌∙◌, ap, ap₂, length, get_or, ◌==◌, ◌&&◌, eq-eqb, names, ne_eqb}
 use Rattle.bus_groups.proofs.HomeLemmas.{some-range, none-range}
 use Rattle.bus_groups.proofs.homes.names_home.Goals as goal
 use Rattle.bus_groups.proofs.homes.names_home.Goals.{else-names-via-then-names+else-homes-root, else-names-via-else-names}
-use Rattle.std.proofs.lemmas.Bool.{ne_eqb}
 
 pub returns-then-homes-root : goal.returns-then-homes-root
 returns-then-homes-root c =

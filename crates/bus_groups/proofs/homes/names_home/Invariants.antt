@@ -1,6 +1,4 @@
-use Rattle.std.proofs.Common.{◌≡◌, ◌==◌, false, ◌&&◌, get_or}
-use Rattle.std.specs.List.{range_with_len, list_any}
-use Rattle.bus_groups.specs.Homes.{names}
+use Rattle.bus_groups.proofs.Cited.{◌≡◌, ◌==◌, false, ◌&&◌, get_or, range_with_len, list_any, names}
 use Rattle.bus_groups.proofs.homes.names_home.Given as goal
 
 abbrev pub invariant-loop-root : goal.invariant-loop-root

@@ -1,5 +1,4 @@
-use Rattle.std.proofs.Common.{◌≡◌}
-use Rattle.std.specs.List.{range_with_len}
+use Rattle.bus_groups.proofs.Cited.{◌≡◌, range_with_len}
 use Rattle.bus_groups.proofs.homes.own_homes.Given as goal
 
 abbrev pub invariant-loop-root : goal.invariant-loop-root

@@ -1,5 +1,4 @@
-use Rattle.std.proofs.Common.{◌≡◌, ◌≤◌, ◌++◌, length, map, vec_capacity}
-use Rattle.std.specs.Vec.Iter.{into_iter_items}
+use Rattle.bus_groups.proofs.Cited.{◌≡◌, ◌≤◌, ◌++◌, length, map, vec_capacity, into_iter_items}
 use Rattle.bus_groups.proofs.rounds.apart.Given as goal
 
 abbrev pub invariant-loop-part : goal.invariant-loop-part

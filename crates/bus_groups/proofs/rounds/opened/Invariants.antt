@@ -1,7 +1,4 @@
-use Rattle.std.proofs.Common.{◌≡◌, ◌≤◌, ◌++◌, length, vec_capacity}
-use Rattle.std.specs.List.{AllZip}
-use Rattle.std.specs.Vec.Iter.{into_iter_items}
-use Rattle.bus_groups.specs.Rounds.{IsOpenedWith}
+use Rattle.bus_groups.proofs.Cited.{◌≡◌, ◌≤◌, ◌++◌, length, vec_capacity, AllZip, into_iter_items, IsOpenedWith}
 use Rattle.bus_groups.proofs.rounds.opened.Given as goal
 
 abbrev pub invariant-loop-share : goal.invariant-loop-share

@@ -1,8 +1,6 @@
-use Rattle.std.proofs.Common.{◌≡◌, ℕ, List, [], ◌∷◌, ◌++◌, length, map, sym, ◌∙◌, ap, arith, vec_len}
-use Rattle.std.specs.List.{range_with_len}
-use Rattle.std.proofs.lemmas.List.{length-append, length-map, map-append}
+use Rattle.bus_groups.proofs.Cited.{◌≡◌, ℕ, List, [], ◌∷◌, ◌++◌, length, map, sym, ◌∙◌, ap, arith, vec_len, range_with_len, length-append}
+use Rattle.bus_groups.proofs.Cited.{length-map, map-append, cost_of_home}
 use Rattle.std.proofs.lemmas.Grind.{common_steps}
-use Rattle.bus_groups.specs.Shares.{cost_of_home}
 use Rattle.bus_groups.proofs.RoundLemmas.{range-told}
 use Rattle.bus_groups.proofs.rounds.shares.Goals as goal
 
@@ -25,7 +23,8 @@ loop-ports-preserved g c =
           ∙ ap (λ (ks : List ℕ). ks ++ c.cost_of_home-limit.result ∷ []) at.limits
           ∙ ap (λ k. map f (range_with_len 0 n) ++ k ∷ []) limit
           ∙ sym (range-told f n)
-          ∙ ap (λ k. map f (range_with_len 0 k)) (sym (ap length c.push_reserved.ensures.items ∙ length-append c.loop-ports.shares.items _));
+          ∙ ap (λ k. map f (range_with_len 0 k)) (sym (ap length c.push_reserved.ensures.items
+          ∙ length-append c.loop-ports.shares.items _));
       same = at.same;
     }
 

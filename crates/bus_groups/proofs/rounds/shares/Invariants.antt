@@ -1,7 +1,4 @@
-use Rattle.std.proofs.Common.{◌≡◌, ◌≤◌, ◌++◌, length, map, vec_capacity}
-use Rattle.std.specs.List.{range_with_len}
-use Rattle.std.specs.Vec.Iter.{into_iter_items}
-use Rattle.bus_groups.specs.Shares.{cost_of_home}
+use Rattle.bus_groups.proofs.Cited.{◌≡◌, ◌≤◌, ◌++◌, length, map, vec_capacity, range_with_len, into_iter_items, cost_of_home}
 use Rattle.bus_groups.proofs.rounds.shares.Given as goal
 
 abbrev pub invariant-loop-ports : goal.invariant-loop-ports

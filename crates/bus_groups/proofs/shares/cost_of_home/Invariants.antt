@@ -1,5 +1,4 @@
-use Rattle.std.proofs.Common.{◌≡◌, ◌+◌, drop}
-use Rattle.bus_groups.specs.Shares.{cost_of_home}
+use Rattle.bus_groups.proofs.Cited.{◌≡◌, ◌+◌, drop, cost_of_home}
 use Rattle.bus_groups.proofs.shares.cost_of_home.Given as goal
 
 abbrev pub invariant-loop-place : goal.invariant-loop-place

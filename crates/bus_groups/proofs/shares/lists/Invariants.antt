@@ -1,4 +1,4 @@
-use Rattle.std.proofs.Common.{◌≡◌, ◌≤◌, length, [], All, vec_capacity}
+use Rattle.bus_groups.proofs.Cited.{◌≡◌, ◌≤◌, length, [], All, vec_capacity}
 use Rattle.bus_groups.proofs.shares.lists.Given as goal
 
 abbrev pub invariant-loop-part : goal.invariant-loop-part

@@ -1,13 +1,13 @@
-use Rattle.std.proofs.Common.{rules, ◌≡◌, ◌<◌, ◌≤◌, [], ◌∷◌, ◌++◌, length, set, get_or, vec_len, vec_capacity, refl, sym, ◌∙◌, ap, subst, arith}
-use Rattle.std.proofs.lemmas.List.{length-append, append_assoc, length-set}
-use Rattle.std.proofs.lemmas.List.Elements.{All-get_or, All-set}
-use Rattle.bus_groups.specs.Shares.{parts_by}
+use Rattle.bus_groups.proofs.Cited.{rules, ◌≡◌, ◌<◌, ◌≤◌, [], ◌∷◌, ◌++◌, length, set, get_or, vec_len, vec_capacity, refl, sym, ◌∙◌, ap}
+use Rattle.bus_groups.proofs.Cited.{subst, arith, length-append, append_assoc, length-set, All-get_or, parts_by}
+use Rattle.std.proofs.lemmas.List.Elements.{All-set}
 use Rattle.bus_groups.proofs.ShareLemmas.{all-empty, length-of, parts-more, map-set-at, come-room, at-part}
 use Rattle.bus_groups.proofs.shares.parted.Goals as goal
 
 pub loop-item-init : goal.loop-item-init
 loop-item-init g c = record {
-  parts = all-empty (λ part. part.items) c.args.homes.now c.args.many c.in_ok-parts.parts.items c.in_ok-parts.ensures.count c.in_ok-parts.ensures.empty;
+  parts = all-empty (λ part. part.items) c.args.homes.now c.args.many c.in_ok-parts.parts.items c.in_ok-parts.ensures.count
+      c.in_ok-parts.ensures.empty;
   room = c.in_ok-parts.ensures.room;
   count = c.in_ok-parts.ensures.count;
   place = refl;
@@ -26,7 +26,8 @@ push_reserved-requires g c =
     let there : c.from.result < c.args.many = subst (λ k. k < c.args.many) (sym is)
     (All-get_or (λ h. h < c.args.many) homes c.loop-item.place 0 (omega (arith, lt, place)) c.requires.below) in
     let v = c.index_mut-part.result.now in
-    let items = at-part (λ part. part.items) homes c.args.many came c.loop-item.parts.items c.from.result v at.parts at.count there c.index_mut-part.ensures.value in
+    let items = at-part (λ part. part.items) homes c.args.many came c.loop-item.parts.items c.from.result v at.parts at.count there
+    c.index_mut-part.ensures.value in
     let count = at.count in
     let room : length homes ≤ vec_capacity v = subst (λ u. length homes ≤ vec_capacity u) (sym c.index_mut-part.ensures.value)
     (All-get_or (λ part. length homes ≤ vec_capacity part) c.loop-item.parts.items c.from.result v (omega (arith, there, count)) at.room) in
@@ -48,7 +49,8 @@ loop-item-preserved g c =
     let there : c.from.result < c.args.many = subst (λ k. k < c.args.many) (sym is)
     (All-get_or (λ h. h < c.args.many) homes c.loop-item.place 0 (omega (arith, lt, place)) c.requires.below) in
     let v = c.index_mut-part.result.now in
-    let items = at-part (λ part. part.items) homes c.args.many came c.loop-item.parts.items c.from.result v at.parts at.count there c.index_mut-part.ensures.value in
+    let items = at-part (λ part. part.items) homes c.args.many came c.loop-item.parts.items c.from.result v at.parts at.count there
+    c.index_mut-part.ensures.value in
     let count = at.count in
     let room : length homes ≤ vec_capacity v = subst (λ u. length homes ≤ vec_capacity u) (sym c.index_mut-part.ensures.value)
     (All-get_or (λ part. length homes ≤ vec_capacity part) c.loop-item.parts.items c.from.result v (omega (arith, there, count)) at.room) in

@@ -1,6 +1,4 @@
-use Rattle.std.proofs.Common.{◌≡◌, ◌≤◌, ◌++◌, length, map, All, vec_capacity}
-use Rattle.std.specs.Vec.Iter.{into_iter_items}
-use Rattle.bus_groups.specs.Shares.{parts_by}
+use Rattle.bus_groups.proofs.Cited.{◌≡◌, ◌≤◌, ◌++◌, length, map, All, vec_capacity, into_iter_items, parts_by}
 use Rattle.bus_groups.proofs.shares.parted.Given as goal
 
 abbrev pub invariant-loop-item : goal.invariant-loop-item

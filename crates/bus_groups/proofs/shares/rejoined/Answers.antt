@@ -1,10 +1,9 @@
-use Rattle.std.proofs.Common.{◌+◌, ◌≡◌, ◌<◌, [], ◌∷◌, ◌++◌, List, length, map, set, get_or, take, drop, vec_len, vec_capacity, sym, ◌∙◌, ap, subst, arith, eqb-true}
-use Rattle.std.proofs.lemmas.List.{length-append, append_assoc, length-set, get_or-map}
-use Rattle.bus_groups.specs.Shares.{joined_by}
+use Rattle.bus_groups.proofs.Cited.{◌+◌, ◌≡◌, ◌<◌, [], ◌∷◌, ◌++◌, List, length, map, set, get_or, take, drop, vec_len, vec_capacity, sym}
+use Rattle.bus_groups.proofs.Cited.{◌∙◌, ap, subst, arith, eqb-true, length-append, append_assoc, length-set, get_or-map, joined_by}
+use Rattle.bus_groups.proofs.Cited.{All-get_or}
 use Rattle.bus_groups.proofs.ShareLemmas.{next-joined, first-of, map-set-at, some-left}
 use Rattle.bus_groups.proofs.shares.rejoined.Goals as goal
 use Rattle.bus_groups.proofs.shares.rejoined.Goals.{then-not-is_empty, else-not-is_empty}
-use Rattle.std.proofs.lemmas.List.Elements.{All-get_or}
 use Rattle.i2c_base.proofs.ListLemmas.{nil_by_length}
 
 pub loop-home-preserved : goal.loop-home-preserved
@@ -44,14 +43,16 @@ loop-home-preserved g c =
                 (map-set-at (λ part. part.items) parts h w.remove.new.self ∙ ap (set M h) w.remove.ensures.items)
                 ∙ append_assoc c.loop-home.all.items (r ∷ []) (joined_by (drop (i + 1) homes) (set M h (drop 1 v.items)))
                 ∙ ap (λ zs. c.loop-home.all.items ++ zs) (sym (next
-                ∙ ap (λ zs. zs ++ joined_by (drop (i + 1) homes) (set M h (drop 1 v.items))) (first-of v.items r some w.remove.ensures.value)))
+                ∙ ap (λ zs. zs ++ joined_by (drop (i + 1) homes) (set M h (drop 1 v.items)))
+                (first-of v.items r some w.remove.ensures.value)))
                 ∙ at.all;
             count = ap length set_parts ∙ length-set parts h w.remove.new.self ∙ count;
             few = omega (arith, long, few);
             room = omega (arith, wide, room);
           }
       | else-not-is_empty w ↦
-          let none : v.items ≡ [] = nil_by_length v.items (let k = eqb-true (vec_len v) 0 (sym c.is_empty.ensures ∙ w.if-not-is_empty.false) in omega
+          let none : v.items ≡ [] = nil_by_length v.items (let k =
+          eqb-true (vec_len v) 0 (sym c.is_empty.ensures ∙ w.if-not-is_empty.false) in omega
           (arith, k, len)) in
           let set_parts = ap (λ p. p.items) w.parts-is in
           let same = ap (λ a. length a.items) w.all-is in

@@ -1,5 +1,4 @@
-use Rattle.std.proofs.Common.{◌≡◌, ◌≤◌, ◌++◌, length, map, drop, vec_capacity}
-use Rattle.bus_groups.specs.Shares.{joined_by}
+use Rattle.bus_groups.proofs.Cited.{◌≡◌, ◌≤◌, ◌++◌, length, map, drop, vec_capacity, joined_by}
 use Rattle.bus_groups.proofs.shares.rejoined.Given as goal
 
 abbrev pub invariant-loop-home : goal.invariant-loop-home

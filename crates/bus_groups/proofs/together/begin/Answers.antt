@@ -1,16 +1,9 @@
-use Rattle.std.proofs.Common.{◌≡◌, ℕ, ◌<◌, length, map, List, All, subst, sym, ◌∙◌, ap, arith}
-use Rattle.std.specs.List.{range_with_len}
-use Rattle.std.proofs.lemmas.List.{length-map}
-use Rattle.std.proofs.lemmas.List.FromFn.{length-range_with_len, length-map-range_with_len}
-use Rattle.i2c_base.specs.Board.{BoardView}
-use Rattle.i2c_spec.specs.Plain.{IsPlainBoard}
-use Rattle.bus_groups.specs.Homes.{homes_of, caller_home}
-use Rattle.bus_groups.specs.Shares.{of_home, cost_of_home, parts_by}
+use Rattle.bus_groups.proofs.Cited.{◌≡◌, ℕ, ◌<◌, length, map, List, All, subst, sym, ◌∙◌, ap, arith, range_with_len, length-map}
+use Rattle.bus_groups.proofs.Cited.{length-range_with_len, length-map-range_with_len, BoardView, IsPlainBoard, homes_of, caller_home}
+use Rattle.bus_groups.proofs.Cited.{of_home, cost_of_home, parts_by, IsOpenedWith, map_map}
 use Rattle.bus_groups.proofs.HomeLemmas.{are-homes, callers-below}
 use Rattle.bus_groups.proofs.RoundLemmas.{shares-may, homes-below, zip-map}
-use Rattle.bus_groups.specs.Rounds.{IsOpenedWith}
 use Rattle.bus_groups.proofs.together.begin.Goals as goal
-use Rattle.i2c_base.proofs.ListLemmas.{map_map}
 
 pub parted-requires-clause-count : goal.parted-requires-clause-count
 parted-requires-clause-count g c =
@@ -85,12 +78,16 @@ opened-requires-after_bounds g c κs within =
     let parts_count : length c.in_ok-ports.ports.items ≡ N =
     sym (length-map c.in_ok-ports.ports.items (λ part. part.items)) ∙ ap length c.in_ok-ports.ensures
     ∙ length-map-range_with_len (λ h. of_home c.as_slice.result.now h c.args.ports.items) 0 N in
-    shares-may g.P.Port g.C.Caller c.args.board.now masks c.args.costs.now c.args.ports.items c.args.callers.items N c.requires same_many c.in_ok-shares.shares.items
-    (sym (map_map (λ part. part.items) (λ s. s.ports) c.in_ok-shares.shares.items) ∙ ap (map (λ part. part.items)) c.in_ok-shares.ensures.ports
+    shares-may g.P.Port g.C.Caller c.args.board.now masks c.args.costs.now c.args.ports.items c.args.callers.items N c.requires same_many
+    c.in_ok-shares.shares.items
+    (sym (map_map (λ part. part.items) (λ s. s.ports) c.in_ok-shares.shares.items)
+    ∙ ap (map (λ part. part.items)) c.in_ok-shares.ensures.ports
     ∙ c.in_ok-ports.ensures ∙ ap (λ (hs : List ℕ). parts_by hs N c.args.ports.items) rh)
-    (sym (map_map (λ part. part.items) (λ s. s.callers) c.in_ok-shares.shares.items) ∙ ap (map (λ part. part.items)) c.in_ok-shares.ensures.callers
+    (sym (map_map (λ part. part.items) (λ s. s.callers) c.in_ok-shares.shares.items)
+    ∙ ap (map (λ part. part.items)) c.in_ok-shares.ensures.callers
     ∙ c.in_ok-callers.ensures ∙ ap (λ (hs : List ℕ). parts_by hs N c.args.callers.items) ch)
-    (c.in_ok-shares.ensures.limits ∙ ap (map (λ h. cost_of_home c.as_slice-3.result.now h c.args.costs.now)) (ap (range_with_len 0) parts_count)
+    (c.in_ok-shares.ensures.limits ∙ ap (map (λ h. cost_of_home c.as_slice-3.result.now h c.args.costs.now))
+    (ap (range_with_len 0) parts_count)
     ∙ ap (λ (hs : List ℕ). map (λ h. cost_of_home hs h c.args.costs.now) (range_with_len 0 N)) ch3)
 
 pub returns-clause-begun : goal.returns-clause-begun

@@ -1,15 +1,13 @@
-use Rattle.std.proofs.Common.{◌≡◌, ℕ, ◌<◌, length, map, List, All, flat_map, subst, sym, ◌∙◌, ap, arith}
-use Rattle.std.proofs.lemmas.List.{length-map}
-use Rattle.bus_groups.specs.Shares.{joined_by}
-use Rattle.bus_groups.specs.Rounds.{AreLeftOf}
+use Rattle.bus_groups.proofs.Cited.{◌≡◌, ℕ, ◌<◌, length, map, List, All, flat_map, subst, sym, ◌∙◌, ap, arith, length-map, joined_by}
+use Rattle.bus_groups.proofs.Cited.{AreLeftOf, map_map}
 use Rattle.bus_groups.proofs.ShareLemmas.{zip-length}
 use Rattle.bus_groups.proofs.RoundLemmas.{zip-map-left, flat-map-map}
 use Rattle.bus_groups.proofs.together.ended.Goals as goal
-use Rattle.i2c_base.proofs.ListLemmas.{map_map}
 
 pub apart-lists-requires-clause-room : goal.apart-lists-requires-clause-room
 apart-lists-requires-clause-room g c =
-    let same = zip-length (λ slot parts. AreLeftOf g.P.Port g.C.Caller slot.core parts) c.args.slots.items c.left.result.items c.left.ensures in
+    let same = zip-length (λ slot parts. AreLeftOf g.P.Port g.C.Caller slot.core parts) c.args.slots.items c.left.result.items
+    c.left.ensures in
     let wide = c.requires.wide in
     let a = wide.0 in
     let b = wide.1 in
@@ -18,7 +16,8 @@ apart-lists-requires-clause-room g c =
 
 pub rejoined-requires-clause-below : goal.rejoined-requires-clause-below
 rejoined-requires-clause-below g c =
-    let same = zip-length (λ slot parts. AreLeftOf g.P.Port g.C.Caller slot.core parts) c.args.slots.items c.left.result.items c.left.ensures in
+    let same = zip-length (λ slot parts. AreLeftOf g.P.Port g.C.Caller slot.core parts) c.args.slots.items c.left.result.items
+    c.left.ensures in
     let len : length c.apart-lists.result.ports.items ≡ length c.args.slots.items = ap length c.apart-lists.ensures.ports
     ∙ length-map c.left.result.items (λ x. x.ports) ∙ sym same in
     subst (λ n. All (λ h. h < n) c.as_slice.result.now) (sym len) (subst (λ (hs : List ℕ). All (λ h. h < length c.args.slots.items) hs)
@@ -26,7 +25,8 @@ rejoined-requires-clause-below g c =
 
 pub rejoined-requires-2-clause-below : goal.rejoined-requires-2-clause-below
 rejoined-requires-2-clause-below g c =
-    let same = zip-length (λ slot parts. AreLeftOf g.P.Port g.C.Caller slot.core parts) c.args.slots.items c.left.result.items c.left.ensures in
+    let same = zip-length (λ slot parts. AreLeftOf g.P.Port g.C.Caller slot.core parts) c.args.slots.items c.left.result.items
+    c.left.ensures in
     let len : length c.apart-lists.result.seats.items ≡ length c.args.slots.items = ap length c.apart-lists.ensures.seats
     ∙ length-map c.left.result.items (λ x. x.seats) ∙ sym same in
     subst (λ n. All (λ h. h < n) c.as_slice-2.result.now) (sym len)

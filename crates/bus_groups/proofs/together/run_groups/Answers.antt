@@ -1,11 +1,5 @@
-use Rattle.std.proofs.Common.{◌≡◌, ℕ, ◌<◌, length, map, List, All, refl, subst, sym, ◌∙◌, ap, arith}
-use Rattle.std.proofs.lemmas.List.{length-map}
-use Rattle.std.proofs.lemmas.List.FromFn.{length-range_with_len}
-use Rattle.i2c_base.specs.Board.{BoardView}
-use Rattle.i2c_spec.specs.Plain.{IsPlainBoard}
-use Rattle.bus_groups.specs.Homes.{homes_of, caller_home}
-use Rattle.bus_groups.specs.Shares.{parts_by, joined_by}
-use Rattle.bus_groups.specs.Slots.{HasRun}
+use Rattle.bus_groups.proofs.Cited.{◌≡◌, ℕ, ◌<◌, length, map, List, All, refl, subst, sym, ◌∙◌, ap, arith, length-map}
+use Rattle.bus_groups.proofs.Cited.{length-range_with_len, BoardView, IsPlainBoard, homes_of, caller_home, parts_by, joined_by, HasRun}
 use Rattle.bus_groups.specs.Rounds.{no_core, one_of}
 use Rattle.bus_groups.proofs.HomeLemmas.{are-homes, callers-below}
 use Rattle.bus_groups.proofs.RoundLemmas.{homes-below, zip-map, zip-map-left}
@@ -119,6 +113,7 @@ returns g c =
     (callers-below N masks some) begun.shares ended.parts x ps qs ran xp xs ended.entries in
     record {
       came = came;
-      groups = λ tell. are-groups p cg b masks c.args.costs.now c.args.ports.items c.args.callers.items N c.requires refl tree (no_core b) tell
+      groups = λ tell. are-groups p cg b masks c.args.costs.now c.args.ports.items c.args.callers.items N c.requires refl tree
+          (no_core b) tell
           begun.shares ended.parts x ps qs ran xp xs ended.entries came.scripts;
     }

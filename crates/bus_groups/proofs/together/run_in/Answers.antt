@@ -1,6 +1,4 @@
-use Rattle.std.proofs.Common.{◌≡◌, length, get_or, vec_len, subst, sym, ◌∙◌, ap, arith}
-use Rattle.std.specs.List.{AllZip}
-use Rattle.bus_groups.specs.Slots.{HasRun}
+use Rattle.bus_groups.proofs.Cited.{◌≡◌, length, get_or, vec_len, subst, sym, ◌∙◌, ap, arith, AllZip, HasRun}
 use Rattle.bus_groups.proofs.RoundLemmas.{zip-by, whole-again}
 use Rattle.bus_groups.proofs.together.run_in.Goals as goal
 

@@ -1,5 +1,4 @@
-use Rattle.std.proofs.Common.{◌≡◌, length}
-use Rattle.bus_journal.specs.Guess.{behind_number}
+use Rattle.bus_journal.proofs.Cited.{◌≡◌, length, behind_number}
 use Rattle.bus_journal.proofs.front.behind_number.Given as goal
 
 abbrev pub invariant-loop-rest : goal.invariant-loop-rest

@@ -1,5 +1,4 @@
-use Rattle.std.proofs.Common.{sym, ◌∙◌, arith}
-use Rattle.bus_journal.specs.Guess.{bytes_of}
+use Rattle.bus_journal.proofs.Cited.{sym, ◌∙◌, arith, bytes_of}
 use Rattle.bus_journal.proofs.FrontLemmas.{no_byte_more, taken}
 use Rattle.bus_journal.proofs.front.bytes_at.Goals as goal
 

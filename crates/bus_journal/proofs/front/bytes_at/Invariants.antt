@@ -1,5 +1,4 @@
-use Rattle.std.proofs.Common.{◌≡◌, ◌+◌, ◌≤◌, length}
-use Rattle.bus_journal.specs.Guess.{bytes_of}
+use Rattle.bus_journal.proofs.Cited.{◌≡◌, ◌+◌, ◌≤◌, length, bytes_of}
 use Rattle.bus_journal.proofs.front.bytes_at.Given as goal
 
 abbrev pub invariant-loop-rest : goal.invariant-loop-rest

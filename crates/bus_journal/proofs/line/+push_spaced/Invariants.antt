@@ -1,4 +1,4 @@
-use Rattle.std.proofs.Common.{length}
+use Rattle.bus_journal.proofs.Cited.{length}
 use Rattle.bus_journal.proofs.line.+push_spaced.Given as goal
 
 abbrev pub decreases-push_spaced : goal.decreases-push_spaced

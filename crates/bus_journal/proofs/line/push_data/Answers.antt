@@ -1,6 +1,4 @@
-use Rattle.std.proofs.Common.{ℕ, List, ◌++◌, ap, ◌∙◌}
-use Rattle.std.specs.Prelude.{codes}
-use Rattle.bus_spec.specs.Lines.{joined, two_digits, direction_text}
+use Rattle.bus_journal.proofs.Cited.{ℕ, List, ◌++◌, ap, ◌∙◌, codes, joined, two_digits, direction_text}
 use Rattle.bus_journal.proofs.Behind.{put_behind, seven_pieces}
 use Rattle.bus_journal.proofs.line.push_data.Goals as goal
 

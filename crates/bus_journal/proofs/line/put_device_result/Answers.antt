@@ -1,5 +1,4 @@
-use Rattle.std.specs.Prelude.{codes}
-use Rattle.std.proofs.lemmas.Fmt.{decimal_digit}
+use Rattle.bus_journal.proofs.Cited.{codes, decimal_digit}
 use Rattle.bus_journal.proofs.Behind.{four_pieces}
 use Rattle.bus_journal.proofs.line.put_device_result.Goals as goal
 

@@ -1,7 +1,5 @@
-use Rattle.std.proofs.Common.{◌≡◌, ℕ, List, ◌++◌, sym, ap, ◌∙◌}
-use Rattle.bus_spec.specs.Lines.{place_text, part_text, data_text, result_text, entry_line}
-use Rattle.bus_journal.specs.Borrowed.{entry_by}
-use Rattle.bus_journal.specs.declared.borrowed.Head.{Head}
+use Rattle.bus_journal.proofs.Cited.{◌≡◌, ℕ, List, ◌++◌, sym, ap, ◌∙◌, place_text, part_text, data_text, result_text, entry_line, entry_by}
+use Rattle.bus_journal.proofs.Cited.{Head}
 use Rattle.bus_journal.proofs.Behind.{put_behind, four_pieces}
 use Rattle.bus_journal.proofs.line.put_entry.Goals as goal
 

@@ -1,4 +1,4 @@
-use Rattle.std.proofs.lemmas.Fmt.{decimal_digit}
+use Rattle.bus_journal.proofs.Cited.{decimal_digit}
 use Rattle.bus_journal.proofs.Behind.{five_pieces}
 use Rattle.bus_journal.proofs.line.put_held.Goals as goal
 

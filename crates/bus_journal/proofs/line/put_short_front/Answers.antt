@@ -1,5 +1,4 @@
-use Rattle.std.proofs.Common.{refl, ◌∙◌}
-use Rattle.std.proofs.lemmas.Fmt.{decimal_digit}
+use Rattle.bus_journal.proofs.Cited.{refl, ◌∙◌, decimal_digit}
 use Rattle.bus_journal.proofs.line.put_short_front.Goals as goal
 
 pub returns-clause-text : goal.returns-clause-text

@@ -1,6 +1,4 @@
-use Rattle.std.proofs.Common.{◌≡◌, ◌+◌, ◌*◌, ◌++◌, length, take}
-use Rattle.std.specs.List.{flat_map}
-use Rattle.bus_spec.specs.Lines.{spaced_digits}
+use Rattle.bus_journal.proofs.Cited.{◌≡◌, ◌+◌, ◌*◌, ◌++◌, length, take, flat_map, spaced_digits}
 use Rattle.bus_journal.proofs.pieces.put_spaced.Given as goal
 
 abbrev pub invariant-loop-byte : goal.invariant-loop-byte

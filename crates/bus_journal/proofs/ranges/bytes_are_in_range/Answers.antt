@@ -1,4 +1,4 @@
-use Rattle.std.proofs.Common.{arith}
+use Rattle.bus_journal.proofs.Cited.{arith}
 use Rattle.std.proofs.lemmas.Grind.{get_or_default_zero}
 use Rattle.bus_journal.proofs.ranges.bytes_are_in_range.Goals as goal
 

@@ -1,6 +1,6 @@
-use Rattle.std.proofs.Common.{◌≡◌, ◌++◌, ℕ, List, Some, None, drop, length, refl, sym, ap, ◌∙◌}
+use Rattle.bus_journal.proofs.Cited.{◌≡◌, ◌++◌, ℕ, List, drop, length, refl, sym, ap, ◌∙◌, drop_at}
+use Rattle.std.proofs.Common.{Some, None}
 use Rattle.std.proofs.lemmas.Bool.Decides.{Decides-eqb}
-use Rattle.std.proofs.lemmas.List.{drop_at}
 use Rattle.std.proofs.lemmas.Slice.Eq.{bytes_eq-Decides, strip_prefix_is}
 use Rattle.bus_journal.proofs.read.has_parts.Goals as goal
 
@@ -17,7 +17,8 @@ returns-in-Some-clause-no c = λ is.
     strip_prefix_is Decides-eqb c.args.line.now c.args.front.now (Some c.in-Some.rest) c.in-Some.ensures.cases in
     let n = length c.args.front.now in
     let same : c.in-Some.rest.now ≡ c.args.end.now =
-    sym (drop_at c.args.front.now c.in-Some.rest.now n refl) ∙ ap (drop n) (sym parts ∙ sym is) ∙ drop_at c.args.front.now c.args.end.now n refl in
+    sym (drop_at c.args.front.now c.in-Some.rest.now n refl) ∙ ap (drop n) (sym parts ∙ sym is)
+    ∙ drop_at c.args.front.now c.args.end.now n refl in
     c.eq.ensures ∙ (bytes_eq-Decides c.in-Some.rest.now c.args.end.now).1 same
 
 pub returns-in-None-clause-no : goal.returns-in-None-clause-no

@@ -1,6 +1,5 @@
-use Rattle.std.proofs.Common.{◌≡◌, ◌++◌, ℕ, List, Some, None, true, false, sym, ap, ◌∙◌}
-use Rattle.bus_spec.specs.Lines.{entry_line}
-use Rattle.bus_journal.specs.Borrowed.{entry_by}
+use Rattle.bus_journal.proofs.Cited.{◌≡◌, ◌++◌, ℕ, List, true, false, sym, ap, ◌∙◌, entry_line, entry_by}
+use Rattle.std.proofs.Common.{Some, None}
 use Rattle.bus_journal.proofs.Whole.{guess_of-line}
 use Rattle.bus_journal.proofs.read.read_line.Goals as goal
 

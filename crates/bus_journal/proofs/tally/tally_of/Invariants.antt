@@ -1,4 +1,4 @@
-use Rattle.std.proofs.Common.{length}
+use Rattle.bus_journal.proofs.Cited.{length}
 use Rattle.bus_journal.proofs.TallyLemmas.{IsCounted}
 use Rattle.bus_journal.proofs.tally.tally_of.Given as goal
 

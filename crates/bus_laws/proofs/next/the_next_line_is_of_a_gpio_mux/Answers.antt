@@ -1,4 +1,4 @@
-use Rattle.bus_spec.specs.Past.{now}
+use Rattle.bus_laws.proofs.Cited.{now}
 use Rattle.bus_laws.proofs.world.LineFacts.{lines-locked}
 use Rattle.bus_laws.proofs.past.Laws.{past-stands}
 use Rattle.bus_laws.proofs.past.NextLine.{next-line}

@@ -1,4 +1,4 @@
-use Rattle.std.proofs.Common.{arith}
+use Rattle.bus_laws.proofs.Cited.{arith}
 use Rattle.bus_laws.proofs.world.LineFacts.{lines-locked}
 use Rattle.bus_laws.proofs.past.Ready.{takes-below, sole-takes}
 use Rattle.bus_laws.proofs.next.the_next_lock_has_a_lower_rank.Goals as goal

@@ -1,7 +1,4 @@
-use Rattle.std.proofs.Common.{◌≡◌, take, count_by}
-use Rattle.wire_spec.specs.Wires.{Bit}
-use Rattle.wire_spec.specs.Sites.{NodeState}
-use Rattle.bus_lines.specs.Joins.{is_chip}
+use Rattle.bus_lines.proofs.Cited.{◌≡◌, take, count_by, Bit, NodeState, is_chip}
 use Rattle.bus_lines.proofs.apart.chips_among.Given as goal
 
 abbrev pub invariant-loop-target : goal.invariant-loop-target

@@ -1,7 +1,4 @@
-use Rattle.std.proofs.Common.{◌≡◌, false, length, drop}
-use Rattle.wire_spec.specs.Roots.{where_joined}
-use Rattle.bus_lines.specs.declared.edges.Edge.TheVariants.{Enter}
-use Rattle.bus_lines.specs.Edges.{seen, acks_enter}
+use Rattle.bus_lines.proofs.Cited.{◌≡◌, false, length, drop, where_joined, Enter, seen, acks_enter}
 use Rattle.bus_lines.proofs.NumberedLemmas.{told, told_was}
 use Rattle.bus_lines.proofs.edges.enter_each.Given as goal
 

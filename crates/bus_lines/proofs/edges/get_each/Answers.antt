@@ -1,11 +1,7 @@
-use Rattle.std.proofs.Common.{length-set, get_or, sym, ap, ◌∙◌, arith, bit_and}
-use Rattle.wire_spec.specs.Roots.{where_joined}
-use Rattle.bus_lines.specs.declared.edges.Edge.TheVariants.{Get}
-use Rattle.bus_lines.specs.Edges.{seen, gives_get}
+use Rattle.bus_lines.proofs.Cited.{length-set, get_or, sym, ap, ◌∙◌, arith, bit_and, where_joined, Get, seen, gives_get, drop_all}
 use Rattle.bus_lines.proofs.AndLemmas.{told_and, told_and_each, and_next}
 use Rattle.bus_lines.proofs.NumberedLemmas.{told, told_each, told_next, among_at}
 use Rattle.bus_lines.proofs.edges.get_each.Goals as goal
-use Rattle.i2c_base.proofs.ListLemmas.{drop_all}
 
 pub prove-unreachable-requires : goal.prove-unreachable-requires
 prove-unreachable-requires c =
@@ -30,7 +26,8 @@ loop-number-preserved c =
       count = length-set now n new ∙ was.count;
       targets = told_next f ns i n lt c.from-number.ensures now at new low c.get-byte.ensures.target ∙ was.targets;
       byte = and_next f ns i n lt c.from-number.ensures now at new low c.get-byte.ensures.target gives_get c.loop-number.byte
-          (bit_and c.loop-number.byte c.get-byte.result) (c.loop-number.auto.byte-fits.fits) (ap (bit_and c.loop-number.byte) c.get-byte.ensures.byte) ∙ was.byte;
+          (bit_and c.loop-number.byte c.get-byte.result) (c.loop-number.auto.byte-fits.fits)
+          (ap (bit_and c.loop-number.byte) c.get-byte.ensures.byte) ∙ was.byte;
     }
 
 pub returns-clause-targets : goal.returns-clause-targets
@@ -38,7 +35,8 @@ returns-clause-targets c =
     let f = where_joined (seen (Get c.args.ack)) in
     let ns = c.args.numbers.now in
     let over = drop_all ns c.loop-number.number-index c.loop-number-test.false in
-    sym (ap (λ ms. told f ms c.loop-number.targets) over) ∙ c.loop-number.invariant.targets ∙ told_each f ns c.args.targets.now c.requires.apart
+    sym (ap (λ ms. told f ms c.loop-number.targets) over) ∙ c.loop-number.invariant.targets
+    ∙ told_each f ns c.args.targets.now c.requires.apart
 
 pub returns-clause-byte : goal.returns-clause-byte
 returns-clause-byte c =

@@ -1,7 +1,4 @@
-use Rattle.std.proofs.Common.{◌≡◌, length, drop}
-use Rattle.wire_spec.specs.Roots.{where_joined}
-use Rattle.bus_lines.specs.declared.edges.Edge.TheVariants.{Get}
-use Rattle.bus_lines.specs.Edges.{seen, gives_get}
+use Rattle.bus_lines.proofs.Cited.{◌≡◌, length, drop, where_joined, Get, seen, gives_get}
 use Rattle.bus_lines.proofs.AndLemmas.{told_and}
 use Rattle.bus_lines.proofs.NumberedLemmas.{told}
 use Rattle.bus_lines.proofs.edges.get_each.Given as goal

@@ -1,10 +1,6 @@
-use Rattle.std.proofs.Common.{length-set, get_or, sym, ap, ◌∙◌, arith}
-use Rattle.wire_spec.specs.Roots.{where_joined}
-use Rattle.bus_lines.specs.declared.edges.Edge.TheVariants.{Put}
-use Rattle.bus_lines.specs.Edges.{seen, acks_put}
+use Rattle.bus_lines.proofs.Cited.{length-set, get_or, sym, ap, ◌∙◌, arith, where_joined, Put, seen, acks_put, drop_all}
 use Rattle.bus_lines.proofs.NumberedLemmas.{told, told_was, told_each, told_was_each, told_next, was_next, among_at}
 use Rattle.bus_lines.proofs.edges.put_each.Goals as goal
-use Rattle.i2c_base.proofs.ListLemmas.{drop_all}
 
 pub prove-unreachable-requires : goal.prove-unreachable-requires
 prove-unreachable-requires c =
@@ -38,7 +34,8 @@ returns-clause-targets c =
     let f = where_joined (seen (Put c.args.byte)) in
     let ns = c.args.numbers.now in
     let over = drop_all ns c.loop-number.number-index c.loop-number-test.false in
-    sym (ap (λ ms. told f ms c.loop-number.targets) over) ∙ c.loop-number.invariant.targets ∙ told_each f ns c.args.targets.now c.requires.apart
+    sym (ap (λ ms. told f ms c.loop-number.targets) over) ∙ c.loop-number.invariant.targets
+    ∙ told_each f ns c.args.targets.now c.requires.apart
 
 pub returns-clause-acked : goal.returns-clause-acked
 returns-clause-acked c =

@@ -1,7 +1,4 @@
-use Rattle.std.proofs.Common.{◌≡◌, false, length, drop}
-use Rattle.wire_spec.specs.Roots.{where_joined}
-use Rattle.bus_lines.specs.declared.edges.Edge.TheVariants.{Put}
-use Rattle.bus_lines.specs.Edges.{seen, acks_put}
+use Rattle.bus_lines.proofs.Cited.{◌≡◌, false, length, drop, where_joined, Put, seen, acks_put}
 use Rattle.bus_lines.proofs.NumberedLemmas.{told, told_was}
 use Rattle.bus_lines.proofs.edges.put_each.Given as goal
 
@@ -12,5 +9,6 @@ invariant-loop-number l =
     record {
       count : length l.targets ≡ length l.fn.targets;
       targets : told f (drop l.number-index l.numbers) l.targets ≡ told f l.numbers l.fn.targets;
-      acked : told_was f (acks_put l.byte) l.acked (drop l.number-index l.numbers) l.targets ≡ told_was f (acks_put l.byte) false l.numbers l.fn.targets;
+      acked : told_was f (acks_put l.byte) l.acked (drop l.number-index l.numbers) l.targets ≡ told_was f
+          (acks_put l.byte) false l.numbers l.fn.targets;
     }

@@ -1,11 +1,6 @@
-use Rattle.std.proofs.Common.{length-set, get_or, sym, ap, ◌∙◌, arith}
-use Rattle.wire_spec.specs.Roots.{where_joined}
-use Rattle.wire_spec.specs.Bus.{holds_line}
-use Rattle.bus_lines.specs.Edges.{seen}
-use Rattle.bus_lines.specs.Units.{some_by, of_those}
+use Rattle.bus_lines.proofs.Cited.{length-set, get_or, sym, ap, ◌∙◌, arith, where_joined, holds_line, seen, some_by, of_those, drop_all}
 use Rattle.bus_lines.proofs.NumberedLemmas.{told, told_some, told_each, told_some_each, told_next, some_next, among_at}
 use Rattle.bus_lines.proofs.edges.tell_each.Goals as goal
-use Rattle.i2c_base.proofs.ListLemmas.{drop_all}
 
 pub prove-unreachable-requires : goal.prove-unreachable-requires
 prove-unreachable-requires c =
@@ -38,7 +33,8 @@ returns-clause-targets c =
     let f = where_joined (seen c.args.edge) in
     let ns = c.args.numbers.now in
     let over = drop_all ns c.loop-number.number-index c.loop-number-test.false in
-    sym (ap (λ ms. told f ms c.loop-number.targets) over) ∙ c.loop-number.invariant.targets ∙ told_each f ns c.args.targets.now c.requires.apart
+    sym (ap (λ ms. told f ms c.loop-number.targets) over) ∙ c.loop-number.invariant.targets
+    ∙ told_each f ns c.args.targets.now c.requires.apart
 
 pub returns-clause-held : goal.returns-clause-held
 returns-clause-held c =

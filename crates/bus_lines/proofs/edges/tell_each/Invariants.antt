@@ -1,7 +1,4 @@
-use Rattle.std.proofs.Common.{◌≡◌, false, length, drop}
-use Rattle.wire_spec.specs.Roots.{where_joined}
-use Rattle.wire_spec.specs.Bus.{holds_line}
-use Rattle.bus_lines.specs.Edges.{seen}
+use Rattle.bus_lines.proofs.Cited.{◌≡◌, false, length, drop, where_joined, holds_line, seen}
 use Rattle.bus_lines.proofs.NumberedLemmas.{told, told_some}
 use Rattle.bus_lines.proofs.edges.tell_each.Given as goal
 

@@ -1,7 +1,4 @@
-use Rattle.std.proofs.Common.{◌≡◌, ◌==◌, ap, ◌∙◌, length-set, length, get_or, [], refl, arith}
-use Rattle.wire_spec.specs.Wires.{Bit}
-use Rattle.wire_spec.specs.Sites.{NodeState}
-use Rattle.bus_lines.specs.Units.{lists_of}
+use Rattle.bus_lines.proofs.Cited.{◌≡◌, ◌==◌, ap, ◌∙◌, length-set, length, get_or, [], refl, arith, Bit, NodeState, lists_of}
 use Rattle.bus_lines.proofs.IndexLemmas.{number_put, number_left}
 use Rattle.bus_lines.proofs.index.add_each.Goals as goal
 use Rattle.bus_lines.proofs.index.add_each.Goals.{then-addr-len+in_ok-push, else-addr-len}
@@ -25,6 +22,7 @@ loop-number-preserved c =
       | else-addr-len w ↦ record {
         all = ap (λ v. length v.items) w.at-is ∙ was.all;
         listed = λ a low. ap (λ v. get_or (lists_of v.items) a []) w.at-is ∙ was.listed a low
-            ∙ number_left bs i b a (omega (arith, w.if-addr-len.false, c.len.ensures, was.all, addr)) c.loop-number-test.true c.index-targets-number.is low;
+            ∙ number_left bs i b a (omega (arith, w.if-addr-len.false, c.len.ensures, was.all, addr)) c.loop-number-test.true
+            c.index-targets-number.is low;
       }
     ]

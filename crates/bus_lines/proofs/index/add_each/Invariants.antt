@@ -1,6 +1,4 @@
-use Rattle.std.proofs.Common.{◌≡◌, ◌<◌, ℕ, [], get_or, length, take}
-use Rattle.wire_spec.specs.Sites.{NO_ADDRESS}
-use Rattle.bus_lines.specs.Units.{lists_of, numbers_at}
+use Rattle.bus_lines.proofs.Cited.{◌≡◌, ◌<◌, ℕ, [], get_or, length, take, NO_ADDRESS, lists_of, numbers_at}
 use Rattle.bus_lines.proofs.index.add_each.Given as goal
 
 -- those of so many

@@ -1,13 +1,9 @@
-use Rattle.std.proofs.Common.{length-set, get_or, sym, ap, ◌∙◌, arith, ◌&&◌, refl}
-use Rattle.bus_lines.specs.Joins.{joins_by, states_on}
-use Rattle.bus_lines.specs.Known.{known}
-use Rattle.bus_lines.specs.Numbers.{is_among}
+use Rattle.bus_lines.proofs.Cited.{length-set, get_or, sym, ap, ◌∙◌, arith, ◌&&◌, refl, joins_by, states_on, known, is_among, drop_all}
 use Rattle.bus_lines.proofs.JoinLemmas.{states_set}
 use Rattle.bus_lines.proofs.KnownLemmas.{read_those, each_read, read_next}
 use Rattle.bus_lines.proofs.ListedLemmas.{listed_next, listed_known, take_whole}
 use Rattle.bus_lines.proofs.NumberedLemmas.{among_at}
 use Rattle.bus_lines.proofs.joining.list_those.Goals as goal
-use Rattle.i2c_base.proofs.ListLemmas.{drop_all}
 
 pub prove-unreachable-requires : goal.prove-unreachable-requires
 prove-unreachable-requires c =
@@ -43,7 +39,8 @@ loop-number-preserved c =
           ∙ was.targets;
       room = c.add_if.ensures.room ∙ was.room;
       among = λ k. c.add_if.ensures.among k
-          ∙ listed_next joins ns i n k (is_among c.loop-number.list.items k) c.joins_by-joined.result c.loop-number-test.true c.from-place.ensures (was.among k) read;
+          ∙ listed_next joins ns i n k (is_among c.loop-number.list.items k) c.joins_by-joined.result c.loop-number-test.true
+          c.from-place.ensures (was.among k) read;
     }
 
 pub returns-clause-targets : goal.returns-clause-targets
@@ -51,7 +48,8 @@ returns-clause-targets c =
     let joins = joins_by c.args.places.now (states_on c.args.targets.now) in
     let ns = c.args.numbers.now in
     let over = drop_all ns c.loop-number.number-index c.loop-number-test.false in
-    sym (ap (λ ms. read_those joins ms c.loop-number.targets) over) ∙ c.loop-number.invariant.targets ∙ each_read joins ns c.args.targets.now
+    sym (ap (λ ms. read_those joins ms c.loop-number.targets) over) ∙ c.loop-number.invariant.targets
+    ∙ each_read joins ns c.args.targets.now
 
 pub returns-clause-listed : goal.returns-clause-listed
 returns-clause-listed c =
@@ -59,7 +57,9 @@ returns-clause-listed c =
     let ns = c.args.numbers.now in
     let i = c.loop-number.number-index in
     let over = drop_all ns i c.loop-number-test.false in
-    let all = sym (ap (λ ms. read_those joins ms c.loop-number.targets) over) ∙ c.loop-number.invariant.targets ∙ each_read joins ns c.args.targets.now in
+    let all = sym (ap (λ ms. read_those joins ms c.loop-number.targets) over) ∙ c.loop-number.invariant.targets
+    ∙ each_read joins ns c.args.targets.now in
     λ k. c.loop-number.invariant.among k
     ∙ ap (λ ms. is_among ms k && joins k) (take_whole ns i c.loop-number-test.false)
-    ∙ listed_known c.args.places.now ns c.args.targets.now c.loop-number.targets all c.loop-number.invariant.count c.requires.numbers k (is_among ns k) refl
+    ∙ listed_known c.args.places.now ns c.args.targets.now c.loop-number.targets all c.loop-number.invariant.count c.requires.numbers k
+    (is_among ns k) refl

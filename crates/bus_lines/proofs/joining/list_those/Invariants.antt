@@ -1,6 +1,4 @@
-use Rattle.std.proofs.Common.{◌≡◌, ℕ, ◌&&◌, length, drop, take}
-use Rattle.bus_lines.specs.Joins.{joins_by, states_on}
-use Rattle.bus_lines.specs.Numbers.{is_among}
+use Rattle.bus_lines.proofs.Cited.{◌≡◌, ℕ, ◌&&◌, length, drop, take, joins_by, states_on, is_among}
 use Rattle.bus_lines.proofs.KnownLemmas.{read_those}
 use Rattle.bus_lines.proofs.joining.list_those.Given as goal
 

@@ -1,6 +1,4 @@
-use Rattle.std.proofs.Common.{◌≡◌, ◌-◌, ◌<◌, suc, length, length-set, get_or, refl, ap, ◌∙◌, arith}
-use Rattle.bus_lines.specs.Joins.{joins_by, states_on}
-use Rattle.bus_lines.specs.Known.{known}
+use Rattle.bus_lines.proofs.Cited.{◌≡◌, ◌-◌, ◌<◌, suc, length, length-set, get_or, refl, ap, ◌∙◌, arith, joins_by, states_on, known}
 use Rattle.bus_lines.proofs.JoinLemmas.{next_back, states_set, first_all}
 use Rattle.bus_lines.proofs.joining.refresh_each.Goals as goal
 

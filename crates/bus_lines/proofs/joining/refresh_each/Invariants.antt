@@ -1,6 +1,4 @@
-use Rattle.std.proofs.Common.{◌≡◌, ◌≤◌, length}
-use Rattle.bus_lines.specs.Joins.{joins_by, states_on}
-use Rattle.bus_lines.specs.Known.{known, known_on}
+use Rattle.bus_lines.proofs.Cited.{◌≡◌, ◌≤◌, length, joins_by, states_on, known, known_on}
 use Rattle.bus_lines.proofs.JoinLemmas.{first_from}
 use Rattle.bus_lines.proofs.joining.refresh_each.Given as goal
 

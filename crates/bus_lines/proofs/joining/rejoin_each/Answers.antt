@@ -1,6 +1,5 @@
-use Rattle.std.proofs.Common.{◌≡◌, ◌-◌, ◌<◌, ◌||◌, suc, length, length-set, get_or, refl, ap, ◌∙◌, arith}
-use Rattle.wire_spec.specs.Bus.{holds_line}
-use Rattle.bus_lines.specs.Joins.{joins_by, read_anew, states_on}
+use Rattle.bus_lines.proofs.Cited.{◌≡◌, ◌-◌, ◌<◌, ◌||◌, suc, length, length-set, get_or, refl, ap, ◌∙◌, arith, holds_line, joins_by}
+use Rattle.bus_lines.proofs.Cited.{read_anew, states_on}
 use Rattle.bus_lines.proofs.BackLemmas.{some_back, some_none}
 use Rattle.bus_lines.proofs.JoinLemmas.{joined_by, rejoin_all, next_back, states_set}
 use Rattle.bus_lines.proofs.joining.rejoin_each.Goals as goal

@@ -1,7 +1,4 @@
-use Rattle.std.proofs.Common.{◌≡◌, ◌≤◌, length, drop}
-use Rattle.wire_spec.specs.Roots.{some_one}
-use Rattle.wire_spec.specs.Bus.{holds_line, rejoin_from}
-use Rattle.bus_lines.specs.Joins.{joins_by, states_on}
+use Rattle.bus_lines.proofs.Cited.{◌≡◌, ◌≤◌, length, drop, some_one, holds_line, rejoin_from, joins_by, states_on}
 use Rattle.bus_lines.proofs.JoinLemmas.{first_from, joined_by}
 use Rattle.bus_lines.proofs.joining.rejoin_each.Given as goal
 

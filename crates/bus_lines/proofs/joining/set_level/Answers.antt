@@ -1,6 +1,4 @@
-use Rattle.std.proofs.Common.{◌<◌, ◌≤◌, length, ap, ◌∙◌, arith}
-use Rattle.i2c_bits.specs.Wiring.{levelled_bits}
-use Rattle.bus_lines.specs.Joins.{at_node_level}
+use Rattle.bus_lines.proofs.Cited.{◌<◌, ◌≤◌, length, ap, ◌∙◌, arith, levelled_bits, at_node_level}
 use Rattle.bus_lines.proofs.LevelLemmas.{levelled_set, levelled_none}
 use Rattle.bus_lines.proofs.joining.set_level.Goals as goal
 

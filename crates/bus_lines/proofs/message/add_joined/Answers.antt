@@ -1,4 +1,4 @@
-use Rattle.std.proofs.Common.{get_or, arith}
+use Rattle.bus_lines.proofs.Cited.{get_or, arith}
 use Rattle.bus_lines.proofs.NumberedLemmas.{among_at}
 use Rattle.bus_lines.proofs.message.add_joined.Goals as goal
 

@@ -1,11 +1,5 @@
-use Rattle.std.proofs.Common.{◌≡◌, ◌/◌, ◌&&◌, ◌||◌, ℕ, List, [], length, get_or, sym, ap, ◌∙◌, subst}
-use Rattle.wire_spec.specs.Wires.{Bit}
-use Rattle.wire_spec.specs.Roots.{where_joined}
-use Rattle.wire_spec.specs.Sites.{NodeState}
-use Rattle.bus_lines.specs.declared.edges.Edge.TheVariants.{Other, Address}
-use Rattle.bus_lines.specs.Edges.{seen, joined_at}
-use Rattle.bus_lines.specs.Numbers.{AreNumbers, is_among}
-use Rattle.bus_lines.specs.Units.{by_number, to_those}
+use Rattle.bus_lines.proofs.Cited.{◌≡◌, ◌/◌, ◌&&◌, ◌||◌, ℕ, List, [], length, get_or, sym, ap, ◌∙◌, subst, Bit, where_joined, NodeState}
+use Rattle.bus_lines.proofs.Cited.{Other, Address, seen, joined_at, AreNumbers, is_among, by_number, to_those}
 use Rattle.bus_lines.proofs.CalledLemmas.{and_again, told_to_joined}
 use Rattle.bus_lines.proofs.NumberedLemmas.{numbered_twice, length-numbered}
 use Rattle.bus_lines.proofs.message.call.Goals as goal

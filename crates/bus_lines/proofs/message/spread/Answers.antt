@@ -1,5 +1,4 @@
-use Rattle.std.proofs.Common.{◌≡◌, ◌-◌, ◌^◌, ◌<◌, ℕ, subst, sym, arith}
-use Rattle.std.proofs.lemmas.Bool.Decides.{nat_tests}
+use Rattle.bus_lines.proofs.Cited.{◌≡◌, ◌-◌, ◌^◌, ◌<◌, ℕ, subst, sym, arith, nat_tests}
 use Rattle.bus_lines.proofs.TargetsLemmas.{seen_alone}
 use Rattle.bus_lines.proofs.message.spread.Goals as goal
 

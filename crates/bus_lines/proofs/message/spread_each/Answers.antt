@@ -1,5 +1,4 @@
-use Rattle.std.proofs.Common.{◌≡◌, ◌-◌, ◌<◌, suc, length, length-set, ◌∙◌, arith}
-use Rattle.bus_lines.specs.Units.{shared}
+use Rattle.bus_lines.proofs.Cited.{◌≡◌, ◌-◌, ◌<◌, suc, length, length-set, ◌∙◌, arith, shared}
 use Rattle.bus_lines.proofs.BackLemmas.{first_all, first_back}
 use Rattle.bus_lines.proofs.message.spread_each.Goals as goal
 

@@ -1,5 +1,4 @@
-use Rattle.std.proofs.Common.{◌≡◌, ◌≤◌, length, map}
-use Rattle.bus_lines.specs.Units.{shared}
+use Rattle.bus_lines.proofs.Cited.{◌≡◌, ◌≤◌, length, map, shared}
 use Rattle.bus_lines.proofs.BackLemmas.{first_of}
 use Rattle.bus_lines.proofs.message.spread_each.Given as goal
 

@@ -1,6 +1,4 @@
-use Rattle.std.proofs.Common.{◌≡◌, ◌++◌, map, take}
-use Rattle.i2c_board.specs.Layouts.{board_of}
-use Rattle.bus_lines.specs.Opens.{chip_bit}
+use Rattle.bus_lines.proofs.Cited.{◌≡◌, ◌++◌, map, take, board_of, chip_bit}
 use Rattle.bus_lines.proofs.opening.add_chips.Given as goal
 
 -- so many stand there

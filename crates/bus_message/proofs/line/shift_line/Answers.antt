@@ -1,6 +1,5 @@
-use Rattle.std.proofs.Common.{sym, subst, arith}
+use Rattle.bus_message.proofs.Cited.{sym, subst, arith, Phase}
 use Rattle.i2c_base.specs.Phases.{MayLine}
-use Rattle.i2c_base.specs.declared.port.Phase.{Phase}
 use Rattle.bus_message.proofs.line.shift_line.Goals as goal
 
 pub line-requires-clause-phase : goal.line-requires-clause-phase

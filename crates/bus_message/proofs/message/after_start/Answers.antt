@@ -1,8 +1,6 @@
-use Rattle.std.proofs.Common.{◌≡◌, true, false, [], arith}
-use Rattle.std.proofs.lemmas.Grind.{common_steps}
+use Rattle.bus_message.proofs.Cited.{◌≡◌, true, false, [], arith, common_steps, bytes_most, ending, moving}
 use Rattle.i2c_base.specs.declared.entry.End.TheVariants as end
-use Rattle.i2c_spec.specs.Messages.{bytes_most}
-use Rattle.bus_message.specs.Talks.{answered, ending, moving}
+use Rattle.bus_message.specs.Talks.{answered}
 use Rattle.bus_message.proofs.EndLemmas.{rest-ends}
 use Rattle.bus_message.proofs.MessageLemmas.{begins_data, begins_slow, begins_unheard}
 use Rattle.bus_message.proofs.message.after_start.Goals as goal

@@ -1,9 +1,6 @@
-use Rattle.std.proofs.Common.{◌≡◌, ◌+◌, ◌-◌, Some, ◌∙◌, ap, arith, rules, length, length-append}
-use Rattle.std.proofs.lemmas.Grind.{common_steps}
-use Rattle.i2c_base.specs.Fitting.{count_of}
+use Rattle.bus_message.proofs.Cited.{◌≡◌, ◌+◌, ◌-◌, Some, ◌∙◌, ap, arith, rules, length, length-append, common_steps, count_of, PortCall}
+use Rattle.bus_message.proofs.Cited.{ending, getting}
 use Rattle.i2c_base.specs.declared.entry.End.TheVariants as end
-use Rattle.i2c_base.specs.declared.port.PortCall.{PortCall}
-use Rattle.bus_message.specs.Talks.{ending, getting}
 use Rattle.bus_message.proofs.EndLemmas.{fault-ends, rest-ends}
 use Rattle.bus_message.proofs.MessageLemmas.{get_failed, get_went, get_done, acknowledges, count_stays}
 use Rattle.bus_message.proofs.TalkLemmas.{cut_after}

@@ -1,10 +1,6 @@
-use Rattle.std.proofs.Common.{◌≡◌, ℕ, ◌+◌, ◌-◌, ◌<◌, ◌≤◌, List, Option, Some, IsTrue, length, nat_lt}
-use Rattle.i2c_base.specs.Fitting.{count_of}
+use Rattle.bus_message.proofs.Cited.{◌≡◌, ℕ, ◌+◌, ◌-◌, ◌<◌, ◌≤◌, List, Option, Some, IsTrue, length, nat_lt, count_of, PortCall, World}
+use Rattle.bus_message.proofs.Cited.{TalkTold, world_listener, gets, Reaches}
 use Rattle.i2c_base.specs.Phases.{phase_got}
-use Rattle.i2c_base.specs.declared.port.PortCall.{PortCall}
-use Rattle.i2c_spec.specs.World.{World}
-use Rattle.i2c_spec.specs.Conversation.{TalkTold, world_listener, gets}
-use Rattle.bus_message.specs.Talks.{Reaches}
 use Rattle.bus_message.proofs.message.get_all.Given as goal
 
 abbrev pub invariant-loop-count : goal.invariant-loop-count

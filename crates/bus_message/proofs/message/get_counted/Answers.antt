@@ -1,7 +1,5 @@
-use Rattle.std.proofs.Common.{◌≡◌, true, false, ◌+◌, ◌-◌, [], sym, ap, ◌∙◌, arith, length, length-append}
-use Rattle.std.proofs.lemmas.Grind.{common_steps}
-use Rattle.i2c_base.specs.declared.port.PortCall.{PortCall}
-use Rattle.bus_message.specs.Talks.{counting, getting, over_limit}
+use Rattle.bus_message.proofs.Cited.{◌≡◌, true, false, ◌+◌, ◌-◌, [], sym, ap, ◌∙◌, arith, length, length-append, common_steps, PortCall}
+use Rattle.bus_message.proofs.Cited.{counting, getting, over_limit}
 use Rattle.bus_message.proofs.EndLemmas.{fault-ends, rest-ends}
 use Rattle.bus_message.proofs.MessageLemmas.{count_failed, count_over, count_within}
 use Rattle.bus_message.proofs.TalkLemmas.{cut_after}

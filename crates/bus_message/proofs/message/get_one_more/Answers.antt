@@ -1,8 +1,5 @@
-use Rattle.std.proofs.Common.{true, ap, arith, length, length-append}
-use Rattle.std.proofs.lemmas.Grind.{common_steps}
+use Rattle.bus_message.proofs.Cited.{true, ap, arith, length, length-append, common_steps, PortCall, ending, over_limit}
 use Rattle.i2c_base.specs.declared.entry.End.TheVariants as end
-use Rattle.i2c_base.specs.declared.port.PortCall.{PortCall}
-use Rattle.bus_message.specs.Talks.{ending, over_limit}
 use Rattle.bus_message.proofs.EndLemmas.{fault-ends, rest-ends}
 use Rattle.bus_message.proofs.MessageLemmas.{over_went, over_failed}
 use Rattle.bus_message.proofs.TalkLemmas.{cut_after}

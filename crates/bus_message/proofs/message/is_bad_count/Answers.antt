@@ -1,5 +1,4 @@
-use Rattle.std.proofs.Common.{arith}
-use Rattle.std.proofs.lemmas.Grind.{common_steps}
+use Rattle.bus_message.proofs.Cited.{arith, common_steps}
 use Rattle.bus_message.proofs.message.is_bad_count.Goals as goal
 
 pub returns-then-count-eq0-clause-test : goal.returns-then-count-eq0-clause-test

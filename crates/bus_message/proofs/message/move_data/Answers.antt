@@ -1,7 +1,5 @@
-use Rattle.std.proofs.Common.{sym, ◌∙◌, ap, arith, rules, [], length, ◌+◌}
-use Rattle.std.proofs.lemmas.Grind.{common_steps}
-use Rattle.i2c_spec.specs.Messages.{bytes_most}
-use Rattle.bus_message.specs.Talks.{counting, getting, moving, putting}
+use Rattle.bus_message.proofs.Cited.{sym, ◌∙◌, ap, arith, rules, [], length, ◌+◌, common_steps, bytes_most, counting, getting, moving}
+use Rattle.bus_message.proofs.Cited.{putting}
 use Rattle.bus_message.proofs.EndLemmas.{rest-ends}
 use Rattle.bus_message.proofs.MessageLemmas.{data_written, data_counted, data_read}
 use Rattle.bus_message.proofs.message.move_data.Goals as goal

@@ -1,8 +1,6 @@
-use Rattle.std.proofs.Common.{◌≡◌, false, true, ◌+◌, Some, [], refl, sym, ap, ◌∙◌, arith, rules, length, length-append}
-use Rattle.std.proofs.lemmas.Grind.{common_steps}
+use Rattle.bus_message.proofs.Cited.{◌≡◌, false, true, ◌+◌, Some, [], refl, sym, ap, ◌∙◌, arith, rules, length, length-append, common_steps}
+use Rattle.bus_message.proofs.Cited.{PortCall, ending, putting}
 use Rattle.i2c_base.specs.declared.entry.End.TheVariants as end
-use Rattle.i2c_base.specs.declared.port.PortCall.{PortCall}
-use Rattle.bus_message.specs.Talks.{ending, putting}
 use Rattle.bus_message.proofs.EndLemmas.{fault-ends, rest-ends}
 use Rattle.bus_message.proofs.MessageLemmas.{put_failed, put_refused, put_taken, put_done}
 use Rattle.bus_message.proofs.TalkLemmas.{cut_after}

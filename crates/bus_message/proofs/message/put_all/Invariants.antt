@@ -1,9 +1,7 @@
-use Rattle.std.proofs.Common.{◌≡◌, ℕ, ◌+◌, ◌≤◌, List, [], Option, Some, IsTrue, length, take, drop}
+use Rattle.bus_message.proofs.Cited.{◌≡◌, ℕ, ◌+◌, ◌≤◌, List, [], Option, Some, IsTrue, length, PortCall, World, TalkTold, world_listener}
+use Rattle.bus_message.proofs.Cited.{puts, Reaches}
+use Rattle.std.proofs.Common.{take, drop}
 use Rattle.i2c_base.specs.declared.port.Phase.TheVariants.{Writing}
-use Rattle.i2c_base.specs.declared.port.PortCall.{PortCall}
-use Rattle.i2c_spec.specs.World.{World}
-use Rattle.i2c_spec.specs.Conversation.{TalkTold, world_listener, puts}
-use Rattle.bus_message.specs.Talks.{Reaches}
 use Rattle.bus_message.proofs.message.put_all.Given as goal
 
 abbrev pub invariant-loop-byte : goal.invariant-loop-byte

@@ -1,7 +1,5 @@
-use Rattle.std.proofs.Common.{◌≡◌, true, false, refl, ◌∙◌, ap, inl, arith, length, length-append}
-use Rattle.std.proofs.lemmas.Grind.{common_steps}
-use Rattle.i2c_base.specs.declared.port.PortCall.{PortCall}
-use Rattle.i2c_spec.specs.World.{has_heard, answer as answer_of}
+use Rattle.bus_message.proofs.Cited.{◌≡◌, true, false, refl, ◌∙◌, ap, inl, arith, length, length-append, common_steps, PortCall, has_heard}
+use Rattle.i2c_spec.specs.World.{answer as answer_of}
 use Rattle.bus_message.proofs.EndLemmas.{idle_starts, rose_from}
 use Rattle.bus_message.proofs.MessageLemmas.{starts}
 use Rattle.bus_message.proofs.TalkLemmas.{cut_after, started}

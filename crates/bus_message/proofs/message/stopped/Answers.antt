@@ -1,6 +1,4 @@
-use Rattle.std.proofs.Common.{true, arith, inl}
-use Rattle.std.proofs.lemmas.Grind.{common_steps}
-use Rattle.bus_message.specs.Talks.{ending}
+use Rattle.bus_message.proofs.Cited.{true, arith, inl, common_steps, ending}
 use Rattle.bus_message.proofs.EndLemmas.{fault-ends, idle_starts}
 use Rattle.bus_message.proofs.message.stopped.Goals as goal
 

@@ -1,9 +1,5 @@
-use Rattle.std.proofs.Common.{◌≡◌, true, false, ap, refl, arith, inr}
-use Rattle.std.proofs.lemmas.Grind.{common_steps}
+use Rattle.bus_message.proofs.Cited.{◌≡◌, true, false, ap, refl, arith, inr, common_steps, world_listener, ended, cut_of, ending}
 use Rattle.i2c_base.specs.declared.entry.End.TheVariants as end
-use Rattle.i2c_spec.specs.Conversation.{world_listener, ended}
-use Rattle.bus_spec.specs.Past.{cut_of}
-use Rattle.bus_message.specs.Talks.{ending}
 use Rattle.bus_message.proofs.EndLemmas.{rest-ends}
 use Rattle.bus_message.proofs.TalkLemmas.{reaches_same}
 use Rattle.bus_message.proofs.message.through.Goals as goal

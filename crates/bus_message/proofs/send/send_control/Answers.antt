@@ -1,10 +1,5 @@
-use Rattle.std.proofs.Common.{◌+◌, ◌≤◌, ℕ, Option, Some, None, length, sym, ◌∙◌, ap, subst}
-use Rattle.i2c_base.specs.Limits.{MOST_CALLS}
-use Rattle.i2c_spec.specs.Flat.{block_limit}
-use Rattle.i2c_spec.specs.Messages.{bytes_most}
-use Rattle.bus_message.specs.Sends.{control_message}
-use Rattle.i2c_spec.specs.Tree.{addr_of_mux}
-use Rattle.bus_message.specs.Ports.{root_port}
+use Rattle.bus_message.proofs.Cited.{◌+◌, ◌≤◌, ℕ, Option, Some, None, length, sym, ◌∙◌, ap, subst, MOST_CALLS, block_limit, bytes_most}
+use Rattle.bus_message.proofs.Cited.{control_message, addr_of_mux, root_port}
 use Rattle.bus_message.proofs.PortLemmas.{control-sent}
 use Rattle.bus_message.proofs.send.send_control.Goals as goal
 

@@ -1,11 +1,5 @@
-use Rattle.std.proofs.Common.{◌≡◌, ◌+◌, ◌≤◌, ℕ, length, sym, ◌∙◌, ap, subst}
-use Rattle.i2c_base.specs.Limits.{MOST_CALLS}
-use Rattle.i2c_base.specs.declared.entry.Purpose.{Purpose}
-use Rattle.i2c_spec.specs.Flat.{block_limit}
-use Rattle.i2c_spec.specs.Messages.{MessageView, bytes_most}
-use Rattle.bus_message.specs.Cursors.{CursorView}
-use Rattle.bus_message.specs.Ports.{root_port}
-use Rattle.bus_message.specs.Sends.{device_of, message_for}
+use Rattle.bus_message.proofs.Cited.{◌≡◌, ◌+◌, ◌≤◌, ℕ, length, sym, ◌∙◌, ap, subst, MOST_CALLS, Purpose, block_limit, MessageView}
+use Rattle.bus_message.proofs.Cited.{bytes_most, CursorView, root_port, device_of, message_for}
 use Rattle.bus_message.proofs.PortLemmas.{call-sent}
 use Rattle.bus_message.proofs.send.send_next.Goals as goal
 
@@ -44,7 +38,8 @@ returns-in-Call g c root =
     c.send_message.new.bytes c.send_message.result v.grant c.from-limit.result c.message.result c.device-hearer.result c.is_last.result
     c.in-Call.is c.message.ensures.value (c.requires.next c.in-Call.is).grants (c.device-hearer.ensures
     ∙ ap (λ (x : CursorView). device_of x.grant) c.cursor.view_is)
-    (c.from-limit.ensures ∙ c.limit.ensures.value ∙ ap block_limit c.board.ensures.value) c.is_last.ensures (c.send_message.ensures.sent root)
+    (c.from-limit.ensures ∙ c.limit.ensures.value ∙ ap block_limit c.board.ensures.value) c.is_last.ensures
+    (c.send_message.ensures.sent root)
 
 pub returns-in-Control : goal.returns-in-Control
 returns-in-Control g c root = c.send_control.ensures c.args.cursor.now.transfer c.args.cursor.now.sent root

@@ -1,9 +1,5 @@
-use Rattle.std.proofs.Common.{◌≡◌, ℕ, ◌+◌, List, ◌++◌, drop, Some, sym, ap, ◌∙◌, append_assoc, arith}
-use Rattle.std.specs.Prelude.{slice_get}
-use Rattle.i2c_base.specs.declared.reply.Reply.{Reply}
-use Rattle.caller_core.specs.Scripts.{command_text, quiet_text}
-use Rattle.caller_core.specs.Turns.{command_talk, quiet}
-use Rattle.caller_core.specs.View.{CommandView}
+use Rattle.caller_core.proofs.Cited.{◌≡◌, ℕ, ◌+◌, List, ◌++◌, drop, Some, sym, ap, ◌∙◌, append_assoc, arith, slice_get, Reply, command_text}
+use Rattle.caller_core.proofs.Cited.{quiet_text, command_talk, quiet, CommandView}
 use Rattle.caller_core.proofs.QuietLemmas.{front_quiet, text_quiet, room_quiet}
 use Rattle.caller_core.proofs.TakeLemmas.{at_place}
 use Rattle.caller_core.proofs.caller.push_quiet.Goals as goal

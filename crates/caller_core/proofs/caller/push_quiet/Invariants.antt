@@ -1,6 +1,4 @@
-use Rattle.std.proofs.Common.{length, ◌-◌, ◌≡◌, ◌+◌, ◌≤◌, ◌++◌, drop}
-use Rattle.caller_core.specs.Scripts.{front_room, quiet_text}
-use Rattle.caller_core.specs.Turns.{quiet_front}
+use Rattle.caller_core.proofs.Cited.{length, ◌-◌, ◌≡◌, ◌+◌, ◌≤◌, ◌++◌, drop, front_room, quiet_text, quiet_front}
 use Rattle.caller_core.proofs.caller.push_quiet.Given as goal
 
 abbrev pub decreases-loop-at : goal.decreases-loop-at

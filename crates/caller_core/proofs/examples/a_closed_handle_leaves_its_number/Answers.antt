@@ -1,4 +1,4 @@
-use Rattle.std.proofs.Common.{refl}
+use Rattle.caller_core.proofs.Cited.{refl}
 use Rattle.std.specs.Fmt.{digits}
 use Rattle.caller_core.proofs.examples.a_closed_handle_leaves_its_number.Goals as goal
 

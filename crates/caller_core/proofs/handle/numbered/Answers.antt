@@ -1,7 +1,4 @@
-use Rattle.std.proofs.Common.{◌≡◌, ℕ, List, ◌++◌, codes, refl, sym, ap, subst, ◌∙◌}
-use Rattle.std.specs.Fmt.{decimal}
-use Rattle.bus_journal.specs.Reports.{IsLine}
-use Rattle.bus_journal.proofs.LineFeeds.{line-append, decimal-line}
+use Rattle.caller_core.proofs.Cited.{◌≡◌, ℕ, List, ◌++◌, codes, refl, sym, ap, subst, ◌∙◌, decimal, IsLine, line-append, decimal-line}
 use Rattle.caller_core.proofs.handle.numbered.Goals as goal
 
 pub says_line-requires : goal.says_line-requires

@@ -1,5 +1,4 @@
-use Rattle.std.proofs.Common.{arith}
-use Rattle.std.proofs.lemmas.Grind.{common_steps}
+use Rattle.caller_core.proofs.Cited.{arith, common_steps}
 use Rattle.caller_core.proofs.script.fault_at.Goals as goal
 
 pub returns-in-Word : goal.returns-in-Word

@@ -1,6 +1,4 @@
-use Rattle.std.proofs.Common.{◌≡◌, ◌+◌, ◌-◌, take, drop, subst, ℕ, arith}
-use Rattle.caller_core.specs.Reach.{HasReachedOn}
-use Rattle.caller_core.specs.ScriptSteps.{IsStep, IsRefused}
+use Rattle.caller_core.proofs.Cited.{◌≡◌, ◌+◌, ◌-◌, take, drop, subst, ℕ, arith, HasReachedOn, IsStep, IsRefused}
 use Rattle.caller_core.proofs.ScriptLemmas.{script_steps, refused_script}
 use Rattle.caller_core.proofs.ReachLemmas.{reach_steps}
 use Rattle.caller_core.proofs.script.read_script.Goals as goal
@@ -12,7 +10,8 @@ returns-in-Err-clause-commands c =
     let same : at + len - at ≡ len = omega arith in
     let refused = subst (λ (k : ℕ). IsRefused c.args.board.now (c.loop-at.number + 1) c.loop-at.read.commands
     (take k (drop at c.args.text.now)) c.loop-at.handles c.in-Err.fault) same c.in-Err.ensures.err in
-    refused_script c.args.board.now (c.loop-at.number + 1) at len c.cut_at-len.result.1 c.args.text.now c.loop-at.read.commands c.loop-at.handles
+    refused_script c.args.board.now (c.loop-at.number + 1) at len c.cut_at-len.result.1 c.args.text.now c.loop-at.read.commands
+    c.loop-at.handles
     c.in-Err.fault _
     refused c.cut_at-len.ensures.split c.loop-at.invariant.same
 
@@ -29,7 +28,8 @@ loop-at-preserved c =
       within = omega (arith, c.cut_at-len.ensures.within);
       count = omega (arith, c.cut_at-len.ensures.some);
       same = script_steps c.args.board.now
-          (c.loop-at.number + 1) at len c.cut_at-len.result.1 c.args.text.now c.loop-at.read.commands c.take_line-step.new.read.commands c.loop-at.handles
+          (c.loop-at.number + 1) at len c.cut_at-len.result.1 c.args.text.now c.loop-at.read.commands c.take_line-step.new.read.commands
+          c.loop-at.handles
           c.take_line-step.new.handles _ step c.cut_at-len.ensures.split c.loop-at.invariant.same;
       few = c.in_default.ensures.few;
       reach = reach_steps c.args.board.now at len c.cut_at-len.result.1 c.args.text.now c.loop-at.read.reach c.take_line-step.new.read.reach

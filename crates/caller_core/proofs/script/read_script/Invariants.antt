@@ -1,7 +1,5 @@
-use Rattle.std.proofs.Common.{◌≡◌, ◌+◌, ◌-◌, ◌≤◌, length, drop}
+use Rattle.caller_core.proofs.Cited.{◌≡◌, ◌+◌, ◌-◌, ◌≤◌, length, drop, lines_of, text_read, lines_read, behind_commands}
 use Rattle.dev_handle.specs.Handles.{AreOnBoard}
-use Rattle.tools.specs.Splits.{lines_of}
-use Rattle.caller_core.specs.Scripts.{text_read, lines_read, behind_commands}
 use Rattle.caller_core.proofs.ReachLemmas.{IsReachBefore}
 use Rattle.caller_core.proofs.script.read_script.Given as goal
 

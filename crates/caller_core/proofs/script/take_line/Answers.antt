@@ -1,10 +1,6 @@
-use Rattle.std.proofs.Common.{◌≡◌, Ok, Some, ap, sym, subst, ◌∙◌, arith}
-use Rattle.tools.specs.Lines.{line_read}
-use Rattle.i2c_base.specs.Board.{BoardView}
-use Rattle.i2c_spec.specs.Flat.{block_limit}
+use Rattle.caller_core.proofs.Cited.{◌≡◌, Ok, Some, ap, sym, subst, ◌∙◌, arith, line_read, BoardView, block_limit, writes_device, AreMarked}
+use Rattle.caller_core.proofs.Cited.{at_most}
 use Rattle.std.proofs.lemmas.Result.{on_ok_weaker}
-use Rattle.caller_core.specs.Reach.{writes_device, AreMarked}
-use Rattle.caller_core.specs.Scripts.{at_most}
 use Rattle.caller_core.proofs.CommandLemmas.{read_in_range, read_room}
 use Rattle.caller_core.proofs.ReachLemmas.{reached_some}
 use Rattle.caller_core.proofs.script.take_line.Goals as goal
@@ -32,7 +28,8 @@ returns-in_ok-run-in-Ok-Some-clause-reach c =
     let read : at_most c.len.result (line_read (block_limit c.args.board.now) line) ≡ Ok (Some c.in-Ok-Some.cmd) =
     ap (λ n. at_most c.len.result (line_read n line)) (sym limit) ∙ c.in-Ok-Some.ensures.read ∙ ap Ok c.in-Ok-Some.field-0-is in
     let same : c.board-in-Ok-Some.result.now ≡ c.args.board.now = c.board-in-Ok-Some.ensures.value in
-    let written = subst (λ (b : BoardView). AreMarked (writes_device b c.in-Ok-Some.cmd) c.args.read.now.reach.written c.mark.new.self.written)
+    let written = subst (λ (b : BoardView). AreMarked (writes_device b c.in-Ok-Some.cmd) c.args.read.now.reach.written
+    c.mark.new.self.written)
     same c.mark.ensures.written in
     on_ok_weaker c.keep_command.result
     (λ kept. reached_some c.args.board.now c.len.result line c.in-Ok-Some.cmd _ _ read c.mark.ensures.forced written)

@@ -1,9 +1,4 @@
-use Rattle.std.proofs.Common.{◌≡◌, ℕ, ◌+◌, List, Some, arith}
-use Rattle.std.proofs.lemmas.Grind.{common_steps}
-use Rattle.std.specs.Prelude.{slice_get}
-use Rattle.caller_core.specs.Scripts.{room_of}
-use Rattle.caller_core.specs.Turns.{command_talk}
-use Rattle.caller_core.specs.View.{CommandView}
+use Rattle.caller_core.proofs.Cited.{◌≡◌, ℕ, ◌+◌, List, Some, arith, common_steps, slice_get, room_of, command_talk, CommandView}
 use Rattle.caller_core.proofs.QuietLemmas.{room_quiet}
 use Rattle.caller_core.proofs.TakeLemmas.{at_place}
 use Rattle.caller_core.proofs.totals.front_room.Goals as goal

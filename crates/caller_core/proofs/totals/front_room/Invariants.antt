@@ -1,5 +1,4 @@
-use Rattle.std.proofs.Common.{◌≡◌, ◌+◌, drop}
-use Rattle.caller_core.specs.Scripts.{front_room}
+use Rattle.caller_core.proofs.Cited.{◌≡◌, ◌+◌, drop, front_room}
 use Rattle.caller_core.proofs.totals.front_room.Given as goal
 
 abbrev pub invariant-loop-at : goal.invariant-loop-at

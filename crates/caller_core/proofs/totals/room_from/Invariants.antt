@@ -1,5 +1,5 @@
-use Rattle.std.proofs.Common.{◌≡◌, ◌+◌, drop, sum_by}
-use Rattle.caller_core.specs.Scripts.{room_of}
+use Rattle.caller_core.proofs.Cited.{◌≡◌, ◌+◌, drop, room_of}
+use Rattle.std.proofs.Common.{sum_by}
 use Rattle.caller_core.proofs.totals.room_from.Given as goal
 
 abbrev pub invariant-loop-at : goal.invariant-loop-at

@@ -1,6 +1,4 @@
-use Rattle.std.proofs.lemmas.Grind.{common_steps}
-use Rattle.std.proofs.Common.{arith}
-use Rattle.caller_core.specs.View.{CommandView}
+use Rattle.caller_core.proofs.Cited.{common_steps, arith, CommandView}
 use Rattle.caller_core.proofs.RootLemmas.{command_bits, sums_none, sums_more}
 use Rattle.caller_core.proofs.totals.totals_of.Goals as goal
 

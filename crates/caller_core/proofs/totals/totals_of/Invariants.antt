@@ -1,11 +1,5 @@
-use Rattle.std.proofs.Common.{◌*◌, ◌^◌}
-use Rattle.i2c_base.specs.Limits.{MOST_BYTES}
-use Rattle.i2c_spec.specs.Cost.{cost_of}
-use Rattle.i2c_board.specs.Bills.{IsBill}
+use Rattle.caller_core.proofs.Cited.{◌*◌, ◌^◌, MOST_BYTES, cost_of, IsBill, most_brought, sum_of, command_names}
 use Rattle.tools.specs.Dialogues.{MOST_PLACES}
-use Rattle.tools.specs.Replies.{most_brought}
-use Rattle.caller_core.specs.Turns.{sum_of}
-use Rattle.caller_core.specs.Roots.{command_names}
 use Rattle.caller_core.proofs.RootLemmas.{AreSums}
 use Rattle.caller_core.proofs.totals.totals_of.Given as goal
 

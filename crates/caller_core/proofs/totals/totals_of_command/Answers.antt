@@ -1,16 +1,8 @@
-use Rattle.std.proofs.lemmas.Grind.{common_steps}
-use Rattle.std.proofs.Common.{◌≡◌, ℕ, true, ◌+◌, ◌-◌, ◌^◌, ◌<◌, ◌≤◌, List, get_or, length, take, sum_by, Option, arith, ap, sym, subst, ◌∙◌, refl}
-use Rattle.std.specs.Option.{option_map_or}
-use Rattle.std.proofs.lemmas.List.{take_all}
+use Rattle.caller_core.proofs.Cited.{common_steps, ◌≡◌, ℕ, true, ◌+◌, ◌-◌, ◌^◌, ◌<◌, ◌≤◌, List, get_or, length, take, Option, arith, ap}
+use Rattle.caller_core.proofs.Cited.{sym, subst, ◌∙◌, refl, option_map_or, take_all, TransferView, IsBill, cost_of, root_named, Dialogue}
+use Rattle.caller_core.proofs.Cited.{transfers_of, most_brought, command_dialogue, HasBits, names_root}
+use Rattle.std.proofs.Common.{sum_by}
 use Rattle.std.proofs.lemmas.List.FromFn.{length-map-range_with_len, get_or-map-range_with_len}
-use Rattle.i2c_base.specs.Transfer.{TransferView}
-use Rattle.i2c_board.specs.Bills.{IsBill}
-use Rattle.i2c_spec.specs.Cost.{cost_of}
-use Rattle.i2c_spec.specs.Tree.{root_named}
-use Rattle.tools.specs.Dialogues.{Dialogue, transfers_of}
-use Rattle.tools.specs.Replies.{most_brought}
-use Rattle.caller_core.specs.Runs.{command_dialogue}
-use Rattle.caller_core.specs.Roots.{HasBits, names_root}
 use Rattle.caller_core.proofs.RootLemmas.{IsOneTransfer, named_bit, one_alike, transfer_bit, sums_none, sums_more}
 use Rattle.caller_core.proofs.totals.totals_of_command.Goals.{then-not-repeats, else-not-repeats}
 use Rattle.caller_core.proofs.totals.totals_of_command.Goals as goal
@@ -71,21 +63,25 @@ summed d i past = take_all i (transfers_of d) (omega (arith, past, length-map-ra
 
 pub returns-clause-cost : goal.returns-clause-cost
 returns-clause-cost c =
-    let all = summed (command_dialogue c.args.run.now) c.loop-place.place (omega (arith, c.loop-place-test.false, c.places-place-end.ensures.value)) in
+    let all = summed (command_dialogue c.args.run.now) c.loop-place.place
+    (omega (arith, c.loop-place-test.false, c.places-place-end.ensures.value)) in
     c.loop-place.invariant.sums.cost ∙ ap (sum_by (cost_of c.args.board.now)) all
 
 pub returns-clause-replies : goal.returns-clause-replies
 returns-clause-replies c =
-    let all = summed (command_dialogue c.args.run.now) c.loop-place.place (omega (arith, c.loop-place-test.false, c.places-place-end.ensures.value)) in
+    let all = summed (command_dialogue c.args.run.now) c.loop-place.place
+    (omega (arith, c.loop-place-test.false, c.places-place-end.ensures.value)) in
     c.loop-place.invariant.sums.replies ∙ ap (sum_by (λ t. 1)) all
 
 pub returns-clause-bytes : goal.returns-clause-bytes
 returns-clause-bytes c =
-    let all = summed (command_dialogue c.args.run.now) c.loop-place.place (omega (arith, c.loop-place-test.false, c.places-place-end.ensures.value)) in
+    let all = summed (command_dialogue c.args.run.now) c.loop-place.place
+    (omega (arith, c.loop-place-test.false, c.places-place-end.ensures.value)) in
     c.loop-place.invariant.sums.bytes ∙ ap (sum_by most_brought) all
 
 pub returns-clause-roots : goal.returns-clause-roots
 returns-clause-roots c =
-    let all = summed (command_dialogue c.args.run.now) c.loop-place.place (omega (arith, c.loop-place-test.false, c.places-place-end.ensures.value)) in
+    let all = summed (command_dialogue c.args.run.now) c.loop-place.place
+    (omega (arith, c.loop-place-test.false, c.places-place-end.ensures.value)) in
     subst (λ (ts : List TransferView). HasBits (names_root c.args.board.now) ts c.loop-place.totals.roots) all
     c.loop-place.invariant.sums.roots

@@ -1,4 +1,4 @@
-use Rattle.bus_laws.proofs.world.LineFacts.{lines-locked}
+use Rattle.flat_laws.proofs.Cited.{lines-locked}
 use Rattle.flat_laws.proofs.past.Through.{walk-ended}
 use Rattle.flat_laws.proofs.ends.a_caller_that_holds_nothing_has_no_walk.Goals as goal
 

@@ -1,4 +1,4 @@
-use Rattle.bus_laws.proofs.world.LineFacts.{lines-locked}
+use Rattle.flat_laws.proofs.Cited.{lines-locked}
 use Rattle.flat_laws.proofs.past.Ends.{holds-nothing, holder-known}
 use Rattle.flat_laws.proofs.ends.a_caller_with_no_walk_holds_nothing.Goals as goal
 

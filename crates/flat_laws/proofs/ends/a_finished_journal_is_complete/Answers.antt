@@ -1,4 +1,4 @@
-use Rattle.bus_laws.proofs.world.LineFacts.{lines-locked}
+use Rattle.flat_laws.proofs.Cited.{lines-locked}
 use Rattle.flat_laws.proofs.past.Ends.{complete-then, outside-then}
 use Rattle.flat_laws.proofs.ends.a_finished_journal_is_complete.Goals as goal
 

@@ -1,4 +1,4 @@
-use Rattle.bus_laws.proofs.world.LineFacts.{lines-locked}
+use Rattle.flat_laws.proofs.Cited.{lines-locked}
 use Rattle.flat_laws.proofs.past.Legal.{legal-with}
 use Rattle.flat_laws.proofs.device.Law.{replies-kept}
 use Rattle.flat_laws.proofs.journals.a_journal_is_legal.Goals as goal

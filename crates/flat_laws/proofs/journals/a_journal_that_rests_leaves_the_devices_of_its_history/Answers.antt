@@ -1,4 +1,4 @@
-use Rattle.bus_laws.proofs.world.LineFacts.{lines-locked}
+use Rattle.flat_laws.proofs.Cited.{lines-locked}
 use Rattle.flat_laws.proofs.past.Left.{devices-left}
 use Rattle.flat_laws.proofs.journals.a_journal_that_rests_leaves_the_devices_of_its_history.Goals as goal
 

@@ -1,4 +1,4 @@
-use Rattle.bus_laws.proofs.world.LineFacts.{lines-locked}
+use Rattle.flat_laws.proofs.Cited.{lines-locked}
 use Rattle.flat_laws.proofs.device.Law.{replies-kept}
 use Rattle.flat_laws.proofs.journals.each_reply_is_that_of_the_flat_world.Goals as goal
 

@@ -1,4 +1,4 @@
-use Rattle.bus_laws.proofs.world.LineFacts.{lines-locked}
+use Rattle.flat_laws.proofs.Cited.{lines-locked}
 use Rattle.flat_laws.proofs.past.Left.{devices-kept}
 use Rattle.flat_laws.proofs.journals.the_devices_are_those_of_the_history.Goals as goal
 

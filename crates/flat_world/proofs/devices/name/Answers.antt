@@ -1,5 +1,4 @@
-use Rattle.std.proofs.Common.{sym, ◌∙◌, ap}
-use Rattle.i2c_spec.specs.Flat.{is_member}
+use Rattle.flat_world.proofs.Cited.{sym, ◌∙◌, ap, is_member}
 use Rattle.flat_world.proofs.NamedLemmas.{named_push}
 use Rattle.flat_world.proofs.devices.name.Goals as goal
 

@@ -1,4 +1,5 @@
-use Rattle.std.proofs.Common.{◌≡◌, map, take}
+use Rattle.flat_world.proofs.Cited.{◌≡◌, take}
+use Rattle.std.proofs.Common.{map}
 use Rattle.i2c_spec.specs.Targets.{opening_state}
 use Rattle.flat_world.proofs.devices.open_all.Given as goal
 

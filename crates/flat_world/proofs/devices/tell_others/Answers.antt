@@ -1,6 +1,4 @@
-use Rattle.std.proofs.Common.{not, get_or, Some, refl, ap, ◌∙◌}
-use Rattle.i2c_spec.specs.World.{feed}
-use Rattle.i2c_spec.specs.Flat.{to_current}
+use Rattle.flat_world.proofs.Cited.{not, get_or, Some, refl, ap, ◌∙◌, feed, to_current}
 use Rattle.flat_world.proofs.FeedLemmas.{others_none, others_more, others_passed, passes_by}
 use Rattle.flat_world.proofs.NamedLemmas.{unmet}
 use Rattle.flat_world.proofs.devices.tell_others.Goals.{then-ne, else-ne}

@@ -1,6 +1,4 @@
-use Rattle.std.proofs.Common.{◌≡◌, take}
-use Rattle.i2c_spec.specs.World.{feed}
-use Rattle.flat_world.specs.Devices.{to_others}
+use Rattle.flat_world.proofs.Cited.{◌≡◌, take, feed, to_others}
 use Rattle.flat_world.proofs.devices.tell_others.Given as goal
 
 -- those so far have been told

@@ -1,5 +1,4 @@
-use Rattle.std.proofs.Common.{arith}
-use Rattle.std.proofs.lemmas.Grind.{common_steps}
+use Rattle.flat_world.proofs.Cited.{arith, common_steps}
 use Rattle.flat_world.proofs.flat.barred.Goals as goal
 
 pub returns-in-Some : goal.returns-in-Some

@@ -1,6 +1,4 @@
-use Rattle.std.proofs.Common.{◌≡◌, ◌+◌, length}
-use Rattle.flat_world.specs.Devices.{behind_start}
-use Rattle.flat_world.specs.Sending.{gets}
+use Rattle.flat_world.proofs.Cited.{◌≡◌, ◌+◌, length, behind_start, gets}
 use Rattle.flat_world.proofs.message.get_all.Given as goal
 
 -- what was read and what is left are the whole

@@ -1,5 +1,4 @@
-use Rattle.std.proofs.Common.{arith}
-use Rattle.std.proofs.lemmas.Grind.{common_steps}
+use Rattle.flat_world.proofs.Cited.{arith, common_steps}
 use Rattle.flat_world.proofs.message.get_counted.Goals as goal
 
 pub returns-then-count-limit : goal.returns-then-count-limit

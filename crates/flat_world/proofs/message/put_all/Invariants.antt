@@ -1,6 +1,4 @@
-use Rattle.std.proofs.Common.{◌≡◌, ◌+◌, drop}
-use Rattle.flat_world.specs.Devices.{behind_start}
-use Rattle.flat_world.specs.Sending.{puts}
+use Rattle.flat_world.proofs.Cited.{◌≡◌, ◌+◌, drop, behind_start, puts}
 use Rattle.flat_world.proofs.message.put_all.Given as goal
 
 -- what was put and what is left are the whole

@@ -1,12 +1,8 @@
-use Rattle.std.proofs.Common.{◌≡◌, ◌+◌, ◌<◌, eqb, length, take, drop, refl, sym, ap, ◌∙◌, arith}
+use Rattle.flat_world.proofs.Cited.{◌≡◌, ◌+◌, ◌<◌, eqb, length, take, drop, refl, sym, ap, ◌∙◌, arith, IsMessage, size_of, written_of}
+use Rattle.flat_world.proofs.Cited.{block_limit, cut_in, granted_on, message_with, messages_from, once_listener, all_of, all_with}
 use Rattle.std.proofs.lemmas.List.Elements.{All-get_or}
-use Rattle.i2c_base.specs.Transfer.{IsMessage, size_of, written_of}
-use Rattle.i2c_spec.specs.Flat.{block_limit, cut_in, granted_on}
-use Rattle.i2c_spec.specs.Messages.{message_with, messages_from}
 use Rattle.i2c_spec.specs.Conversation as spec
 use Rattle.i2c_spec.proofs.BlockLemmas.{is_block_limit}
-use Rattle.flat_world.specs.Devices.{once_listener}
-use Rattle.flat_world.specs.Sending.{all_of, all_with}
 use Rattle.flat_world.proofs.FitLemmas.{read_fits_room}
 use Rattle.flat_world.proofs.SendingLemmas.{as_sent}
 use Rattle.flat_world.proofs.TransferLemmas.{went_through, ended_early, cut_out, left_over}

@@ -1,11 +1,8 @@
-use Rattle.std.proofs.Common.{◌≡◌, ◌+◌, ◌≤◌, [], length, drop}
+use Rattle.flat_world.proofs.Cited.{◌≡◌, ◌+◌, ◌≤◌, [], length, drop, size_of, written_of, block_limit, cut_in, granted_on, messages_from}
+use Rattle.flat_world.proofs.Cited.{once_listener}
 use Rattle.std.specs.Prelude.{sum_by}
 use Rattle.i2c_base.specs.Limits.{MOST_BYTES}
-use Rattle.i2c_base.specs.Transfer.{size_of, written_of}
 use Rattle.i2c_spec.specs.Conversation as spec
-use Rattle.i2c_spec.specs.Flat.{block_limit, cut_in, granted_on}
-use Rattle.i2c_spec.specs.Messages.{messages_from}
-use Rattle.flat_world.specs.Devices.{once_listener}
 use Rattle.flat_world.proofs.transfer.send_all.Given as goal
 
 -- the messages that went through and those that are left are the whole

@@ -6,4 +6,5 @@ returns-clause-told g c tells =
     let bus = g.L.Lines.bus in
     get_told c.chips_stand_before_devices.ensures c.devices_hold_bytes.ensures.kept (g.L.Lines.board c.args.lines.now)
     (bus c.args.lines.now) (bus c.receive_byte.new.self) c.a_get_on_the_wires_is_one_in_the_world.ensures
-    c.a_get_on_the_sites_is_one_in_the_world.ensures c.args.ack (c.requires.stands tells) c.receive_byte.result (c.receive_byte.ensures.bus tells)
+    c.a_get_on_the_sites_is_one_in_the_world.ensures c.args.ack (c.requires.stands tells) c.receive_byte.result
+    (c.receive_byte.ensures.bus tells)

@@ -6,15 +6,19 @@ pub returns-in-Ok-clock_bit-clause-bus : goal.returns-in-Ok-clock_bit-clause-bus
 returns-in-Ok-clock_bit-clause-bus g c tells =
     let bus = g.L.Lines.bus in
     let board = g.L.Lines.board in
-    read_up the_table (board c.args.lines.now) (board c.clock_byte.new.lines) (bus c.args.lines.now) (bus c.clock_byte.new.lines) (bus c.clock_bit.new.lines)
-    c.in-Ok.ensures.board c.in-Ok.byte c.args.ack c.in-Ok-clock_bit.field-0 (c.in-Ok.ensures.bus tells) (c.in-Ok-clock_bit.ensures.bus tells 0)
+    read_up the_table (board c.args.lines.now) (board c.clock_byte.new.lines) (bus c.args.lines.now) (bus c.clock_byte.new.lines)
+    (bus c.clock_bit.new.lines)
+    c.in-Ok.ensures.board c.in-Ok.byte c.args.ack c.in-Ok-clock_bit.field-0 (c.in-Ok.ensures.bus tells)
+    (c.in-Ok-clock_bit.ensures.bus tells 0)
 
 pub returns-in-Err-clock_bit-clause-bus : goal.returns-in-Err-clock_bit-clause-bus
 returns-in-Err-clock_bit-clause-bus g c tells =
     let bus = g.L.Lines.bus in
     let board = g.L.Lines.board in
-    read_low the_table (board c.args.lines.now) (board c.clock_byte.new.lines) (bus c.args.lines.now) (bus c.clock_byte.new.lines) (bus c.clock_bit.new.lines)
-    c.in-Ok.ensures.board c.in-Err-clock_bit.low c.in-Ok.byte c.args.ack (c.in-Ok.ensures.bus tells) (c.in-Err-clock_bit.ensures.bus tells 0)
+    read_low the_table (board c.args.lines.now) (board c.clock_byte.new.lines) (bus c.args.lines.now) (bus c.clock_byte.new.lines)
+    (bus c.clock_bit.new.lines)
+    c.in-Ok.ensures.board c.in-Err-clock_bit.low c.in-Ok.byte c.args.ack (c.in-Ok.ensures.bus tells)
+    (c.in-Err-clock_bit.ensures.bus tells 0)
 
 pub returns-in-Err-clause-bus : goal.returns-in-Err-clause-bus
 returns-in-Err-clause-bus g c tells =

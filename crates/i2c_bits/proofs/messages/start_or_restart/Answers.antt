@@ -37,4 +37,5 @@ pub returns-else-busy-clause-bus : goal.returns-else-busy-clause-bus
 returns-else-busy-clause-bus g c tells =
     let bus = g.L.Lines.bus in
     let k = g.L.Lines.board c.args.lines.now in
-    subst (λ (b : Bool). CameBegin b (Ok tt) k (bus c.args.lines.now) (bus c.start_condition.new.lines)) (sym c.if-busy.false) (c.start_condition.ensures.bus tells)
+    subst (λ (b : Bool). CameBegin b (Ok tt) k (bus c.args.lines.now) (bus c.start_condition.new.lines)) (sym c.if-busy.false)
+    (c.start_condition.ensures.bus tells)

@@ -1,8 +1,4 @@
-use Rattle.std.proofs.Common.{◌+◌, ◌++◌, take, reverse, get_or, ap, sym, ◌∙◌}
-use Rattle.std.proofs.lemmas.List.{take_more}
-use Rattle.i2c_base.specs.declared.board.MuxSpec.{MuxSpec}
-use Rattle.i2c_board.specs.Passes.{channel_hops, hops_by_bus}
-use Rattle.i2c_spec.specs.Tree.{buses_of}
+use Rattle.i2c_board.proofs.Cited.{◌+◌, ◌++◌, take, reverse, get_or, ap, sym, ◌∙◌, take_more, MuxSpec, channel_hops, hops_by_bus, buses_of}
 use Rattle.i2c_spec.proofs.HopLemmas.{buses_of-push}
 use Rattle.i2c_board.proofs.WayLemmas.{hops_by_bus-more}
 use Rattle.i2c_board.proofs.by_bus.hops_by_bus.Goals as goal

@@ -1,6 +1,4 @@
-use Rattle.std.proofs.Common.{◌≡◌, take, reverse}
-use Rattle.i2c_board.specs.Passes.{hops_by_bus}
-use Rattle.i2c_spec.specs.Tree.{buses_of}
+use Rattle.i2c_board.proofs.Cited.{◌≡◌, take, reverse, hops_by_bus, buses_of}
 use Rattle.i2c_board.proofs.by_bus.hops_by_bus.Given as goal
 
 -- the hops of the muxes so far, and where the next one begins

@@ -1,5 +1,4 @@
-use Rattle.std.proofs.Common.{◌≡◌, ◌++◌}
-use Rattle.i2c_board.specs.Passes.{channel_hops}
+use Rattle.i2c_board.proofs.Cited.{◌≡◌, ◌++◌, channel_hops}
 use Rattle.i2c_board.proofs.by_bus.push_channels.Given as goal
 
 abbrev pub invariant-loop-channel : goal.invariant-loop-channel

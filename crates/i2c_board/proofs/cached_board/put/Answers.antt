@@ -1,4 +1,4 @@
-use Rattle.std.proofs.Common.{Some}
+use Rattle.i2c_board.proofs.Cited.{Some}
 use Rattle.i2c_board.proofs.KnownLemmas.{all_set}
 use Rattle.i2c_board.specs.Grants.{AreKnown}
 use Rattle.i2c_board.proofs.cached_board.put.Goals as goal

@@ -1,5 +1,4 @@
-use Rattle.std.proofs.Common.{◌≡◌, sum_by, arith, rules}
-use Rattle.i2c_spec.specs.Cost.{bytes_of}
+use Rattle.i2c_board.proofs.Cited.{◌≡◌, sum_by, arith, rules, bytes_of}
 use Rattle.i2c_spec.proofs.CostLemmas.{bytes_few}
 use Rattle.i2c_board.proofs.cost.steps_of.Goals as goal
 

@@ -1,5 +1,4 @@
-use Rattle.std.proofs.Common.{arith}
-use Rattle.i2c_spec.proofs.PlainLemmas.{buses_le}
+use Rattle.i2c_board.proofs.Cited.{arith, buses_le}
 use Rattle.i2c_board.proofs.refusals.bus_refusal.Goals as goal
 
 pub buses-requires : goal.buses-requires

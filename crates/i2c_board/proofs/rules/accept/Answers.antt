@@ -1,5 +1,4 @@
-use Rattle.std.proofs.Common.{arith}
-use Rattle.std.proofs.lemmas.Grind.{common_steps}
+use Rattle.i2c_board.proofs.Cited.{arith, common_steps}
 use Rattle.i2c_board.proofs.BrokenLemmas.{broken_breaks}
 use Rattle.i2c_board.proofs.rules.accept.Goals as goal
 

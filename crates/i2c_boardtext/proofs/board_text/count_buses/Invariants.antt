@@ -1,5 +1,5 @@
-use Rattle.std.proofs.Common.{◌≡◌, take}
-use Rattle.i2c_spec.specs.Tree.{buses_of}
+use Rattle.i2c_boardtext.proofs.Cited.{◌≡◌, buses_of}
+use Rattle.std.proofs.Common.{take}
 use Rattle.i2c_boardtext.proofs.board_text.count_buses.Given as goal
 
 abbrev pub invariant-loop-mux : goal.invariant-loop-mux

@@ -1,5 +1,5 @@
+use Rattle.i2c_boardtext.proofs.Cited.{table_view}
 use Rattle.toml.specs.Errors.{IsMemory}
-use Rattle.toml.specs.View.{table_view}
 use Rattle.i2c_boardtext.proofs.TextLemmas.{read, refused}
 use Rattle.i2c_boardtext.proofs.board_text.document_of.Goals as goal
 

@@ -1,9 +1,8 @@
-use Rattle.std.proofs.Common.{◌≡◌, length, Ok, ap, sym, ◌∙◌, arith}
-use Rattle.i2c_spec.specs.Tree.{buses_of}
+use Rattle.i2c_boardtext.proofs.Cited.{◌≡◌, length, ap, sym, ◌∙◌, arith, buses_of, board_by_parts}
+use Rattle.std.proofs.Common.{Ok}
 use Rattle.i2c_board.specs.declared.board.Board.{Board}
 use Rattle.i2c_boardtext.proofs.PartLemmas.{are_parts, root_fault, mux_fault, device_fault}
 use Rattle.i2c_boardtext.proofs.RowLemmas.{gives_err}
-use Rattle.i2c_boardtext.specs.BoardText.{board_by_parts}
 use Rattle.i2c_boardtext.specs.Rows.{top_view}
 use Rattle.i2c_boardtext.proofs.board_text.parts_of.Goals as goal
 

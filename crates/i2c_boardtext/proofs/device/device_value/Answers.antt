@@ -1,4 +1,4 @@
-use Rattle.toml.specs.View.{table_view}
+use Rattle.i2c_boardtext.proofs.Cited.{table_view}
 use Rattle.i2c_boardtext.proofs.KeepLemmas.{device_bus}
 use Rattle.i2c_boardtext.proofs.device.device_value.Goals as goal
 

@@ -1,14 +1,8 @@
-use Rattle.std.proofs.Common.{◌≡◌, Vec, Global, ◌<◌, ◌++◌, [], ◌∷◌, length, arith}
+use Rattle.i2c_boardtext.proofs.Cited.{◌≡◌, Vec, Global, ◌<◌, ◌++◌, [], ◌∷◌, length, arith, table_view, device_of, devices_of, rows_of}
+use Rattle.i2c_boardtext.proofs.Cited.{IsOn, Device, length-append, IsPlainDevice, All-push}
 use Rattle.i2c_boardtext.proofs.RowLemmas.{read_more, all_read, fault_read}
-use Rattle.toml.specs.View.{table_view}
 use Rattle.i2c_boardtext.proofs.device.devices_of.Goals as goal
-use Rattle.i2c_boardtext.specs.BoardText.{device_of, devices_of}
-use Rattle.i2c_boardtext.specs.Rows.{rows_of, IsOn}
-use Rattle.i2c_boardtext.specs.declared.fault.TableName.TheVariants.{Device}
-use Rattle.std.proofs.lemmas.List.{length-append}
 use Rattle.i2c_base.specs.declared.board.DeviceSpec.{DeviceSpec}
-use Rattle.i2c_spec.specs.Plain.{IsPlainDevice}
-use Rattle.std.proofs.lemmas.List.Elements.{All-push}
 
 pub loop-value-preserved : goal.loop-value-preserved
 loop-value-preserved c =

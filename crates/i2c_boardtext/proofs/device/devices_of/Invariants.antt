@@ -1,9 +1,5 @@
-use Rattle.std.proofs.Common.{◌≡◌, ◌≤◌, length, drop, vec_capacity}
-use Rattle.std.specs.Prelude.{All}
-use Rattle.i2c_spec.specs.Plain.{IsPlainDevice}
-use Rattle.i2c_boardtext.specs.BoardText.{each, device_of, devices_of}
-use Rattle.i2c_boardtext.specs.Rows.{IsOn, rows_of}
-use Rattle.i2c_boardtext.specs.declared.fault.TableName.TheVariants.{Device}
+use Rattle.i2c_boardtext.proofs.Cited.{◌≡◌, ◌≤◌, length, drop, vec_capacity, All, IsPlainDevice, each, device_of, devices_of, IsOn, rows_of}
+use Rattle.i2c_boardtext.proofs.Cited.{Device}
 use Rattle.i2c_boardtext.proofs.device.devices_of.Given as goal
 
 -- what is read and what is left are the whole

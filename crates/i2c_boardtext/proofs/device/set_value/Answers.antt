@@ -1,5 +1,4 @@
-use Rattle.std.proofs.Common.{sym, ◌∙◌}
-use Rattle.toml.specs.View.{table_view}
+use Rattle.i2c_boardtext.proofs.Cited.{sym, ◌∙◌, table_view}
 use Rattle.i2c_boardtext.proofs.KeepLemmas.{device_set}
 use Rattle.i2c_boardtext.proofs.device.set_value.Goals as goal
 

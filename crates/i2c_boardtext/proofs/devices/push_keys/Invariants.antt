@@ -1,6 +1,5 @@
-use Rattle.std.proofs.Common.{◌≡◌, ◌+◌, ◌++◌, length, map, drop}
+use Rattle.i2c_boardtext.proofs.Cited.{◌≡◌, ◌+◌, ◌++◌, length, map, drop, key_rule}
 use Rattle.i2c_boardtext.specs.Devices.{own_rule}
-use Rattle.i2c_boardtext.specs.Rules.{key_rule}
 use Rattle.i2c_boardtext.proofs.devices.push_keys.Given as goal
 
 -- those that were put and those that are left are the whole

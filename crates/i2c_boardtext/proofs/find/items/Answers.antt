@@ -1,5 +1,4 @@
-use Rattle.std.proofs.Common.{◌∙◌, ap, map, Some}
-use Rattle.toml.specs.View.{view}
+use Rattle.i2c_boardtext.proofs.Cited.{◌∙◌, ap, map, Some, view}
 use Rattle.i2c_boardtext.proofs.DataLemmas.{items_in-array}
 use Rattle.i2c_boardtext.proofs.find.items.Goals as goal
 

@@ -1,7 +1,4 @@
-use Rattle.std.proofs.Common.{◌∙◌, sym}
-use Rattle.std.proofs.lemmas.List.Folds.{list_all-map}
-use Rattle.toml.specs.View.{view}
-use Rattle.i2c_boardtext.specs.Rules.{is_in}
+use Rattle.i2c_boardtext.proofs.Cited.{◌∙◌, sym, list_all-map, view, is_in}
 use Rattle.i2c_boardtext.proofs.fits.are_bytes.Goals as goal
 
 pub returns : goal.returns

@@ -1,6 +1,4 @@
-use Rattle.std.proofs.Common.{◌∙◌}
-use Rattle.toml.specs.View.{view}
-use Rattle.i2c_boardtext.specs.Rules.{is_run}
+use Rattle.i2c_boardtext.proofs.Cited.{◌∙◌, view, is_run}
 use Rattle.i2c_boardtext.proofs.DataLemmas.{tested_array}
 use Rattle.i2c_boardtext.proofs.fits.are_runs.Goals as goal
 

@@ -1,7 +1,4 @@
-use Rattle.std.proofs.Common.{◌∙◌}
-use Rattle.std.specs.Option.{is_some}
-use Rattle.toml.specs.Data.{as_table}
-use Rattle.toml.specs.View.{view}
+use Rattle.i2c_boardtext.proofs.Cited.{◌∙◌, is_some, as_table, view}
 use Rattle.i2c_boardtext.proofs.DataLemmas.{tested_array}
 use Rattle.i2c_boardtext.proofs.fits.are_tables.Goals as goal
 

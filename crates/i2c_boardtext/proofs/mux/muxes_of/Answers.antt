@@ -1,16 +1,9 @@
-use Rattle.std.proofs.Common.{◌≡◌, Vec, Global, ◌+◌, ◌<◌, ◌++◌, [], ◌∷◌, length, refl, ap, sym, ◌∙◌, arith}
-use Rattle.std.proofs.lemmas.List.{length-append}
-use Rattle.i2c_base.specs.declared.board.MuxSpec.{MuxSpec}
-use Rattle.i2c_spec.specs.Plain.{IsPlainMux}
-use Rattle.i2c_spec.specs.Tree.{buses_of}
+use Rattle.i2c_boardtext.proofs.Cited.{◌≡◌, Vec, Global, ◌+◌, ◌<◌, ◌++◌, [], ◌∷◌, length, refl, ap, sym, ◌∙◌, arith, length-append, MuxSpec}
+use Rattle.i2c_boardtext.proofs.Cited.{IsPlainMux, buses_of, Fails, placed, mux_of, muxes_of, rows_of, row_of, Mux, All-push}
 use Rattle.i2c_boardtext.proofs.RowLemmas.{read_more, all_read, fault_read, fails_with}
 use Rattle.i2c_spec.proofs.HopLemmas.{buses_of-push}
 use Rattle.i2c_boardtext.proofs.MuxLemmas.{planted-push, few_channels}
 use Rattle.i2c_boardtext.proofs.mux.muxes_of.Goals as goal
-use Rattle.i2c_boardtext.specs.BoardText.{Fails, placed, mux_of, muxes_of}
-use Rattle.i2c_boardtext.specs.Rows.{rows_of, row_of}
-use Rattle.i2c_boardtext.specs.declared.fault.TableName.TheVariants.{Mux}
-use Rattle.std.proofs.lemmas.List.Elements.{All-push}
 
 pub loop-value-preserved : goal.loop-value-preserved
 loop-value-preserved c =

@@ -1,10 +1,6 @@
-use Rattle.std.proofs.Common.{◌≡◌, ◌+◌, ◌*◌, ◌≤◌, length, drop, vec_capacity}
-use Rattle.std.specs.Prelude.{All, reverse}
-use Rattle.i2c_spec.specs.Plain.{IsPlainMux, IsPlanted}
-use Rattle.i2c_spec.specs.Tree.{buses_of}
-use Rattle.i2c_boardtext.specs.BoardText.{each, mux_of, muxes_of}
-use Rattle.i2c_boardtext.specs.Rows.{rows_of}
-use Rattle.i2c_boardtext.specs.declared.fault.TableName.TheVariants.{Mux}
+use Rattle.i2c_boardtext.proofs.Cited.{◌≡◌, ◌+◌, ◌≤◌, length, drop, vec_capacity, All, reverse, IsPlainMux, IsPlanted, buses_of, each}
+use Rattle.i2c_boardtext.proofs.Cited.{mux_of, muxes_of, rows_of, Mux}
+use Rattle.std.proofs.Common.{◌*◌}
 use Rattle.i2c_boardtext.proofs.mux.muxes_of.Given as goal
 
 -- what is read and what is left are the whole

@@ -1,7 +1,4 @@
-use Rattle.std.proofs.Common.{◌≡◌, ◌≤◌, length, drop, vec_capacity}
-use Rattle.i2c_boardtext.specs.BoardText.{each, root_in_table, roots_of}
-use Rattle.i2c_boardtext.specs.Rows.{rows_of}
-use Rattle.i2c_boardtext.specs.declared.fault.TableName.TheVariants.{Root}
+use Rattle.i2c_boardtext.proofs.Cited.{◌≡◌, ◌≤◌, length, drop, vec_capacity, each, root_in_table, roots_of, rows_of, Root}
 use Rattle.i2c_boardtext.proofs.root.roots_of.Given as goal
 
 -- what is read and what is left are the whole

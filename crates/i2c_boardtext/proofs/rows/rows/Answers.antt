@@ -1,4 +1,4 @@
-use Rattle.toml.specs.View.{view}
+use Rattle.i2c_boardtext.proofs.Cited.{view}
 use Rattle.i2c_boardtext.proofs.RowLemmas.{tables_are}
 use Rattle.i2c_boardtext.proofs.rows.rows.Goals as goal
 

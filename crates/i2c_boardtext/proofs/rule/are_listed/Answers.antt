@@ -1,5 +1,4 @@
-use Rattle.std.proofs.Common.{◌∙◌, map}
-use Rattle.i2c_boardtext.specs.Rules.{key_rule}
+use Rattle.i2c_boardtext.proofs.Cited.{◌∙◌, map, key_rule}
 use Rattle.i2c_boardtext.proofs.RuleLemmas.{are_listed-entries}
 use Rattle.i2c_boardtext.proofs.rule.are_listed.Goals as goal
 

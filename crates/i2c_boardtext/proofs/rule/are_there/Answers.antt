@@ -1,7 +1,4 @@
-use Rattle.std.proofs.Common.{◌∙◌, sym}
-use Rattle.std.proofs.lemmas.List.Folds.{list_all-map}
-use Rattle.toml.specs.View.{table_view}
-use Rattle.i2c_boardtext.specs.Rules.{key_rule, is_there}
+use Rattle.i2c_boardtext.proofs.Cited.{◌∙◌, sym, list_all-map, table_view, key_rule, is_there}
 use Rattle.i2c_boardtext.proofs.rule.are_there.Goals as goal
 
 pub returns : goal.returns

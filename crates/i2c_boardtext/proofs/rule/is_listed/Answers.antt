@@ -1,4 +1,4 @@
-use Rattle.std.proofs.Common.{◌∙◌}
+use Rattle.i2c_boardtext.proofs.Cited.{◌∙◌}
 use Rattle.i2c_boardtext.proofs.RuleLemmas.{is_listed-rules}
 use Rattle.i2c_boardtext.proofs.rule.is_listed.Goals as goal
 

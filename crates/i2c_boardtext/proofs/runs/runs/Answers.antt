@@ -1,13 +1,7 @@
-use Rattle.std.proofs.Common.{◌≡◌, ◌∙◌}
+use Rattle.i2c_boardtext.proofs.Cited.{◌≡◌, ◌∙◌, All, codes, get_member, table_view, IsPlainRun, cut_runs_in, runs_in}
 use Rattle.std.proofs.lemmas.Result.{IfOk-weaker}
-use Rattle.std.specs.Prelude.{All, codes}
-use Rattle.toml.specs.Data.{get_member}
-use Rattle.toml.specs.View.{table_view}
-use Rattle.i2c_spec.specs.Plain.{IsPlainRun}
 use Rattle.i2c_boardtext.proofs.RunLemmas.{runs_same, runs_plain}
 use Rattle.i2c_boardtext.proofs.runs.runs.Goals as goal
-use Rattle.i2c_boardtext.specs.Cuts.{cut_runs_in}
-use Rattle.i2c_boardtext.specs.Values.{runs_in}
 
 pub returns-clause-value : goal.returns-clause-value
 returns-clause-value c =

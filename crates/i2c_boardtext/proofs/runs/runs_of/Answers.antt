@@ -1,8 +1,4 @@
-use Rattle.std.proofs.Common.{◌∙◌, ap, map, arith}
-use Rattle.std.proofs.lemmas.List.{take_all}
-use Rattle.toml.specs.View.{view}
-use Rattle.i2c_base.proofs.ListLemmas.{one-made}
-use Rattle.i2c_boardtext.specs.Cuts.{cut_run}
+use Rattle.i2c_boardtext.proofs.Cited.{◌∙◌, ap, map, arith, take_all, view, one-made, cut_run}
 use Rattle.i2c_boardtext.proofs.DataLemmas.{mapped}
 use Rattle.i2c_boardtext.proofs.runs.runs_of.Goals as goal
 

@@ -1,7 +1,4 @@
-use Rattle.std.proofs.Common.{vec_capacity, vec_len}
-use Rattle.toml.specs.View.{view}
-use Rattle.i2c_base.proofs.ListLemmas.{AreMade}
-use Rattle.i2c_boardtext.specs.Cuts.{cut_run}
+use Rattle.i2c_boardtext.proofs.Cited.{vec_capacity, vec_len, view, AreMade, cut_run}
 use Rattle.i2c_boardtext.proofs.runs.runs_of.Given as goal
 
 abbrev pub invariant-loop-value : goal.invariant-loop-value

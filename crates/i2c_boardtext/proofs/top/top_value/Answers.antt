@@ -1,9 +1,6 @@
-use Rattle.std.specs.Prelude.{codes}
-use Rattle.toml.specs.Data.{get_member}
-use Rattle.toml.specs.View.{table_view}
+use Rattle.i2c_boardtext.proofs.Cited.{codes, get_member, table_view, elements_in}
 use Rattle.i2c_boardtext.proofs.RowLemmas.{rows_same}
 use Rattle.i2c_boardtext.proofs.top.top_value.Goals as goal
-use Rattle.i2c_boardtext.specs.Values.{elements_in}
 
 pub returns-clause-value : goal.returns-clause-value
 returns-clause-value c =

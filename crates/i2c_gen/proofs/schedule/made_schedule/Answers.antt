@@ -26,5 +26,6 @@ loop-preserved c =
       so_far = items ∙ ap (λ ws. ws ++ word ∷ []) all.so_far ∙ sym (draws_more seed first n x MOST_CALLERS word all.behind is);
       named =
           subst (All (λ w. w < MOST_CALLERS)) (sym items)
-          (All-push (λ w. w < MOST_CALLERS) c.loop.words.items word all.named (omega (arith, c.draw.ensures.below, c.from-in-loop.ensures)));
+          (All-push (λ w. w < MOST_CALLERS) c.loop.words.items word all.named
+          (omega (arith, c.draw.ensures.below, c.from-in-loop.ensures)));
     }

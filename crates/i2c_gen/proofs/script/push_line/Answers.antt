@@ -17,7 +17,8 @@ returns c n h =
     let e3 = c.draw-op.ensures.behind in
     let e4 = c.draw-reg.ensures.behind in
     let e5 = c.draw-val.ensures.behind in
-    let line = line_drawn p n x0 x1 x2 x3 x4 x5 h e1 e2 e3 e4 e5 c.from-roots.result c.draw-root.result c.draw-channel.result c.draw-op.result
+    let line = line_drawn p n x0 x1 x2 x3 x4 x5 h e1 e2 e3 e4 e5 c.from-roots.result c.draw-root.result c.draw-channel.result
+    c.draw-op.result
     c.draw-reg.result c.draw-val.result c.from-roots.ensures c.draw-root.ensures.value c.draw-channel.ensures.value c.draw-op.ensures.value
     c.draw-reg.ensures.value c.draw-val.ensures.value in
     on_ok_weaker c.push_by.result

@@ -1,6 +1,4 @@
-use Rattle.std.proofs.Common.{[], ◌∷◌, ◌++◌, ◌+◌, map, ap, sym, ◌∙◌}
-use Rattle.std.proofs.lemmas.List.{map-append}
-use Rattle.i2c_physics.specs.BitRigs.{opening_wired, wired}
+use Rattle.i2c_physics.proofs.Cited.{[], ◌∷◌, ◌++◌, ◌+◌, map, ap, sym, ◌∙◌, map-append, opening_wired, wired}
 use Rattle.i2c_physics.proofs.WiredAndLemmas.{listed_more}
 use Rattle.i2c_physics.proofs.bit_rig.open_ports.Goals as goal
 

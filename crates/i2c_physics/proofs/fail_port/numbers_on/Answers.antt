@@ -1,8 +1,5 @@
-use Rattle.std.proofs.Common.{◌∙◌, ap}
+use Rattle.i2c_physics.proofs.Cited.{◌∙◌, ap, arith, take_all, fails_on}
 use Rattle.i2c_physics.proofs.FailLemmas.{listed-more, unlisted-more}
-use Rattle.std.proofs.lemmas.List.{take_all}
-use Rattle.std.proofs.Common.{arith}
-use Rattle.i2c_physics.specs.FailPorts.{fails_on}
 use Rattle.i2c_physics.proofs.fail_port.numbers_on.Goals as goal
 use Rattle.i2c_physics.proofs.fail_port.numbers_on.Goals.{then-eq+in_ok-push, else-eq}
 

@@ -1,5 +1,4 @@
-use Rattle.std.proofs.Common.{◌≡◌, take}
-use Rattle.i2c_physics.specs.FailPorts.{fails_on}
+use Rattle.i2c_physics.proofs.Cited.{◌≡◌, take, fails_on}
 use Rattle.i2c_physics.proofs.fail_port.numbers_on.Given as goal
 
 abbrev pub invariant-loop-call : goal.invariant-loop-call

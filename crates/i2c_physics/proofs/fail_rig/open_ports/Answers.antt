@@ -1,5 +1,4 @@
-use Rattle.std.proofs.Common.{[], ◌∷◌, ◌++◌, ◌+◌, ap, sym, ◌∙◌}
-use Rattle.i2c_physics.specs.FailPorts.{opening_fails}
+use Rattle.i2c_physics.proofs.Cited.{[], ◌∷◌, ◌++◌, ◌+◌, ap, sym, ◌∙◌, opening_fails}
 use Rattle.i2c_physics.proofs.WiredAndLemmas.{listed_more}
 use Rattle.i2c_physics.proofs.fail_rig.open_ports.Goals as goal
 

@@ -1,5 +1,4 @@
-use Rattle.std.proofs.Common.{[], ◌∷◌, ◌++◌, ◌+◌, ap, sym, ◌∙◌}
-use Rattle.i2c_physics.specs.SimPorts.{opening_port}
+use Rattle.i2c_physics.proofs.Cited.{[], ◌∷◌, ◌++◌, ◌+◌, ap, sym, ◌∙◌, opening_port}
 use Rattle.i2c_physics.proofs.WiredAndLemmas.{listed_more}
 use Rattle.i2c_physics.proofs.hold_rig.open_ports.Goals as goal
 

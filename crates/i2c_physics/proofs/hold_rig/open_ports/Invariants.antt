@@ -1,6 +1,4 @@
-use Rattle.std.proofs.Common.{◌≡◌, ◌≤◌, map, vec_capacity, vec_len}
-use Rattle.std.specs.List.{range_with_len}
-use Rattle.i2c_physics.specs.SimPorts.{opening_port}
+use Rattle.i2c_physics.proofs.Cited.{◌≡◌, ◌≤◌, map, vec_capacity, vec_len, range_with_len, opening_port}
 use Rattle.i2c_physics.proofs.hold_rig.open_ports.Given as goal
 
 abbrev pub invariant-loop-root : goal.invariant-loop-root

@@ -1,7 +1,6 @@
-use Rattle.std.proofs.Common.{◌≡◌, ◌+◌, ◌<◌, ◌∷◌, [], length, map, vec_len, vec_capacity, append-nil, refl, sym, ap, ◌∙◌, arith, rules}
-use Rattle.std.proofs.lemmas.List.{length-append, length-map}
+use Rattle.i2c_physics.proofs.Cited.{◌≡◌, ◌+◌, ◌<◌, ◌∷◌, [], length, map, vec_len, vec_capacity, append-nil, refl, sym, ap, ◌∙◌, arith}
+use Rattle.i2c_physics.proofs.Cited.{rules, length-append, length-map, parted}
 use Rattle.std.proofs.lemmas.List.Elements.{All-nil, All-push}
-use Rattle.i2c_physics.specs.BitRigs.{parted}
 use Rattle.i2c_physics.proofs.WireLemmas.{one_more_edge, one_more_parted}
 use Rattle.i2c_physics.proofs.parted_port.take_apart.Goals as goal
 
@@ -17,7 +16,8 @@ loop-port-preserved c = record {
       omega (arith, count, c.in-Some.ensures.steps.1, c.loop-port.invariant.whole, c.loop-port.invariant.grown, h) in
       one_more_parted c.args.done.now.items c.loop-port.done.items c.take_one.new.done.items c.loop-port.yielded c.in-Some.port was
       (c.take_one.ensures.port room);
-  edges = one_more_edge c.loop-port.yielded c.in-Some.port c.loop-port.edges c.take_one.result c.saturating_add-edges.result c.loop-port.invariant.edges
+  edges = one_more_edge c.loop-port.yielded c.in-Some.port c.loop-port.edges c.take_one.result c.saturating_add-edges.result
+      c.loop-port.invariant.edges
       c.take_one.ensures.edges (search rules);
   faults = All-push (λ p. p.faults ≡ 0) c.loop-port.yielded c.in-Some.port c.loop-port.invariant.faults c.take_one.ensures.faults;
 }

@@ -1,7 +1,5 @@
 -- There is room for the ports that are left.
-use Rattle.std.proofs.Common.{◌≡◌, ◌≤◌, ◌+◌, ◌++◌, length, map, vec_len, vec_capacity}
-use Rattle.std.specs.Prelude.{All}
-use Rattle.i2c_physics.specs.BitRigs.{edges_of, parted}
+use Rattle.i2c_physics.proofs.Cited.{◌≡◌, ◌≤◌, ◌+◌, ◌++◌, length, map, vec_len, vec_capacity, All, edges_of, parted}
 use Rattle.i2c_physics.proofs.parted_port.take_apart.Given as goal
 
 abbrev pub invariant-loop-port : goal.invariant-loop-port

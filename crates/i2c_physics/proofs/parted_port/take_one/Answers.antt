@@ -1,9 +1,6 @@
-use Rattle.std.proofs.Common.{◌≡◌, ◌++◌, ◌∷◌, [], ap, ◌∙◌, rules}
+use Rattle.i2c_physics.proofs.Cited.{◌≡◌, ◌++◌, ◌∷◌, [], ap, ◌∙◌, rules, World, PortView, parted}
 use Rattle.i2c_base.specs.declared.port.Phase.TheVariants.{Idle}
-use Rattle.i2c_spec.specs.World.{World}
 use Rattle.bus_lines.specs.Aparts.{world_apart}
-use Rattle.i2c_physics.specs.SimPorts.{PortView}
-use Rattle.i2c_physics.specs.BitRigs.{parted}
 use Rattle.i2c_physics.proofs.parted_port.take_one.Goals as goal
 
 -- what is left of the port is a world
@@ -16,5 +13,6 @@ part_is c = ap left (c.apart.ensures c.into_parts-parts.result.busy ∙ c.into_p
 pub returns-clause-port : goal.returns-clause-port
 returns-clause-port c = λ room.
     let ok = c.push.ensures.succeeds room in
-    let more : c.push.new.self.items ≡ c.args.done.now.items ++ left (world_apart c.into_parts-parts.result.busy c.apart.result) ∷ [] = search rules in
+    let more : c.push.new.self.items ≡ c.args.done.now.items ++ left (world_apart c.into_parts-parts.result.busy c.apart.result) ∷ [] =
+    search rules in
     more ∙ ap (λ (p : PortView). c.args.done.now.items ++ p ∷ []) (part_is c)

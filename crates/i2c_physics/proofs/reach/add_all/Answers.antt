@@ -1,4 +1,4 @@
-use Rattle.std.proofs.Common.{arith}
+use Rattle.i2c_physics.proofs.Cited.{arith}
 use Rattle.i2c_physics.proofs.NumberLemmas.{rising-length}
 use Rattle.i2c_physics.proofs.reach.add_all.Goals as goal
 

@@ -1,9 +1,5 @@
-use Rattle.std.proofs.Common.{[], ◌∷◌, length, ap, ◌∙◌, get_or, arith}
-use Rattle.std.proofs.lemmas.List.{length-append}
-use Rattle.i2c_physics.specs.Reach.{joins_at}
+use Rattle.i2c_physics.proofs.Cited.{[], ◌∷◌, length, ap, ◌∙◌, get_or, arith, length-append, take_all, joins_at, filter}
 use Rattle.i2c_physics.proofs.StepLemmas.{kept-more, left-more}
-use Rattle.std.proofs.lemmas.List.{take_all}
-use Rattle.std.specs.List.{filter}
 use Rattle.i2c_physics.proofs.reach.joined.Goals as goal
 use Rattle.i2c_physics.proofs.reach.joined.Goals.{then-joins_at, else-joins_at}
 

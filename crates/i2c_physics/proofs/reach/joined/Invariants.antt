@@ -1,6 +1,4 @@
-use Rattle.std.proofs.Common.{◌≡◌, ◌≤◌, length, take}
-use Rattle.std.specs.List.{filter}
-use Rattle.i2c_physics.specs.Reach.{joins_at}
+use Rattle.i2c_physics.proofs.Cited.{◌≡◌, ◌≤◌, length, take, filter, joins_at}
 use Rattle.i2c_physics.proofs.reach.joined.Given as goal
 
 abbrev pub invariant-loop-number : goal.invariant-loop-number

@@ -1,7 +1,4 @@
-use Rattle.std.proofs.Common.{false, sym, ◌∙◌, ap}
-use Rattle.std.specs.Option.{option_map_or}
-use Rattle.i2c_physics.specs.Places.{joins}
-use Rattle.i2c_physics.specs.Reach.{joins_at}
+use Rattle.i2c_physics.proofs.Cited.{false, sym, ◌∙◌, ap, option_map_or, joins, joins_at}
 use Rattle.i2c_physics.proofs.StepLemmas.{at-place}
 use Rattle.i2c_physics.proofs.reach.joins_at.Goals as goal
 

@@ -1,12 +1,11 @@
-use Rattle.std.proofs.Common.{◌≡◌, ℕ, Bool, true, false, [], ◌∷◌, length, ap, sym, refl, ◌∙◌, get_or, not, arith}
+use Rattle.i2c_physics.proofs.Cited.{◌≡◌, ℕ, Bool, true, false, [], ◌∷◌, length, ap, sym, refl, ◌∙◌, get_or, arith, length-append, take_all}
+use Rattle.i2c_physics.proofs.Cited.{has_at, joins_at, others}
+use Rattle.std.proofs.Common.{not}
 use Rattle.std.specs.Prelude.{◌&&◌}
-use Rattle.std.proofs.lemmas.List.{length-append}
-use Rattle.i2c_physics.specs.Reach.{has_at, joins_at}
 use Rattle.i2c_physics.proofs.StepLemmas.{kept-more, left-more}
-use Rattle.std.proofs.lemmas.List.{take_all}
-use Rattle.i2c_physics.specs.Reach.{others}
 use Rattle.i2c_physics.proofs.reach.others.Goals as goal
-use Rattle.i2c_physics.proofs.reach.others.Goals.{then-not-is_at+then-joins_at, else-not-is_at, else-not-is_at-via-then-not-is_at+else-joins_at, else-not-is_at-via-else-not-is_at}
+use Rattle.i2c_physics.proofs.reach.others.Goals.{then-not-is_at+then-joins_at, else-not-is_at}
+use Rattle.i2c_physics.proofs.reach.others.Goals.{else-not-is_at-via-then-not-is_at+else-joins_at, else-not-is_at-via-else-not-is_at}
 
 pub loop-number-preserved : goal.loop-number-preserved
 loop-number-preserved c =

@@ -1,5 +1,4 @@
-use Rattle.std.proofs.Common.{◌≡◌, ◌≤◌, length, take}
-use Rattle.i2c_physics.specs.Reach.{others}
+use Rattle.i2c_physics.proofs.Cited.{◌≡◌, ◌≤◌, length, take, others}
 use Rattle.i2c_physics.proofs.reach.others.Given as goal
 
 abbrev pub invariant-loop-number : goal.invariant-loop-number

@@ -1,6 +1,5 @@
-use Rattle.std.proofs.Common.{[], ◌∷◌, length, ap, ◌∙◌, get_or, not, arith}
-use Rattle.std.proofs.lemmas.List.{length-append}
-use Rattle.i2c_physics.specs.Reach.{joins_at}
+use Rattle.i2c_physics.proofs.Cited.{[], ◌∷◌, length, ap, ◌∙◌, get_or, arith, length-append, joins_at}
+use Rattle.std.proofs.Common.{not}
 use Rattle.i2c_physics.proofs.StepLemmas.{kept-more, left-more}
 use Rattle.i2c_physics.proofs.reach.parted.Goals as goal
 use Rattle.i2c_physics.proofs.reach.parted.Goals.{then-joins_at, else-joins_at}

@@ -1,7 +1,5 @@
-use Rattle.std.proofs.Common.{◌≡◌, ◌≤◌, length}
+use Rattle.i2c_physics.proofs.Cited.{◌≡◌, ◌≤◌, length, filter, range_with_len, is_among}
 use Rattle.std.specs.Prelude.{◌||◌}
-use Rattle.std.specs.List.{filter, range_with_len}
-use Rattle.i2c_physics.specs.Reach.{is_among}
 use Rattle.i2c_physics.proofs.reach.union_of.Given as goal
 
 abbrev pub invariant-loop-number : goal.invariant-loop-number

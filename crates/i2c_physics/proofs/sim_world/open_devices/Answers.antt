@@ -1,9 +1,4 @@
-use Rattle.std.proofs.Common.{◌∙◌, ap, arith}
-use Rattle.i2c_board.specs.Layouts.{board_of}
-use Rattle.i2c_physics.specs.SimWorlds.{opened_on}
-use Rattle.i2c_base.proofs.ListLemmas.{one-made}
-use Rattle.std.proofs.lemmas.List.{take_all}
-use Rattle.std.proofs.Common.{map}
+use Rattle.i2c_physics.proofs.Cited.{◌∙◌, ap, arith, map, board_of, opened_on, one-made, take_all}
 use Rattle.i2c_physics.proofs.sim_world.open_devices.Goals as goal
 
 pub push_reserved-requires : goal.push_reserved-requires

@@ -1,7 +1,4 @@
-use Rattle.std.proofs.Common.{vec_capacity, vec_len}
-use Rattle.i2c_board.specs.Layouts.{board_of}
-use Rattle.i2c_physics.specs.SimWorlds.{opened_on}
-use Rattle.i2c_base.proofs.ListLemmas.{AreMade}
+use Rattle.i2c_physics.proofs.Cited.{vec_capacity, vec_len, board_of, opened_on, AreMade}
 use Rattle.i2c_physics.proofs.sim_world.open_devices.Given as goal
 
 abbrev pub invariant-loop-device : goal.invariant-loop-device

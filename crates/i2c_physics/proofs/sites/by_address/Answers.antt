@@ -1,6 +1,4 @@
-use Rattle.std.proofs.Common.{◌≡◌, length, map, ap, ◌∙◌, arith}
-use Rattle.std.specs.List.{range_with_len}
-use Rattle.i2c_physics.specs.Sites.{numbers_below}
+use Rattle.i2c_physics.proofs.Cited.{◌≡◌, length, map, ap, ◌∙◌, arith, range_with_len, numbers_below}
 use Rattle.i2c_physics.proofs.sites.by_address.Goals as goal
 
 pub loop-number-init : goal.loop-number-init

@@ -1,6 +1,4 @@
-use Rattle.std.proofs.Common.{◌≡◌, map}
-use Rattle.std.specs.List.{range_with_len}
-use Rattle.i2c_physics.specs.Sites.{numbers_below}
+use Rattle.i2c_physics.proofs.Cited.{◌≡◌, map, range_with_len, numbers_below}
 use Rattle.i2c_physics.proofs.sites.by_address.Given as goal
 
 abbrev pub invariant-loop-number : goal.invariant-loop-number

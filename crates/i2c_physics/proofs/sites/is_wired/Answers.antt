@@ -1,6 +1,4 @@
-use Rattle.std.proofs.Common.{false, sym, ◌∙◌, ap}
-use Rattle.std.specs.Option.{option_map_or}
-use Rattle.i2c_physics.specs.Places.{PlaceView}
+use Rattle.i2c_physics.proofs.Cited.{false, sym, ◌∙◌, ap, option_map_or, PlaceView}
 use Rattle.i2c_physics.proofs.StepLemmas.{at-place}
 use Rattle.i2c_physics.proofs.sites.is_wired.Goals as goal
 

@@ -1,4 +1,4 @@
-use Rattle.std.proofs.Common.{◌≡◌, ◌<◌, Some, None, get_or, ap, sym, ◌∙◌, arith}
+use Rattle.i2c_physics.proofs.Cited.{◌≡◌, ◌<◌, Some, None, get_or, ap, sym, ◌∙◌, arith}
 use Rattle.i2c_physics.proofs.SiteLemmas.{listed-here, listed-nowhere}
 use Rattle.i2c_physics.proofs.sites.list_number.Goals as goal
 

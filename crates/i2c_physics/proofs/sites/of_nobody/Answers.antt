@@ -1,6 +1,4 @@
-use Rattle.std.proofs.Common.{[], ◌∷◌, ◌++◌, ◌+◌, ap, map, sym, ◌∙◌}
-use Rattle.std.proofs.lemmas.List.{map-append}
-use Rattle.i2c_physics.specs.Sites.{numbers_at}
+use Rattle.i2c_physics.proofs.Cited.{[], ◌∷◌, ◌++◌, ◌+◌, ap, map, sym, ◌∙◌, map-append, numbers_at}
 use Rattle.i2c_physics.proofs.WiredAndLemmas.{listed_more}
 use Rattle.i2c_physics.proofs.sites.of_nobody.Goals as goal
 

@@ -1,6 +1,4 @@
-use Rattle.std.proofs.Common.{◌≡◌, ◌≤◌, [], map, vec_capacity, vec_len}
-use Rattle.std.specs.List.{range_with_len}
-use Rattle.i2c_physics.specs.Sites.{numbers_at}
+use Rattle.i2c_physics.proofs.Cited.{◌≡◌, ◌≤◌, [], map, vec_capacity, vec_len, range_with_len, numbers_at}
 use Rattle.i2c_physics.proofs.sites.of_nobody.Given as goal
 
 abbrev pub invariant-loop-address : goal.invariant-loop-address

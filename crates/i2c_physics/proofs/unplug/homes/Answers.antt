@@ -1,10 +1,4 @@
-use Rattle.std.proofs.Common.{◌∙◌, ap, arith}
-use Rattle.i2c_base.specs.Board.{DeviceView}
-use Rattle.i2c_board.specs.Layouts.{board_of}
-use Rattle.i2c_spec.specs.Tree.{root_of}
-use Rattle.i2c_base.proofs.ListLemmas.{one-made}
-use Rattle.std.proofs.lemmas.List.{take_all}
-use Rattle.std.proofs.Common.{map}
+use Rattle.i2c_physics.proofs.Cited.{◌∙◌, ap, arith, map, DeviceView, board_of, root_of, one-made, take_all}
 use Rattle.i2c_physics.proofs.unplug.homes.Goals as goal
 
 pub push_reserved-requires : goal.push_reserved-requires

@@ -1,7 +1,4 @@
-use Rattle.std.proofs.Common.{vec_capacity, vec_len}
-use Rattle.i2c_board.specs.Layouts.{board_of}
-use Rattle.i2c_spec.specs.Tree.{root_of}
-use Rattle.i2c_base.proofs.ListLemmas.{AreMade}
+use Rattle.i2c_physics.proofs.Cited.{vec_capacity, vec_len, board_of, root_of, AreMade}
 use Rattle.i2c_physics.proofs.unplug.homes.Given as goal
 
 abbrev pub invariant-loop-device : goal.invariant-loop-device

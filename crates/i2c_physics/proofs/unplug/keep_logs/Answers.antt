@@ -1,5 +1,4 @@
-use Rattle.std.proofs.Common.{◌≡◌, ◌<◌, ◌++◌, ◌∷◌, [], vec_len, vec_capacity, append-nil, sym, arith, rules}
-use Rattle.std.proofs.lemmas.List.{length-append}
+use Rattle.i2c_physics.proofs.Cited.{◌≡◌, ◌<◌, ◌++◌, ◌∷◌, [], vec_len, vec_capacity, append-nil, sym, arith, rules, length-append}
 use Rattle.i2c_physics.proofs.RigLemmas.{count-kept, one-more-kept}
 use Rattle.i2c_physics.proofs.unplug.keep_logs.Goals as goal
 

@@ -1,5 +1,5 @@
 -- There is room for the logs of the ports that are left.
-use Rattle.std.proofs.Common.{◌≡◌, ◌≤◌, ◌+◌, ◌++◌, length, map, vec_len, vec_capacity}
+use Rattle.i2c_physics.proofs.Cited.{◌≡◌, ◌≤◌, ◌+◌, ◌++◌, length, map, vec_len, vec_capacity}
 use Rattle.i2c_physics.proofs.unplug.keep_logs.Given as goal
 
 abbrev pub invariant-loop-port : goal.invariant-loop-port

@@ -1,9 +1,8 @@
-use Rattle.std.proofs.Common.{◌≡◌, ◌<◌, ◌≤◌, ◌+◌, ◌++◌, ◌∷◌, length, map, drop, get_or, slice_index, inl, inr, append-nil, refl, sym, ◌∙◌, ap, subst, arith}
-use Rattle.std.specs.Prelude.{option_to_list}
+use Rattle.i2c_physics.proofs.Cited.{◌≡◌, ◌<◌, ◌≤◌, ◌+◌, ◌++◌, ◌∷◌, length, map, drop, get_or, slice_index, inl, inr, append-nil, refl, sym}
+use Rattle.i2c_physics.proofs.Cited.{◌∙◌, ap, subst, arith, option_to_list, slice_get-get_or, states_from, IsThere}
 use Rattle.std.proofs.lemmas.Bool.{cases_lt}
 use Rattle.std.proofs.lemmas.List.{drop_all, drop_more}
-use Rattle.std.proofs.lemmas.Option.{get_or_from_slice_get, slice_get-get_or}
-use Rattle.i2c_physics.specs.SimRigs.{states_from, IsThere}
+use Rattle.std.proofs.lemmas.Option.{get_or_from_slice_get}
 use Rattle.i2c_physics.proofs.TakeLemmas.{one-kept, there-before}
 use Rattle.i2c_physics.proofs.unplug.keep_states.Goals as goal
 use Rattle.i2c_physics.proofs.unplug.keep_states.Goals.{in-Some, in_default}

@@ -1,6 +1,5 @@
 -- The devices that are kept and those that are left are the whole; who is there at a port was there at first.
-use Rattle.std.proofs.Common.{◌≡◌, ℕ, ◌<◌, ◌≤◌, ◌+◌, ◌++◌, map, drop, vec_len, vec_capacity, slice_index}
-use Rattle.i2c_physics.specs.SimRigs.{states_from, IsThere}
+use Rattle.i2c_physics.proofs.Cited.{◌≡◌, ℕ, ◌<◌, ◌≤◌, ◌+◌, ◌++◌, map, drop, vec_len, vec_capacity, slice_index, states_from, IsThere}
 use Rattle.i2c_physics.proofs.unplug.keep_states.Given as goal
 
 abbrev pub invariant-loop-number : goal.invariant-loop-number

@@ -1,10 +1,6 @@
-use Rattle.std.proofs.Common.{◌≡◌, ◌≤◌, Some, None, length, map, sym, refl, ◌∙◌, ap, subst, arith}
-use Rattle.std.specs.Prelude.{IsSome, slice_get}
+use Rattle.i2c_physics.proofs.Cited.{◌≡◌, ◌≤◌, Some, None, length, map, sym, refl, ◌∙◌, ap, subst, arith, IsSome, slice_get, length-map}
+use Rattle.i2c_physics.proofs.Cited.{slice_get_past, own_device, without, device_of, state_at, taken_out}
 use Rattle.std.proofs.Math.Seq.{map-set_same}
-use Rattle.std.proofs.lemmas.List.{length-map}
-use Rattle.std.proofs.lemmas.Option.{slice_get_past}
-use Rattle.bus_lines.specs.Owned.{own_device, without}
-use Rattle.i2c_physics.specs.SimRigs.{device_of, state_at, taken_out}
 use Rattle.i2c_physics.proofs.TakeLemmas.{none-taken, one-taken, at-home, is-home}
 use Rattle.i2c_physics.proofs.unplug.take_from.Goals as goal
 

@@ -1,9 +1,5 @@
-use Rattle.std.proofs.Common.{◌≡◌, length, ap, ◌∙◌, arith}
+use Rattle.i2c_physics.proofs.Cited.{◌≡◌, length, ap, ◌∙◌, arith, answers, feed, wired_and_of, numbers_of, to_those, union_of}
 use Rattle.i2c_base.specs.declared.event.Event.TheVariants as event
-use Rattle.i2c_spec.specs.World.{answers, feed}
-use Rattle.i2c_physics.specs.Answering.{wired_and_of}
-use Rattle.i2c_physics.specs.Heard.{numbers_of}
-use Rattle.i2c_physics.specs.Reach.{to_those, union_of}
 use Rattle.i2c_physics.proofs.wired_and.begin.Goals as goal
 
 pub tell-others-requires-clause-few : goal.tell-others-requires-clause-few

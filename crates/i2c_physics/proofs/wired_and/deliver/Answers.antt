@@ -1,5 +1,4 @@
-use Rattle.std.proofs.Common.{◌<◌, length, ap, ◌∙◌, sym, arith}
-use Rattle.i2c_physics.specs.Answering.{wired_and_of}
+use Rattle.i2c_physics.proofs.Cited.{◌<◌, length, ap, ◌∙◌, sym, arith, wired_and_of}
 use Rattle.i2c_physics.proofs.AloneLemmas.{nobody-fed, nobody-answered}
 use Rattle.i2c_physics.proofs.wired_and.deliver.Goals as goal
 

@@ -1,8 +1,5 @@
-use Rattle.std.proofs.Common.{◌≡◌, ◌+◌, ◌-◌, ◌<◌, ◌∷◌, length, get_or, ap, ◌∙◌, sym, refl, arith}
-use Rattle.std.specs.Prelude.{if◌then◌else◌}
-use Rattle.i2c_spec.specs.World.{has_heard}
-use Rattle.i2c_physics.specs.Answering.{wired_and_of}
-use Rattle.i2c_physics.specs.Heard.{numbers_of}
+use Rattle.i2c_physics.proofs.Cited.{◌≡◌, ◌+◌, ◌-◌, ◌<◌, ◌∷◌, length, get_or, ap, ◌∙◌, sym, refl, arith, if◌then◌else◌, has_heard}
+use Rattle.i2c_physics.proofs.Cited.{wired_and_of, numbers_of}
 use Rattle.i2c_physics.proofs.NumberLemmas.{rising-length}
 use Rattle.i2c_physics.proofs.WiredAndLemmas.{untold-fed, untold-answered, told-within, told-fed, told-answered}
 use Rattle.i2c_physics.proofs.wired_and.tell.Goals as goal

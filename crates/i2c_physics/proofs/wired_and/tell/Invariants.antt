@@ -1,8 +1,4 @@
-use Rattle.std.proofs.Common.{◌≡◌, ◌+◌, ◌≤◌, length, drop}
-use Rattle.i2c_spec.specs.World.{answers, feed}
-use Rattle.i2c_physics.specs.Answering.{wired_and_of}
-use Rattle.i2c_physics.specs.Heard.{numbers_of}
-use Rattle.i2c_physics.specs.Reach.{to_those}
+use Rattle.i2c_physics.proofs.Cited.{◌≡◌, ◌+◌, ◌≤◌, length, drop, answers, feed, wired_and_of, numbers_of, to_those}
 use Rattle.i2c_physics.proofs.wired_and.tell.Given as goal
 
 -- the targets of the numbers from `left` on have had the event

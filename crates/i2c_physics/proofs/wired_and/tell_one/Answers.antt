@@ -1,5 +1,4 @@
-use Rattle.std.proofs.Common.{[], ap, ◌∙◌, sym}
-use Rattle.i2c_physics.specs.Answering.{wired_and_of}
+use Rattle.i2c_physics.proofs.Cited.{[], ap, ◌∙◌, sym, wired_and_of}
 use Rattle.i2c_physics.proofs.AloneLemmas.{alone-fed, alone-answered}
 use Rattle.i2c_physics.proofs.wired_and.tell_one.Goals as goal
 

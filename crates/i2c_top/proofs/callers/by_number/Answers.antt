@@ -1,7 +1,4 @@
-use Rattle.std.proofs.Common.{◌≡◌, ◌<◌, length, arith}
-use Rattle.std.specs.Prelude.{vec_len, vec_capacity}
-use Rattle.std.specs.List.{enumerate_from}
-use Rattle.std.proofs.lemmas.List.FromFn.{length-enumerate_from}
+use Rattle.i2c_top.proofs.Cited.{◌≡◌, ◌<◌, length, arith, vec_len, vec_capacity, enumerate_from, length-enumerate_from}
 use Rattle.i2c_top.proofs.Numbering.{numbered-next, so-many, over-next, room-next, below-next}
 use Rattle.i2c_top.proofs.callers.by_number.Goals as goal
 

@@ -1,6 +1,4 @@
-use Rattle.std.specs.Prelude.{vec_capacity}
-use Rattle.std.specs.List.{enumerate_from}
-use Rattle.std.specs.Vec.Iter.{into_iter_items, into_iter_len}
+use Rattle.i2c_top.proofs.Cited.{vec_capacity, enumerate_from, into_iter_items, into_iter_len}
 use Rattle.i2c_top.proofs.Numbering.{GoesOver}
 use Rattle.i2c_top.proofs.callers.by_root.Given as goal
 

@@ -1,8 +1,6 @@
-use Rattle.std.proofs.Common.{◌≡◌, ℕ, ◌++◌, [], ◌∷◌, List, take, get_or, sym, ◌∙◌, ap, arith}
-use Rattle.std.proofs.lemmas.List.{take_more, map-append}
-use Rattle.std.proofs.lemmas.Option.{slice_get-get_or}
-use Rattle.caller_core.specs.Scripts.{cost_of_script}
-use Rattle.caller_core.specs.View.{CallerView}
+use Rattle.i2c_top.proofs.Cited.{◌≡◌, ℕ, ◌++◌, [], ◌∷◌, List, take, get_or, sym, ◌∙◌, ap, arith, take_more, slice_get-get_or}
+use Rattle.i2c_top.proofs.Cited.{cost_of_script, CallerView}
+use Rattle.std.proofs.lemmas.List.{map-append}
 use Rattle.i2c_top.proofs.GroupLemmas.{costs_in, cost_fits}
 use Rattle.i2c_top.proofs.callers.costs_of.Goals as goal
 

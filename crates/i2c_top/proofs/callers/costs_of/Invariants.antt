@@ -1,5 +1,4 @@
-use Rattle.std.proofs.Common.{◌≡◌, map, take}
-use Rattle.caller_core.specs.Scripts.{cost_of_script}
+use Rattle.i2c_top.proofs.Cited.{◌≡◌, map, take, cost_of_script}
 use Rattle.i2c_top.proofs.callers.costs_of.Given as goal
 
 abbrev pub invariant-loop-script : goal.invariant-loop-script

@@ -1,6 +1,4 @@
-use Rattle.std.proofs.Common.{List, sym, subst}
-use Rattle.i2c_base.specs.declared.entry.Entry.{Entry}
-use Rattle.bus_spec.specs.Schedule.{Follows}
+use Rattle.i2c_top.proofs.Cited.{List, sym, subst, Entry, Follows}
 use Rattle.i2c_top.proofs.CoreLemmas.{as-one}
 use Rattle.i2c_top.proofs.callers.finished.Goals as goal
 

@@ -1,7 +1,4 @@
-use Rattle.std.proofs.Common.{◌≡◌, true, List, All, sym, subst}
-use Rattle.bus_core.specs.State.{has_caller}
-use Rattle.bus_journal.specs.View.{JournalView}
-use Rattle.bus_spec.specs.Schedule.{Follows}
+use Rattle.i2c_top.proofs.Cited.{◌≡◌, true, List, All, sym, subst, has_caller, JournalView, Follows}
 use Rattle.i2c_top.proofs.CoreLemmas.{words-placed, goes-on-whole, taken-apart}
 use Rattle.i2c_top.proofs.callers.followed.Goals as goal
 

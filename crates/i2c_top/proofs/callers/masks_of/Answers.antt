@@ -1,10 +1,5 @@
-use Rattle.std.proofs.Common.{ℕ, ◌+◌, ◌++◌, [], ◌∷◌, List, take, get_or, subst, sym, arith}
-use Rattle.std.specs.List.{AllZip}
-use Rattle.std.proofs.lemmas.List.{take_more, take_all, length-take}
-use Rattle.bus_groups.proofs.ShareLemmas.{zip-more, zip-length}
-use Rattle.caller_core.specs.Roots.{HasRoots}
-use Rattle.caller_core.specs.Scripts.{commands_of}
-use Rattle.caller_core.specs.View.{CallerView}
+use Rattle.i2c_top.proofs.Cited.{ℕ, ◌+◌, ◌++◌, [], ◌∷◌, List, take, get_or, subst, sym, arith, AllZip, take_more, take_all, length-take}
+use Rattle.i2c_top.proofs.Cited.{zip-more, zip-length, HasRoots, commands_of, CallerView}
 use Rattle.i2c_top.proofs.callers.masks_of.Goals as goal
 
 abbrev Names : CallerView → ℕ → Type 0

@@ -1,7 +1,4 @@
-use Rattle.std.proofs.Common.{ℕ, List, map, sym, subst}
-use Rattle.std.specs.List.{enumerate_from}
-use Rattle.i2c_spec.specs.Plain.{IsPlainBoard}
-use Rattle.bus_core.specs.Opens.{MayOpen}
+use Rattle.i2c_top.proofs.Cited.{ℕ, List, map, sym, subst, enumerate_from, IsPlainBoard, MayOpen}
 use Rattle.i2c_top.proofs.CoreLemmas.{may-open, core-opened}
 use Rattle.i2c_top.proofs.callers.opened.Goals as goal
 

@@ -1,9 +1,5 @@
-use Rattle.std.proofs.Common.{◌≡◌, ℕ, List, length, map, sym, ◌∙◌, ap, subst, arith}
-use Rattle.std.specs.Prelude.{IfOk}
-use Rattle.std.specs.List.{enumerate_from}
-use Rattle.i2c_base.specs.Board.{BoardView}
-use Rattle.i2c_spec.specs.Plain.{IsPlainBoard}
-use Rattle.i2c_top.specs.Cores.{IsCoreOf, MayRun}
+use Rattle.i2c_top.proofs.Cited.{◌≡◌, ℕ, List, length, map, sym, ◌∙◌, ap, subst, arith, IfOk, enumerate_from, BoardView, IsPlainBoard}
+use Rattle.i2c_top.proofs.Cited.{IsCoreOf, MayRun}
 use Rattle.i2c_top.proofs.callers.opened_counting.Goals as goal
 use Rattle.journal_check.proofs.PortLemmas.{firsts}
 

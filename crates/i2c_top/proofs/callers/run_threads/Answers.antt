@@ -1,13 +1,6 @@
-use denote.Param.Send.{sendable}
-use Rattle.std.proofs.Common.{◌≡◌, ℕ, List, length, sym, ◌∙◌, ap, subst, arith}
-use Rattle.std.specs.Prelude.{IfOk}
-use Rattle.std.specs.List.{enumerate_from}
-use Rattle.std.proofs.Crossing.{crosses}
-use Rattle.i2c_base.specs.Board.{BoardView}
-use Rattle.i2c_spec.specs.Plain.{IsPlainBoard}
-use Rattle.bus_groups.specs.Rounds.{HaveRun, MayRun}
-use Rattle.caller_core.specs.View.{CallerView}
-use Rattle.i2c_top.specs.Runs.{script_row}
+use Rattle.i2c_top.proofs.Cited.{sendable, ◌≡◌, ℕ, List, length, sym, ◌∙◌, ap, subst, arith, IfOk, enumerate_from, crosses, BoardView}
+use Rattle.i2c_top.proofs.Cited.{IsPlainBoard, HaveRun, CallerView, script_row}
+use Rattle.bus_groups.specs.Rounds.{MayRun}
 use Rattle.i2c_top.proofs.GroupLemmas.{AreMasks, costs_in, may-run, ran-left, ran-groups}
 use Rattle.i2c_top.proofs.callers.run_threads.Goals as goal
 
@@ -29,7 +22,8 @@ run_groups-requires-after_bounds g c κs within =
     let plain : IsPlainBoard b = subst IsPlainBoard c.board.ensures.value c.roots-roots.ensures.plain in
     let scripts = c.args.scripts.items in
     let masks = c.masks_of-masks.result.items in
-    let has : AreMasks scripts masks = subst (λ (ss : List CallerView). AreMasks ss masks) c.as_slice.ensures.value c.masks_of-masks.ensures in
+    let has : AreMasks scripts masks = subst (λ (ss : List CallerView). AreMasks ss masks) c.as_slice.ensures.value
+    c.masks_of-masks.ensures in
     let costs : c.as_slice-4.result.now ≡ costs_in scripts =
     c.as_slice-4.ensures.value ∙ c.costs_of-costs.ensures ∙ ap costs_in c.as_slice-2.ensures.value in
     let may = may-run g.P.Port b plain scripts c.requires.opened c.requires.few c.requires.cheap c.args.ports.items
@@ -49,7 +43,8 @@ returns-clause-left g c =
     ran-left g.P.Port b plain c.board.ensures.rules c.args.scripts.items c.args.ports.items c.requires.fresh.count
     c.in_ok-ports.ports.items c.in_ok-callers.callers.items c.in_ok-ports.ensures c.in_ok-callers.ensures c.masks_of-masks.result.items
     c.run_groups.result
-    (subst (λ (ms : List ℕ). IfOk c.run_groups.result (HaveRun g.P.Port script_row b ms c.in_ok-ports.ports.items c.in_ok-callers.callers.items))
+    (subst (λ (ms : List ℕ). IfOk c.run_groups.result (HaveRun g.P.Port script_row b ms c.in_ok-ports.ports.items
+    c.in_ok-callers.callers.items))
     c.as_slice-3.ensures.value c.run_groups.ensures)
 
 pub returns-clause-groups : goal.returns-clause-groups
@@ -60,5 +55,6 @@ returns-clause-groups g c tells =
     subst (λ (ss : List CallerView). AreMasks ss masks) c.as_slice.ensures.value c.masks_of-masks.ensures in
     ran-groups g.P.Port b c.args.scripts.items c.requires.opened c.in_ok-ports.ports.items c.in_ok-callers.callers.items masks has tells
     c.run_groups.result
-    (subst (λ (ms : List ℕ). IfOk c.run_groups.result (HaveRun g.P.Port script_row b ms c.in_ok-ports.ports.items c.in_ok-callers.callers.items))
+    (subst (λ (ms : List ℕ). IfOk c.run_groups.result (HaveRun g.P.Port script_row b ms c.in_ok-ports.ports.items
+    c.in_ok-callers.callers.items))
     c.as_slice-3.ensures.value c.run_groups.ensures)

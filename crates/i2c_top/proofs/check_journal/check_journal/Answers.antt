@@ -1,8 +1,4 @@
-use Rattle.std.proofs.Common.{subst}
-use Rattle.i2c_spec.specs.Plain.{IsPlainBoard}
-use Rattle.journal_check.specs.Faults.{CanBeChecked}
-use Rattle.i2c_top.specs.Checked.{checked_on}
-use Rattle.i2c_top.specs.Runs.{texts_of}
+use Rattle.i2c_top.proofs.Cited.{subst, IsPlainBoard, CanBeChecked, checked_on, texts_of}
 use Rattle.i2c_top.proofs.CheckedLemmas.{can-be, each-fault, each-report}
 use Rattle.i2c_top.proofs.check_journal.check_journal.Goals as goal
 

@@ -1,7 +1,4 @@
-use Rattle.std.proofs.Common.{◌<◌, map, sym, subst}
-use Rattle.std.proofs.lemmas.List.{length-map}
-use Rattle.journal_check.specs.Texts.{IsWhole}
-use Rattle.i2c_top.specs.Runs.{section_of}
+use Rattle.i2c_top.proofs.Cited.{◌<◌, map, sym, subst, length-map, IsWhole, section_of}
 use Rattle.i2c_top.proofs.CheckedLemmas.{beside-next, beside-other, left-short, own-text, section-whole}
 use Rattle.i2c_top.proofs.check_journal.check_sections.Goals as goal
 

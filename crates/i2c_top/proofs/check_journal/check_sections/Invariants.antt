@@ -1,5 +1,4 @@
-use Rattle.std.proofs.Common.{map}
-use Rattle.i2c_top.specs.Runs.{section_of}
+use Rattle.i2c_top.proofs.Cited.{map, section_of}
 use Rattle.i2c_top.proofs.CheckedLemmas.{IsBesideCallers}
 use Rattle.i2c_top.proofs.check_journal.check_sections.Given as goal
 

@@ -1,15 +1,8 @@
-use denote.Param.Send.{sendable}
-use Rattle.std.proofs.Common.{◌≡◌, List, length, sym, ◌∙◌, ap, subst, inr, arith}
-use Rattle.std.proofs.Crossing.{crosses}
-use Rattle.i2c_base.specs.Board.{BoardView}
-use Rattle.i2c_spec.specs.Plain.{IsPlainBoard}
-use Rattle.i2c_spec.specs.Rules.{MeetsRules}
-use Rattle.bus_journal.specs.Told.{entries_of}
-use Rattle.journal_check.specs.Gaps.{gaps_by}
+use Rattle.i2c_top.proofs.Cited.{sendable, ◌≡◌, List, length, sym, ◌∙◌, ap, subst, inr, arith, crosses, BoardView, IsPlainBoard, MeetsRules}
+use Rattle.i2c_top.proofs.Cited.{entries_of, gaps_by, CallerView, cost_of_texts, texts_of}
 use Rattle.journal_check.proofs.SendLemmas.{told_port-send}
-use Rattle.caller_core.specs.View.{CallerView}
-use Rattle.i2c_top.specs.Runs.{cost_of_texts, texts_of}
-use Rattle.i2c_top.proofs.CheckedLemmas.{been-checked, has-opened, limits-opened, numbered-opened, silent-opened, some-opened, wired-opened, wrong-opened}
+use Rattle.i2c_top.proofs.CheckedLemmas.{been-checked, has-opened, limits-opened, numbered-opened, silent-opened, some-opened, wired-opened}
+use Rattle.i2c_top.proofs.CheckedLemmas.{wrong-opened}
 use Rattle.i2c_top.proofs.TextLemmas.{may-run-scripts}
 use Rattle.i2c_top.proofs.check_journal.followed.Goals as goal
 
@@ -21,7 +14,8 @@ opened-requires-clause-may g c κs within =
     let b = c.args.board.now in
     let cost : c.limit_of-limit.result ≡ cost_of_texts b (texts_of c.args.scripts.items) =
     c.limit_of-limit.ensures ∙ ap (λ (ss : List CallerView). cost_of_texts b (texts_of ss)) c.as_slice.ensures.value in
-    may-run-scripts _ b c.args.scripts.items c.requires.opened _ c.limit_of-limit.result cost c.scripts_are_fair.ensures c.requires.few c.requires.cheap
+    may-run-scripts _ b c.args.scripts.items c.requires.opened _ c.limit_of-limit.result cost c.scripts_are_fair.ensures c.requires.few
+    c.requires.cheap
     (record {
       count = c.in-Ok.ensures.count;
       idle = c.in-Ok.ensures.idle;
@@ -47,11 +41,13 @@ check_entries-requires-clause-rules g c κs within = subst MeetsRules (sym c.in-
 
 pub check_entries-requires-clause-some : goal.check_entries-requires-clause-some
 check_entries-requires-clause-some g c κs within =
-    some-opened c.args.board.now c.args.scripts.items c.requires.opened _ c.in-Ok-opened.core c.in-Ok-opened.ensures.of c.scripts_are_fair.ensures
+    some-opened c.args.board.now c.args.scripts.items c.requires.opened _ c.in-Ok-opened.core c.in-Ok-opened.ensures.of
+    c.scripts_are_fair.ensures
 
 pub check_entries-requires-clause-limits : goal.check_entries-requires-clause-limits
 check_entries-requires-clause-limits g c κs within =
-    limits-opened c.args.board.now c.args.scripts.items c.requires.opened _ c.in-Ok-opened.core c.in-Ok-opened.ensures.of c.scripts_are_fair.ensures
+    limits-opened c.args.board.now c.args.scripts.items c.requires.opened _ c.in-Ok-opened.core c.in-Ok-opened.ensures.of
+    c.scripts_are_fair.ensures
 
 pub check_entries-requires-clause-wired : goal.check_entries-requires-clause-wired
 check_entries-requires-clause-wired g c κs within =
@@ -65,7 +61,8 @@ check_entries-requires-clause-has g c κs within =
 pub check_entries-requires-clause-numbered : goal.check_entries-requires-clause-numbered
 check_entries-requires-clause-numbered g c κs within =
     λ n none.
-    let high = numbered-opened c.args.board.now c.args.scripts.items c.requires.opened _ c.in-Ok-opened.core c.in-Ok-opened.ensures.of n none in
+    let high = numbered-opened c.args.board.now c.args.scripts.items c.requires.opened _ c.in-Ok-opened.core c.in-Ok-opened.ensures.of n
+    none in
     let count : c.len-count.result ≡ length c.args.scripts.items = c.len-count.ensures ∙ c.args.scripts.ok.0 in
     omega (arith, high, count)
 
@@ -86,5 +83,6 @@ returns-in-Ok-check_entries-clause-checked g c =
 
 pub returns-in-Err-clause-wrong : goal.returns-in-Err-clause-wrong
 returns-in-Err-clause-wrong g c =
-    inr (wrong-opened c.args.board.now c.args.scripts.items c.requires.opened _ c.in-Ok-opened.core c.in-Ok-opened.ensures.of c.len-count.result
+    inr (wrong-opened c.args.board.now c.args.scripts.items c.requires.opened _ c.in-Ok-opened.core c.in-Ok-opened.ensures.of
+    c.len-count.result
     (c.len-count.ensures ∙ c.args.scripts.ok.0) (entries_of c.args.lines.now) c.in-Err.fault c.in-Err.ensures.wrong)

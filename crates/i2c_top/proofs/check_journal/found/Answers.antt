@@ -1,12 +1,6 @@
-use Rattle.std.proofs.Common.{◌≡◌, ◌≤◌, ◌^◌, List, length, map, ◌∙◌, ap, subst, inl, inr, arith}
-use Rattle.bus_core.specs.declared.seat.Seat.{Seat}
-use Rattle.bus_journal.specs.Told.{entries_of}
-use Rattle.bus_spec.specs.Report.{sections}
-use Rattle.caller_core.specs.View.{CallerView}
-use Rattle.i2c_base.specs.declared.entry.Entry.{Entry}
+use Rattle.i2c_top.proofs.Cited.{◌≡◌, ◌≤◌, ◌^◌, List, length, map, ◌∙◌, ap, subst, inl, inr, arith, Seat, entries_of, sections, CallerView}
+use Rattle.i2c_top.proofs.Cited.{Entry, FirstOther, section_of, texts_of}
 use Rattle.journal_check.specs.Forms.{lines_of}
-use Rattle.journal_check.specs.Texts.{FirstOther}
-use Rattle.i2c_top.specs.Runs.{section_of, texts_of}
 use Rattle.i2c_top.proofs.CheckedLemmas.{entry-fault, few-entries, report-verified, text-fault}
 use Rattle.i2c_top.proofs.check_journal.found.Goals as goal
 
@@ -40,5 +34,6 @@ returns-clause-fault c =
     inr (text-fault c.args.board.now (texts_of c.args.scripts.items) c.args.text.now c.in-Ok.report.sections.now c.in-Ok.report.lines.now
     c.in-Ok.ensures.form c.in-Ok-followed.followed.seats.items c.in-Ok-followed.followed.journal.entries c.in-Ok-followed.ensures.checked
     c.scripts_are_fair.ensures c.in-Err-check_sections.line
-    (subst (λ (ss : List (Seat CallerView)). FirstOther 1 (lines_of c.in-Ok.report.sections.now) (lines_of (sections 0 (map (λ s. section_of s.caller) ss)))
+    (subst (λ (ss : List (Seat CallerView)). FirstOther 1 (lines_of c.in-Ok.report.sections.now)
+    (lines_of (sections 0 (map (λ s. section_of s.caller) ss)))
     c.in-Err-check_sections.line) c.as_slice.ensures.value c.in-Err-check_sections.ensures.other))

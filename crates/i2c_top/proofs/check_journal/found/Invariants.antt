@@ -1,4 +1,4 @@
-use Rattle.journal_check.specs.Gaps.{gaps_by}
+use Rattle.i2c_top.proofs.Cited.{gaps_by}
 use Rattle.i2c_top.proofs.check_journal.found.Given as goal
 
 -- the ports are named for the lines at hand

@@ -1,7 +1,5 @@
-use Rattle.std.proofs.Common.{◌≡◌, ◌+◌, ◌++◌, [], ◌∷◌, List, take, ap, sym, ◌∙◌, arith, sum_by}
-use Rattle.std.proofs.lemmas.List.{take_all, take_more}
+use Rattle.i2c_top.proofs.Cited.{◌≡◌, ◌+◌, ◌++◌, [], ◌∷◌, List, take, ap, sym, ◌∙◌, arith, sum_by, take_all, take_more, CallerView}
 use Rattle.std.proofs.lemmas.List.Sums.{sum_by_push}
-use Rattle.caller_core.specs.View.{CallerView}
 use Rattle.i2c_top.proofs.CostLemmas.{cost_of_opened, costs_are}
 use Rattle.i2c_top.proofs.cost.cost_of.Goals as goal
 

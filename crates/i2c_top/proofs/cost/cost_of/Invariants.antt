@@ -1,4 +1,5 @@
-use Rattle.std.proofs.Common.{◌≡◌, ◌*◌, ◌^◌, ◌≤◌, take, sum_by}
+use Rattle.i2c_top.proofs.Cited.{◌≡◌, ◌^◌, ◌≤◌, take, sum_by}
+use Rattle.std.proofs.Common.{◌*◌}
 use Rattle.i2c_top.proofs.CostLemmas.{cost_of_opened}
 use Rattle.i2c_top.proofs.cost.cost_of.Given as goal
 

@@ -1,5 +1,5 @@
-use Rattle.std.proofs.Common.{sym, ap, ◌∙◌, Some}
-use Rattle.std.proofs.lemmas.Result.{IfOk-weaker, IfErr-weaker}
+use Rattle.i2c_top.proofs.Cited.{sym, ap, ◌∙◌, Some, IfOk-weaker}
+use Rattle.std.proofs.lemmas.Result.{IfErr-weaker}
 use Rattle.i2c_top.proofs.FileLemmas.{accepted_in, board_rejected}
 use Rattle.i2c_top.proofs.files.read_accepted.Goals as goal
 

@@ -1,11 +1,8 @@
-use Rattle.std.proofs.lemmas.Grind.{common_steps}
-use Rattle.std.proofs.Common.{ℕ, sym, ap, subst, ◌∙◌, arith, length}
-use Rattle.std.specs.Prelude.{option_map, string_bytes}
-use Rattle.std.proofs.lemmas.List.{length-map}
-use Rattle.i2c_top.specs.forms.Replays.{names_told}
-use Rattle.i2c_top.specs.Readings.{IsRefusedScript, IsTooDear}
-use Rattle.i2c_top.specs.Runs.{cost_of_texts, texts_of}
-use Rattle.i2c_top.proofs.FileLemmas.{all_kept, all_scripts, has_read, passed_on, scripts_refusal, schedule_before, order_refusal, cost_refusal, board_unreached, scripts_unreached, order_unreached}
+use Rattle.i2c_top.proofs.Cited.{common_steps, ℕ, sym, ap, subst, ◌∙◌, arith, length, string_bytes, length-map, names_told, IsRefusedScript}
+use Rattle.i2c_top.proofs.Cited.{IsTooDear, cost_of_texts, texts_of}
+use Rattle.std.specs.Prelude.{option_map}
+use Rattle.i2c_top.proofs.FileLemmas.{all_kept, all_scripts, has_read, passed_on, scripts_refusal, schedule_before, order_refusal}
+use Rattle.i2c_top.proofs.FileLemmas.{cost_refusal, board_unreached, scripts_unreached, order_unreached}
 use Rattle.i2c_top.proofs.SomeFiles.{some-read}
 use Rattle.i2c_top.proofs.files.read_files.Goals as goal
 
@@ -73,7 +70,8 @@ pub returns-clause-some : goal.returns-clause-some
 returns-clause-some g c =
     let names = names_told c.args.names.now in
     let count = c.in_ok-scripts.ensures.count ∙ sym (length-map c.args.names.now.scripts.now string_bytes) in
-    some-read names c.in_ok-board.board c.in_ok-scripts.scripts.items c.callers_of.result (option_map (λ v. v.items) c.in_ok-schedule.schedule)
+    some-read names c.in_ok-board.board c.in_ok-scripts.scripts.items c.callers_of.result (option_map
+    (λ v. v.items) c.in_ok-schedule.schedule)
     c.in_ok-board.ensures.spelled c.in_ok-scripts.ensures.scripts.grammar count
     (c.callers_of.ensures ∙ ap length c.as_slice.ensures.value ∙ count) c.in_ok-schedule.ensures.ordered
 

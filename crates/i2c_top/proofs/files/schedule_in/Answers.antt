@@ -1,5 +1,4 @@
-use Rattle.std.proofs.Common.{ap, sym, ◌∙◌, Some}
-use Rattle.std.proofs.lemmas.Result.{IfOk-weaker}
+use Rattle.i2c_top.proofs.Cited.{ap, sym, ◌∙◌, Some, IfOk-weaker}
 use Rattle.i2c_top.proofs.FileLemmas.{schedule_in}
 use Rattle.i2c_top.proofs.files.schedule_in.Goals as goal
 

@@ -1,8 +1,4 @@
-use Rattle.std.proofs.lemmas.Grind.{common_steps}
-use Rattle.std.proofs.Common.{sym, subst, inl, inr, arith, refl, map, ◌<◌}
-use Rattle.std.specs.Prelude.{string_bytes}
-use Rattle.std.proofs.lemmas.List.{length-map}
-use Rattle.i2c_top.specs.Scripts.{HasScripts}
+use Rattle.i2c_top.proofs.Cited.{common_steps, sym, subst, inl, inr, arith, refl, map, ◌<◌, string_bytes, length-map, HasScripts}
 use Rattle.i2c_top.specs.declared.status.Status.TheVariants as status
 use Rattle.i2c_top.proofs.FileLemmas.{passed_on, script_refused, scripts_more, one_more, kept_then}
 use Rattle.i2c_top.proofs.files.scripts_in.Goals as goal

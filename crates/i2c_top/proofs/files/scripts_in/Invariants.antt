@@ -1,7 +1,4 @@
-use Rattle.std.proofs.Common.{◌≡◌, ◌+◌, ◌≤◌, ◌<◌, length, map}
-use Rattle.std.specs.Prelude.{string_bytes}
-use Rattle.i2c_top.specs.Readings.{AreScriptsIn}
-use Rattle.i2c_top.specs.Traces.{KeepsBut, shelf_view}
+use Rattle.i2c_top.proofs.Cited.{◌≡◌, ◌+◌, ◌≤◌, ◌<◌, length, map, string_bytes, AreScriptsIn, KeepsBut, shelf_view}
 use Rattle.i2c_top.proofs.files.scripts_in.Given as goal
 
 abbrev pub invariant-loop-caller : goal.invariant-loop-caller

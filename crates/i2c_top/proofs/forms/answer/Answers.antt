@@ -1,6 +1,6 @@
-use Rattle.std.proofs.Common.{map, string_bytes, sym, ◌∙◌, subst}
-use Rattle.i2c_top.specs.Traces.{outside, rig_view}
-use Rattle.i2c_top.specs.forms.{HasEnded}
+use Rattle.i2c_top.proofs.Cited.{map, sym, ◌∙◌, subst, outside, HasEnded}
+use Rattle.std.proofs.Common.{string_bytes}
+use Rattle.i2c_top.specs.Traces.{rig_view}
 use Rattle.i2c_top.proofs.AskedLemmas.{verify_asked}
 use Rattle.i2c_top.proofs.forms.answer.Goals as goal
 

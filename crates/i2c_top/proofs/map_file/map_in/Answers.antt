@@ -1,5 +1,4 @@
-use Rattle.std.proofs.Common.{ap, sym, ◌∙◌, Some}
-use Rattle.std.proofs.lemmas.Result.{IfOk-weaker}
+use Rattle.i2c_top.proofs.Cited.{ap, sym, ◌∙◌, Some, IfOk-weaker}
 use Rattle.i2c_top.proofs.AtrLemmas.{map_there}
 use Rattle.i2c_top.proofs.map_file.map_in.Goals as goal
 
@@ -9,4 +8,5 @@ returns-clause-spelled g c =
 
 pub returns-clause-map : goal.returns-clause-map
 returns-clause-map g c =
-    λ t. map_there _ _ _ _ c.map_of.result (c.in_ok-text.ensures.bytes t ∙ ap (λ x. Some x) (sym c.as_slice.ensures.value)) c.map_of.ensures.map
+    λ t. map_there _ _ _ _ c.map_of.result (c.in_ok-text.ensures.bytes t ∙ ap (λ x. Some x)
+    (sym c.as_slice.ensures.value)) c.map_of.ensures.map

@@ -1,5 +1,4 @@
-use Rattle.std.proofs.Common.{ℕ, sym, ◌∙◌, ap, arith}
-use Rattle.i2c_top.specs.Numbers.{is_numeral}
+use Rattle.i2c_top.proofs.Cited.{ℕ, sym, ◌∙◌, ap, arith, is_numeral}
 use Rattle.i2c_top.proofs.NumberLemmas.{named_read, named_unread}
 use Rattle.i2c_top.proofs.number.number_named.Goals as goal
 

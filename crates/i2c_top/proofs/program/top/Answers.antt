@@ -1,6 +1,4 @@
-use Rattle.std.proofs.Common.{subst}
-use Rattle.i2c_top.specs.Traces.{outside}
-use Rattle.i2c_top.specs.forms.{HasEnded}
+use Rattle.i2c_top.proofs.Cited.{subst, outside, HasEnded}
 use Rattle.i2c_top.proofs.AtrLemmas.{ended_translated}
 use Rattle.i2c_top.proofs.CachedLemmas.{ended_cached}
 use Rattle.i2c_top.proofs.CheckLemmas.{ended_checked}
@@ -61,4 +59,5 @@ returns-clause-cleared g c =
     let old = outside g.S.Shelf g.K.Sink g.R.Rig g.R.P.Port.tells c.args.shelf.now c.args.sink.now c.args.rig.now in
     let new = outside g.S.Shelf g.K.Sink g.R.Rig g.R.P.Port.tells c.answer.new.shelf c.answer.new.sink c.answer.new.rig in
     λ shelf sink board at same ok.
-    ended_cleared board at old new c.answer.result (subst (λ q. HasEnded q old new c.answer.result) same c.answer.ensures.ended) shelf sink ok
+    ended_cleared board at old new c.answer.result (subst (λ q. HasEnded q old new c.answer.result) same c.answer.ensures.ended) shelf sink
+    ok

@@ -1,5 +1,4 @@
-use Rattle.std.proofs.Common.{◌≡◌, ◌++◌, drop, map}
-use Rattle.bus_spec.specs.Report.{sections}
+use Rattle.i2c_top.proofs.Cited.{◌≡◌, ◌++◌, drop, map, sections}
 use Rattle.i2c_top.proofs.report.push_sections.Given as goal
 
 abbrev pub invariant-loop-caller : goal.invariant-loop-caller

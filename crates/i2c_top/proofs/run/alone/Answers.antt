@@ -1,9 +1,5 @@
-use Rattle.std.proofs.lemmas.Grind.{common_steps}
-use Rattle.std.proofs.Common.{◌≡◌, ℕ, ◌<◌, [], ◌∷◌, ◌++◌, All, length, map, sym, ◌∙◌, ap, subst, arith}
-use Rattle.std.specs.Prelude.{vec_len, vec_capacity}
-use Rattle.std.proofs.lemmas.List.{length-map}
-use Rattle.std.proofs.lemmas.List.Elements.{All-push}
-use Rattle.i2c_top.specs.Faults.{AccountsForFaults}
+use Rattle.i2c_top.proofs.Cited.{common_steps, ◌≡◌, ℕ, ◌<◌, [], ◌∷◌, ◌++◌, All, length, map, sym, ◌∙◌, ap, subst, arith, vec_len}
+use Rattle.i2c_top.proofs.Cited.{vec_capacity, length-map, All-push, AccountsForFaults}
 use Rattle.i2c_top.proofs.Numbering.{map-push, over-next, room-next}
 use Rattle.i2c_top.proofs.run.alone.Goals as goal
 

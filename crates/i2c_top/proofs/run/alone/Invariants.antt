@@ -1,7 +1,4 @@
-use Rattle.std.proofs.Common.{ℕ, All, map}
-use Rattle.std.specs.Prelude.{vec_capacity}
-use Rattle.std.specs.Vec.Iter.{into_iter_items, into_iter_len}
-use Rattle.i2c_top.specs.Faults.{AccountsForFaults}
+use Rattle.i2c_top.proofs.Cited.{ℕ, All, map, vec_capacity, into_iter_items, into_iter_len, AccountsForFaults}
 use Rattle.i2c_top.proofs.Numbering.{GoesOver}
 use Rattle.i2c_top.proofs.run.alone.Given as goal
 

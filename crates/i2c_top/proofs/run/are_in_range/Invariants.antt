@@ -1,5 +1,4 @@
-use Rattle.std.proofs.Common.{All, flat_map, take}
-use Rattle.bus_journal.specs.Ranges.{IsEntry}
+use Rattle.i2c_top.proofs.Cited.{All, flat_map, take, IsEntry}
 use Rattle.i2c_top.proofs.run.are_in_range.Given as goal
 
 abbrev pub invariant-loop-journal : goal.invariant-loop-journal

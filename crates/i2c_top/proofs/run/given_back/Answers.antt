@@ -1,11 +1,7 @@
-use Rattle.std.proofs.Common.{◌≡◌, List, length, map, sym, ◌∙◌, ap, subst}
-use Rattle.std.proofs.lemmas.List.{length-map}
-use Rattle.i2c_base.specs.declared.port.PortCall.{PortCall}
-use Rattle.i2c_spec.specs.World.{World, AreWorldsOf, devices_of}
-use Rattle.i2c_top.specs.Faults.{AreCounted}
+use Rattle.i2c_top.proofs.Cited.{◌≡◌, List, length, map, sym, ◌∙◌, ap, subst, length-map, PortCall, World, AreWorldsOf, devices_of}
+use Rattle.i2c_top.proofs.Cited.{AreCounted, map_map}
 use Rattle.i2c_top.proofs.CoreLemmas.{ports-counted}
 use Rattle.i2c_top.proofs.run.given_back.Goals as goal
-use Rattle.i2c_base.proofs.ListLemmas.{map_map}
 
 pub returns-clause-given : goal.returns-clause-given
 returns-clause-given g c =

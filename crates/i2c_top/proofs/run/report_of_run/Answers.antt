@@ -1,18 +1,8 @@
-use Rattle.std.specs.Prelude.{IfOk}
-use Rattle.std.proofs.Common.{◌≡◌, ℕ, List, All, Result, length, map, flat_map, refl, sym, ◌∙◌, ap, subst}
-use Rattle.i2c_base.specs.declared.port.PortCall.{PortCall}
-use Rattle.i2c_base.specs.Limits.{MOST_CALLERS}
-use Rattle.i2c_spec.specs.World.{World}
-use Rattle.bus_spec.specs.Report.{report_lines}
-use Rattle.bus_journal.specs.Ranges.{IsEntry}
-use Rattle.bus_journal.specs.View.{JournalView}
-use Rattle.bus_groups.specs.Rounds.{one_of}
-use Rattle.bus_groups.specs.declared.together.Ran.{Ran}
-use Rattle.i2c_top.specs.Callers.{asks_in, callers_in, printed_in, HasRunBy}
-use Rattle.i2c_top.specs.Cores.{HaveJournal, IsLeftOf}
+use Rattle.i2c_top.proofs.Cited.{IfOk, ◌≡◌, ℕ, List, All, Result, length, map, flat_map, refl, sym, ◌∙◌, ap, subst, PortCall, MOST_CALLERS}
+use Rattle.i2c_top.proofs.Cited.{World, report_lines, IsEntry, JournalView, one_of, Ran, asks_in, callers_in, printed_in, HasRunBy}
+use Rattle.i2c_top.proofs.Cited.{HaveJournal, IsLeftOf, map_map}
 use Rattle.i2c_top.proofs.RunLemmas.{report-over, run-over}
 use Rattle.i2c_top.proofs.run.report_of_run.Goals as goal
-use Rattle.i2c_base.proofs.ListLemmas.{map_map}
 
 pub returns-clause-run : goal.returns-clause-run
 returns-clause-run g c =

@@ -1,11 +1,5 @@
-use Rattle.std.proofs.Common.{◌≡◌, None, length, sym, ◌∙◌, subst}
-use Rattle.std.specs.Prelude.{IfOk}
-use Rattle.i2c_base.specs.Board.{BoardView}
-use Rattle.bus_groups.specs.Rounds.{one_of}
-use Rattle.caller_core.specs.Scripts.{asked_by}
-use Rattle.i2c_top.specs.Callers.{asks_in, printed_in, scripts_in, HasRunBy}
-use Rattle.i2c_top.specs.Cores.{HaveJournal, IsLeftOf}
-use Rattle.i2c_top.specs.Runs.{script_row, texts_of, HasRun, IsOfGroups}
+use Rattle.i2c_top.proofs.Cited.{◌≡◌, None, length, sym, ◌∙◌, subst, IfOk, BoardView, one_of, asked_by, asks_in, printed_in, scripts_in}
+use Rattle.i2c_top.proofs.Cited.{HasRunBy, HaveJournal, IsLeftOf, script_row, texts_of, HasRun, IsOfGroups}
 use Rattle.i2c_top.proofs.CoreLemmas.{if-ok, of-journal}
 use Rattle.i2c_top.proofs.TextLemmas.{opened-scripts, report-of-texts, run-of-texts, section_by}
 use Rattle.i2c_top.proofs.run.run_at_once.Goals as goal
@@ -36,4 +30,5 @@ returns-clause-run g c =
     (asks_in asked_by (scripts_in script_row scripts)) (printed_in section_by (scripts_in script_row scripts)) (HaveJournal ran) text
     (g.R.Rig.logs rig) (g.R.Rig.states rig) (g.R.Rig.port_faults rig))) same
     (c.report_of_run.ensures.run tells tell scripts ports
-    (subst (λ (k : BoardView). IfOk ran (λ x. IsLeftOf g.R.P.Port script_row k scripts ports (one_of x))) (sym same) c.run_threads-ran.ensures.left)))
+    (subst (λ (k : BoardView). IfOk ran (λ x. IsLeftOf g.R.P.Port script_row k scripts ports (one_of x)))
+    (sym same) c.run_threads-ran.ensures.left)))

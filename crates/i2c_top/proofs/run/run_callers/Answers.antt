@@ -1,10 +1,5 @@
-use Rattle.std.proofs.Common.{◌≡◌, length, sym, subst}
-use Rattle.std.specs.Prelude.{IfOk}
-use Rattle.i2c_base.specs.Board.{BoardView}
-use Rattle.bus_groups.specs.Rounds.{one_of}
-use Rattle.bus_spec.specs.Schedule.{Follows}
-use Rattle.i2c_top.specs.Callers.{asks_in, printed_in, scripts_in, HasRunBy, HasRunOfAny}
-use Rattle.i2c_top.specs.Cores.{HaveJournal, IsLeftOf}
+use Rattle.i2c_top.proofs.Cited.{◌≡◌, length, sym, subst, IfOk, BoardView, one_of, Follows, asks_in, printed_in, scripts_in, HasRunBy}
+use Rattle.i2c_top.proofs.Cited.{HasRunOfAny, HaveJournal, IsLeftOf}
 use Rattle.i2c_top.proofs.CoreLemmas.{if-ok, of-journal}
 use Rattle.i2c_top.proofs.run.run_callers.Goals as goal
 
@@ -28,7 +23,8 @@ returns-clause-run g c =
     let ran = c.finished-ran.result in
     let rig = c.report_of_run.new.rig in
     let same : g.R.Rig.board_of c.plugged.new.rig ≡ c.args.board.now = c.in_ok-ports.ensures.board.1 in
-    subst (λ (b : BoardView). IfOk c.report_of_run.result (λ text. HasRunOfAny g.C.Caller.asked g.C.Printer.printed b scripts c.args.words.now text
+    subst (λ (b : BoardView). IfOk c.report_of_run.result (λ text. HasRunOfAny g.C.Caller.asked g.C.Printer.printed b scripts
+    c.args.words.now text
     (g.R.Rig.logs rig) (g.R.Rig.states rig) (g.R.Rig.port_faults rig))) same
     (if-ok (λ text. HasRunBy (g.R.Rig.board_of c.plugged.new.rig) (length scripts) (asks_in g.C.Caller.asked scripts)
     (printed_in g.C.Printer.printed scripts) (HaveJournal ran) text (g.R.Rig.logs rig) (g.R.Rig.states rig) (g.R.Rig.port_faults rig))
@@ -42,4 +38,5 @@ returns-clause-run g c =
     })
     c.report_of_run.result
     (c.report_of_run.ensures.run tells tell callers ports
-    (subst (λ (b : BoardView). IfOk ran (λ x. IsLeftOf g.R.P.Port g.C.Caller b callers ports (one_of x))) (sym same) c.finished-ran.ensures.left)))
+    (subst (λ (b : BoardView). IfOk ran (λ x. IsLeftOf g.R.P.Port g.C.Caller b callers ports (one_of x)))
+    (sym same) c.finished-ran.ensures.left)))

@@ -1,10 +1,5 @@
-use Rattle.std.proofs.Common.{◌≡◌, List, Some, sym, ◌∙◌, ap, subst}
-use Rattle.std.specs.Prelude.{IfOk}
-use Rattle.i2c_base.specs.Board.{BoardView}
-use Rattle.caller_core.specs.View.{CallerView}
-use Rattle.i2c_top.specs.Cores.{IsLeftOf}
-use Rattle.i2c_top.specs.Runs.{AreOpened, script_row, cost_of_texts, texts_of, HasRunTold}
-use Rattle.i2c_top.specs.forms.Generations.{summary_of}
+use Rattle.i2c_top.proofs.Cited.{◌≡◌, List, Some, sym, ◌∙◌, ap, subst, IfOk, BoardView, CallerView, IsLeftOf, AreOpened, script_row}
+use Rattle.i2c_top.proofs.Cited.{cost_of_texts, texts_of, HasRunTold, summary_of}
 use Rattle.i2c_top.proofs.TextLemmas.{may-run-scripts}
 use Rattle.i2c_top.proofs.run.run_generated.Goals as goal
 
@@ -28,5 +23,6 @@ returns-clause-run g c =
     (g.R.Rig.states c.summed.new.rig) (g.R.Rig.port_faults c.summed.new.rig))) same
     (c.summed.ensures.run tells tell scripts ports c.args.words.now
     (subst (λ (b : BoardView). AreOpened b scripts) (sym same) c.requires.opened)
-    (subst (λ (b : BoardView). IfOk c.followed-ran.result (IsLeftOf g.R.P.Port script_row b scripts ports)) (sym same) c.followed-ran.ensures.left)
+    (subst (λ (b : BoardView). IfOk c.followed-ran.result (IsLeftOf g.R.P.Port script_row b scripts ports))
+    (sym same) c.followed-ran.ensures.left)
     (c.followed-ran.ensures.follows tell))

@@ -1,7 +1,5 @@
-use Rattle.std.proofs.Common.{◌≡◌, List, Some, ◌∙◌, ap, arith}
-use Rattle.caller_core.specs.View.{CallerView}
-use Rattle.i2c_top.specs.Callers.{scripts_in, HasRunOfAny}
-use Rattle.i2c_top.specs.Runs.{script_row, cost_of_texts, texts_of, HasRun}
+use Rattle.i2c_top.proofs.Cited.{◌≡◌, List, Some, ◌∙◌, ap, arith, CallerView, scripts_in, HasRunOfAny, script_row, cost_of_texts, texts_of}
+use Rattle.i2c_top.proofs.Cited.{HasRun}
 use Rattle.i2c_top.proofs.CoreLemmas.{if-ok}
 use Rattle.i2c_top.proofs.TextLemmas.{opened-ready, opened-left, opened-scripts, report-of-texts, run-of-texts, section_by}
 use Rattle.i2c_top.proofs.run.run_scripts.Goals as goal

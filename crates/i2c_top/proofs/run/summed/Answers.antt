@@ -1,15 +1,5 @@
-use Rattle.std.specs.Prelude.{IfOk}
-use Rattle.std.proofs.Common.{List, Result, map, ◌∙◌, subst}
-use Rattle.i2c_base.specs.declared.port.PortCall.{PortCall}
-use Rattle.i2c_base.specs.Limits.{MOST_CALLERS}
-use Rattle.i2c_spec.specs.World.{World}
-use Rattle.bus_core.specs.declared.bus.ClosedCore.{ClosedCore}
-use Rattle.bus_spec.specs.Schedule.{Follows}
-use Rattle.caller_core.specs.View.{CallerView}
-use Rattle.caller_core.proofs.FairLemmas.{scripts_fair}
-use Rattle.i2c_top.specs.Callers.{callers_in, scripts_in}
-use Rattle.i2c_top.specs.Cores.{IsLeftOf}
-use Rattle.i2c_top.specs.Runs.{script_row, texts_of}
+use Rattle.i2c_top.proofs.Cited.{IfOk, List, Result, map, ◌∙◌, subst, PortCall, MOST_CALLERS, World, ClosedCore, Follows, CallerView}
+use Rattle.i2c_top.proofs.Cited.{scripts_fair, callers_in, scripts_in, IsLeftOf, script_row, texts_of}
 use Rattle.i2c_top.proofs.RunLemmas.{run-over}
 use Rattle.i2c_top.proofs.TextLemmas.{opened-scripts, run-of-texts}
 use Rattle.i2c_top.proofs.run.summed.Goals as goal

@@ -1,5 +1,4 @@
-use Rattle.std.proofs.Common.{rules, ◌≡◌, ap, ◌∷◌, [], length, arith}
-use Rattle.std.proofs.lemmas.List.{length-append}
+use Rattle.i2c_top.proofs.Cited.{rules, ◌≡◌, ap, ◌∷◌, [], length, arith, length-append}
 use Rattle.i2c_top.proofs.ScheduleLemmas.{below_more, callers_more}
 use Rattle.i2c_top.proofs.schedule.read_schedule.Goals as goal
 

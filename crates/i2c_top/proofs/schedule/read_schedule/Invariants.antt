@@ -1,7 +1,7 @@
-use Rattle.std.proofs.Common.{◌≡◌, ◌<◌, ◌≤◌, true, length}
+use Rattle.i2c_top.proofs.Cited.{◌≡◌, ◌<◌, ◌≤◌, true, length, behind_callers, callers_from, schedule_read}
 use Rattle.std.specs.Prelude.{All}
 use Rattle.tools.specs.Words.{begins_with_word}
-use Rattle.i2c_top.specs.Schedules.{is_white, entries_of, behind_callers, callers_from, schedule_read, MOST_ENTRIES}
+use Rattle.i2c_top.specs.Schedules.{is_white, entries_of, MOST_ENTRIES}
 use Rattle.i2c_top.proofs.schedule.read_schedule.Given as goal
 
 abbrev pub decreases-loop-rest : goal.decreases-loop-rest

@@ -1,7 +1,5 @@
-use Rattle.std.proofs.Common.{◌∙◌, sym, ap}
-use Rattle.std.specs.List.{list_all}
+use Rattle.i2c_top.proofs.Cited.{◌∙◌, sym, ap, list_all, string_bytes}
 use Rattle.std.proofs.lemmas.List.Folds.{list_all-map}
-use Rattle.std.specs.Prelude.{string_bytes}
 use Rattle.i2c_top.specs.Names.{is_name}
 use Rattle.i2c_top.proofs.words.are_names.Goals as goal
 

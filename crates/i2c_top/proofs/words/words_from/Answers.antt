@@ -1,6 +1,5 @@
-use Rattle.std.proofs.Common.{◌∙◌, ap, sym, map, arith}
-use Rattle.std.proofs.lemmas.List.{take_all, drop-map, length-drop}
-use Rattle.std.specs.Prelude.{string_bytes}
+use Rattle.i2c_top.proofs.Cited.{◌∙◌, ap, sym, map, arith, take_all, length-drop, string_bytes}
+use Rattle.std.proofs.lemmas.List.{drop-map}
 use Rattle.i2c_top.proofs.words.words_from.Goals as goal
 
 pub returns : goal.returns

@@ -1,5 +1,4 @@
-use Rattle.std.proofs.Common.{arith, ap, length}
-use Rattle.std.proofs.lemmas.List.{length-drop}
+use Rattle.i2c_top.proofs.Cited.{arith, ap, length, length-drop}
 use Rattle.i2c_top.proofs.Pieces.{pieces_more}
 use Rattle.i2c_top.proofs.write.write_all.Goals as goal
 

@@ -1,4 +1,4 @@
-use Rattle.std.proofs.Common.{◌≡◌, ◌++◌, ◌≤◌, ◌-◌, take, length, IsTrue}
+use Rattle.i2c_top.proofs.Cited.{◌≡◌, ◌++◌, ◌≤◌, ◌-◌, take, length, IsTrue}
 use Rattle.i2c_top.proofs.write.write_all.Given as goal
 
 abbrev pub decreases-loop-done : goal.decreases-loop-done

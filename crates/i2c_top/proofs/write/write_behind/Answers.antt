@@ -1,4 +1,4 @@
-use Rattle.std.proofs.Common.{refl}
+use Rattle.i2c_top.proofs.Cited.{refl}
 use Rattle.i2c_top.proofs.Pieces.{front_behind}
 use Rattle.i2c_top.proofs.write.write_behind.Goals as goal
 

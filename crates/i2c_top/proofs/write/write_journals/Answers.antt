@@ -1,7 +1,5 @@
-use Rattle.std.proofs.Common.{◌≡◌, ℕ, ◌+◌, ◌++◌, List, take, drop, get_or, flat_map, sym, ◌∙◌, ap, subst, arith, append_assoc}
-use Rattle.bus_spec.specs.Report.{ended_line}
-use Rattle.bus_journal.specs.View.{JournalView}
-use Rattle.i2c_top.specs.Written.{HasFront, lines_of}
+use Rattle.i2c_top.proofs.Cited.{◌≡◌, ℕ, ◌+◌, ◌++◌, List, take, drop, get_or, flat_map, sym, ◌∙◌, ap, subst, arith, append_assoc}
+use Rattle.i2c_top.proofs.Cited.{ended_line, JournalView, HasFront, lines_of}
 use Rattle.i2c_top.proofs.Pieces.{lines_more, lines_split, front_within}
 use Rattle.i2c_top.proofs.write.write_journals.Goals as goal
 

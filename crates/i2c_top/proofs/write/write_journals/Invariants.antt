@@ -1,5 +1,4 @@
-use Rattle.std.proofs.Common.{◌≡◌, ◌≤◌, ◌++◌, take, IsTrue}
-use Rattle.i2c_top.specs.Written.{lines_of}
+use Rattle.i2c_top.proofs.Cited.{◌≡◌, ◌≤◌, ◌++◌, take, IsTrue, lines_of}
 use Rattle.i2c_top.proofs.write.write_journals.Given as goal
 
 abbrev pub invariant-loop-journal : goal.invariant-loop-journal

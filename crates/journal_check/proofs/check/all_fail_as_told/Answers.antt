@@ -1,7 +1,5 @@
-use Rattle.std.proofs.Common.{All, subst, arith}
-use Rattle.std.proofs.lemmas.List.{take_all}
+use Rattle.journal_check.proofs.Cited.{All, subst, arith, take_all, FailedBy}
 use Rattle.std.proofs.lemmas.List.Elements.{All-more}
-use Rattle.check_laws.specs.Failed.{FailedBy}
 use Rattle.journal_check.proofs.check.all_fail_as_told.Goals as goal
 
 pub loop-port-preserved : goal.loop-port-preserved

@@ -1,9 +1,5 @@
-use Rattle.std.proofs.Common.{ℕ, All, List, ◌<◌, ◌≤◌, length, sym, subst, arith}
-use Rattle.i2c_base.specs.Limits.{MOST_CALLERS}
-use Rattle.bus_core.specs.Opening.{HasRoot}
-use Rattle.bus_journal.specs.Told.{entries_of}
-use Rattle.check_laws.specs.Failed.{FailedBy}
-use Rattle.journal_check.specs.Steps.{asks_on}
+use Rattle.journal_check.proofs.Cited.{ℕ, All, List, ◌<◌, ◌≤◌, length, sym, subst, arith, MOST_CALLERS, HasRoot, entries_of, FailedBy}
+use Rattle.journal_check.proofs.Cited.{asks_on}
 use Rattle.journal_check.proofs.CheckLemmas.{wrong-at, before-fits}
 use Rattle.journal_check.proofs.check.follow_journal.Goals as goal
 
@@ -20,9 +16,11 @@ returns-clause-wrong g c =
     let o = c.args.core.opening in
     let es = entries_of c.args.lines.now in
     wrong-at g.C.Caller.asked c.args.core.opening c.follow_told.new.core (entries_of c.args.lines.now) g.P.FailsAsTold.gaps c.requires.named
-    (λ past gaps steps each. c.the_roots_tell_each_call.ensures.fails c.args.core.opening.board MOST_CALLERS (asks_on g.C.Caller.asked c.args.core.opening)
+    (λ past gaps steps each. c.the_roots_tell_each_call.ensures.fails c.args.core.opening.board MOST_CALLERS
+    (asks_on g.C.Caller.asked c.args.core.opening)
     past gaps c.requires.plain c.requires.rules c.requires.some steps each)
-    (λ past r steps. c.the_roots_tell_each_call.ensures.root c.args.core.opening.board MOST_CALLERS (asks_on g.C.Caller.asked c.args.core.opening)
+    (λ past r steps. c.the_roots_tell_each_call.ensures.root c.args.core.opening.board MOST_CALLERS
+    (asks_on g.C.Caller.asked c.args.core.opening)
     past r c.requires.plain c.requires.rules c.requires.some steps)
     c.args.count c.requires.numbered c.requires.silent
     (λ r low. subst (λ (rs : List ℕ). HasRoot rs r) (sym c.follow_told.ensures.roots) (c.requires.wired r low))
@@ -31,8 +29,10 @@ returns-clause-wrong g c =
     c.as_slice.ensures.value c.all_fail_as_told.ensures)
     c.args.lines.now c.requires.lines c.follow_told.ensures.opening c.in-Some.place c.in-Some.ensures.differs
     (λ front next rest steps none cant. c.where_a_step_differs_a_journal_is_wrong.ensures.wrong c.args.core.opening.board MOST_CALLERS
-    (asks_on g.C.Caller.asked c.args.core.opening) front next rest c.requires.plain c.requires.rules c.requires.some c.requires.limits steps none cant)
+    (asks_on g.C.Caller.asked c.args.core.opening) front next rest c.requires.plain c.requires.rules c.requires.some c.requires.limits steps
+    none cant)
     (λ i first. c.where_a_step_differs_a_journal_is_wrong.ensures.fewer c.args.core.opening.board MOST_CALLERS c.args.count
-    (asks_on g.C.Caller.asked c.args.core.opening) (entries_of c.args.lines.now) i c.requires.plain c.requires.rules c.requires.some c.requires.limits
+    (asks_on g.C.Caller.asked c.args.core.opening) (entries_of c.args.lines.now) i c.requires.plain c.requires.rules c.requires.some
+    c.requires.limits
     c.requires.few c.requires.silent first)
     c.behind.result.now c.behind.ensures c.first_step.result c.first_step.ensures.step

@@ -1,14 +1,9 @@
-use Rattle.std.proofs.Common.{◌≡◌, ℕ, ◌<◌, ◌≤◌, List, true, None, length, reverse, sym, ap, subst, arith}
-use Rattle.std.specs.List.{flat_map}
-use Rattle.bus_spec.specs.Report.{ended_line}
-use Rattle.i2c_base.specs.declared.reply.Reply.{Reply}
+use Rattle.journal_check.proofs.Cited.{◌≡◌, ℕ, ◌<◌, ◌≤◌, List, true, None, length, reverse, sym, ap, subst, arith, flat_map, ended_line}
+use Rattle.journal_check.proofs.Cited.{Reply, IsLegal, IsComplete, entries_of, CoreState, has_caller, asks_on}
 use Rattle.bus_laws.specs.Reach.{AsksForMessages, AsksWithinLimits}
-use Rattle.bus_spec.specs.Legal.{IsLegal, IsComplete}
-use Rattle.bus_journal.specs.Told.{entries_of}
-use Rattle.bus_core.specs.State.{AllThrough, CoreState, has_caller}
+use Rattle.bus_core.specs.State.{AllThrough}
 use Rattle.journal_check.specs.Checks.{HasPassed}
 use Rattle.journal_check.specs.Faults.{AtEntry, AtCaller}
-use Rattle.journal_check.specs.Steps.{asks_on}
 use Rattle.journal_check.proofs.LineLemmas.{fewer-entries}
 use Rattle.journal_check.proofs.OverLemmas.{on-opening, from-there, first-left}
 use Rattle.journal_check.proofs.entries.check_entries.Goals as goal
@@ -41,13 +36,15 @@ returns-in-Some-clause-wrong g c =
     AtCaller c.in-Some.caller
     (from-there g.C.Caller.asked c.args.core.opening (entries_of c.args.lines.now) c.in-Ok.core c.in-Ok.ensures.ok
     (λ x xs. IsLegal x.board c.args.count (asks_on g.C.Caller.asked x) (reverse xs)) c.first_open.ensures.legal)
-    (first-left g.C.Caller.asked c.args.core.opening (entries_of c.args.lines.now) c.in-Ok.core c.in-Ok.ensures.ok c.args.count c.in-Some.caller
+    (first-left g.C.Caller.asked c.args.core.opening (entries_of c.args.lines.now) c.in-Ok.core c.in-Ok.ensures.ok c.args.count
+    c.in-Some.caller
     c.in-Some.ensures.some)
 
 pub returns-clause-ok : goal.returns-clause-ok
 returns-clause-ok g c =
     let none = c.first_open.ensures.none c.in-None.is in
-    subst (λ (v : CoreState g.row.C-Script.Denot). HasPassed g.C.Caller.asked g.P.Port.tells c.args.core.opening c.args.count (entries_of c.args.lines.now) v)
+    subst (λ (v : CoreState g.row.C-Script.Denot). HasPassed g.C.Caller.asked g.P.Port.tells c.args.core.opening c.args.count
+    (entries_of c.args.lines.now) v)
     (sym none.0)
     (record {
       followed = c.in-Ok.ensures.ok;

@@ -1,8 +1,5 @@
-use Rattle.std.proofs.Common.{◌≡◌, ℕ, ◌+◌, ◌-◌, List, true, false, length, sym, ◌∙◌, ap, subst}
-use Rattle.std.specs.Prelude.{codes}
-use Rattle.std.specs.Str.{bytes_eq}
-use Rattle.std.proofs.lemmas.Slice.Eq.{bytes_eq-Decides}
-use Rattle.journal_check.specs.Forms.{Sections, Over}
+use Rattle.journal_check.proofs.Cited.{◌≡◌, ℕ, ◌+◌, ◌-◌, List, true, false, length, sym, ◌∙◌, ap, subst, codes, bytes_eq, bytes_eq-Decides}
+use Rattle.journal_check.proofs.Cited.{Sections, Over}
 use Rattle.journal_check.proofs.FormLemmas.{IsReading, no-line, reads-other, heading-at}
 use Rattle.journal_check.proofs.form.behind_heading.Goals as goal
 
@@ -13,7 +10,8 @@ returns-then-is_line-clause-ok c =
     let found = c.in-Some.ensures.some in
     heading-at c.args.text.now c.loop-line.rest.now c.in-Some.line.now c.loop-line.number c.loop-line.invariant found.0 found.1 test
     ((bytes_eq-Decides c.in-Some.line.now (codes "journal")).0 test)
-    (length c.args.text.now - length c.behind-rest.result.now) (ap (λ (xs : List ℕ). length c.args.text.now - length xs) c.behind-rest.ensures)
+    (length c.args.text.now - length c.behind-rest.result.now) (ap
+    (λ (xs : List ℕ). length c.args.text.now - length xs) c.behind-rest.ensures)
 
 pub loop-line-preserved : goal.loop-line-preserved
 loop-line-preserved c =
@@ -25,4 +23,5 @@ loop-line-preserved c =
 
 pub returns-clause-wrong : goal.returns-clause-wrong
 returns-clause-wrong c = c.loop-line.invariant.goes c.loop-line.number
-    (no-line Sections c.loop-line.number c.loop-line.rest.now (λ e. (let f : Sections ≡ Over = e in cc)) (c.ended_line.ensures.none c.in_default.is))
+    (no-line Sections c.loop-line.number c.loop-line.rest.now (λ e. (let f : Sections ≡ Over = e in cc))
+    (c.ended_line.ensures.none c.in_default.is))

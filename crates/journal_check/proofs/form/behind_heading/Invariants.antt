@@ -1,4 +1,4 @@
-use Rattle.std.proofs.Common.{length}
+use Rattle.journal_check.proofs.Cited.{length}
 use Rattle.journal_check.proofs.FormLemmas.{IsReading}
 use Rattle.journal_check.proofs.form.behind_heading.Given as goal
 

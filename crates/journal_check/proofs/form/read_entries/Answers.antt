@@ -1,8 +1,5 @@
-use Rattle.std.proofs.Common.{◌≡◌, ℕ, ◌+◌, ◌-◌, List, true, false, length, refl, sym, ◌∙◌, ap, subst, inl, inr}
-use Rattle.std.specs.Prelude.{codes, ◌==◌}
-use Rattle.std.specs.Str.{bytes_eq}
-use Rattle.std.proofs.lemmas.Slice.Eq.{bytes_eq-Decides}
-use Rattle.journal_check.specs.Forms.{Entries, Over}
+use Rattle.journal_check.proofs.Cited.{◌≡◌, ℕ, ◌+◌, ◌-◌, List, true, false, length, refl, sym, ◌∙◌, ap, subst, inl, inr, codes, ◌==◌}
+use Rattle.journal_check.proofs.Cited.{bytes_eq, bytes_eq-Decides, Entries, Over}
 use Rattle.journal_check.proofs.FormLemmas.{IsTelling, no-line, not-an-entry, behind-end, tells-more, end-at}
 use Rattle.journal_check.proofs.form.read_entries.Goals as goal
 
@@ -33,7 +30,8 @@ loop-line-preserved c =
     let found = c.in-Some.ensures.some in (
       subst (λ (xs : List ℕ). IsTelling c.args.board.now c.args.text.now xs c.args.first (c.loop-line.number + 1) c.add_line.new.gaps)
           (sym c.behind-next.ensures)
-          (tells-more c.args.board.now c.args.text.now c.loop-line.rest.now c.in-Some.line.now c.args.first c.loop-line.number c.loop-line.gaps
+          (tells-more c.args.board.now c.args.text.now c.loop-line.rest.now c.in-Some.line.now c.args.first c.loop-line.number
+          c.loop-line.gaps
           c.loop-line.invariant.0 found.0 found.1 c.add_line.new.gaps test c.in-Ok-add_line.ensures.ok),
       c.add_line.ensures.count ∙ c.loop-line.invariant.1,
     )
@@ -43,7 +41,8 @@ returns-clause-wrong c = inr (
   c.loop-line.number,
   refl,
   c.loop-line.invariant.0.goes c.loop-line.number
-      (no-line Entries c.loop-line.number c.loop-line.rest.now (λ e. (let f : Entries ≡ Over = e in cc)) (c.ended_line.ensures.none c.in_default-ended_line.is)),
+      (no-line Entries c.loop-line.number c.loop-line.rest.now (λ e. (let f : Entries ≡ Over = e in cc))
+      (c.ended_line.ensures.none c.in_default-ended_line.is)),
 )
 
 pub returns-in-Err-clause-wrong : goal.returns-in-Err-clause-wrong
@@ -55,7 +54,8 @@ returns-in-Err-clause-wrong c =
       | inr line ↦ inr (
         c.loop-line.number,
         line.0,
-        not-an-entry c.args.board.now c.args.text.now c.loop-line.rest.now c.in-Some.line.now c.args.first c.loop-line.number c.loop-line.gaps
+        not-an-entry c.args.board.now c.args.text.now c.loop-line.rest.now c.in-Some.line.now c.args.first c.loop-line.number
+            c.loop-line.gaps
             c.loop-line.invariant.0 found.0 found.1 test line.1,
       )
     ]

@@ -1,4 +1,4 @@
-use Rattle.std.proofs.Common.{◌≡◌, length}
+use Rattle.journal_check.proofs.Cited.{◌≡◌, length}
 use Rattle.journal_check.proofs.FormLemmas.{IsTelling}
 use Rattle.journal_check.proofs.form.read_entries.Given as goal
 

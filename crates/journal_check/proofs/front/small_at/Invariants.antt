@@ -1,4 +1,4 @@
-use Rattle.std.proofs.Common.{◌≡◌, ◌<◌, length}
+use Rattle.journal_check.proofs.Cited.{◌≡◌, ◌<◌, length}
 use Rattle.bus_journal.specs.Guess.{number_from}
 use Rattle.journal_check.proofs.front.small_at.Given as goal
 

@@ -1,7 +1,6 @@
-use Rattle.std.proofs.Common.{◌≡◌, ℕ, Option, Some, None, get_or, refl, sym, ◌∙◌, ap, arith}
+use Rattle.journal_check.proofs.Cited.{◌≡◌, ℕ, Option, Some, None, get_or, refl, sym, ◌∙◌, ap, arith, root_told}
 use Rattle.std.proofs.lemmas.Option.{slice_get-get_or}
 use Rattle.bus_journal.specs.Borrowed.{entry_seen}
-use Rattle.journal_check.specs.Gaps.{root_told}
 use Rattle.journal_check.proofs.GapLemmas.{entry-added, entry-beyond, entry-nowhere}
 use Rattle.journal_check.proofs.gaps.add_entry.Goals as goal
 
@@ -22,8 +21,10 @@ returns-else-place-roots-clause-more c = λ es told.
 
 pub returns-in_default-clause-more : goal.returns-in_default-clause-more
 returns-in_default-clause-more c = λ es told.
-    entry-nowhere c.args.board.now es (entry_seen c.args.entry.now) c.args.roots.now told (none (root_told c.args.board.now (entry_seen c.args.entry.now)) refl)
+    entry-nowhere c.args.board.now es (entry_seen c.args.entry.now) c.args.roots.now told (none
+    (root_told c.args.board.now (entry_seen c.args.entry.now)) refl)
   where
-    none : (o : Option ℕ) → root_told c.args.board.now (entry_seen c.args.entry.now) ≡ o → root_told c.args.board.now (entry_seen c.args.entry.now) ≡ None
+    none : (o : Option ℕ) → root_told c.args.board.now (entry_seen c.args.entry.now) ≡ o → root_told c.args.board.now
+        (entry_seen c.args.entry.now) ≡ None
     none None is = is
     none (Some k) is = absurd (c.in_default.not-Some k (c.root_told.ensures ∙ is))

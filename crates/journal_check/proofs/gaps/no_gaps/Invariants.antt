@@ -1,6 +1,4 @@
-use Rattle.std.proofs.Common.{◌≡◌, [], length}
-use Rattle.i2c_base.specs.Board.{BoardView}
-use Rattle.journal_check.specs.Gaps.{AreGapsOf}
+use Rattle.journal_check.proofs.Cited.{◌≡◌, [], length, BoardView, AreGapsOf}
 use Rattle.journal_check.proofs.gaps.no_gaps.Given as goal
 
 abbrev pub invariant-loop : goal.invariant-loop

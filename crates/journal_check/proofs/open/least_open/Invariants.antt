@@ -1,5 +1,4 @@
-use Rattle.std.proofs.Common.{◌≡◌, ℕ, ◌<◌}
-use Rattle.bus_core.specs.Answers.{IsOverIn}
+use Rattle.journal_check.proofs.Cited.{◌≡◌, ℕ, ◌<◌, IsOverIn}
 use Rattle.journal_check.proofs.open.least_open.Given as goal
 
 abbrev pub invariant-loop-caller : goal.invariant-loop-caller

@@ -1,4 +1,4 @@
-use Rattle.std.proofs.Common.{length}
+use Rattle.journal_check.proofs.Cited.{length}
 use Rattle.journal_check.proofs.SectionLemmas.{IsBeside}
 use Rattle.journal_check.proofs.sections.goes_on.Given as goal
 

@@ -1,4 +1,4 @@
-use Rattle.std.proofs.Common.{sym, ◌∙◌}
+use Rattle.journal_check.proofs.Cited.{sym, ◌∙◌}
 use Rattle.journal_check.proofs.SectionLemmas.{too-many}
 use Rattle.journal_check.proofs.sections.line_too_many.Goals as goal
 

@@ -1,5 +1,4 @@
-use Rattle.std.proofs.Common.{ℕ, ◌+◌, List, [], ◌∷◌, subst}
-use Rattle.journal_check.specs.Texts.{GoesOn, GoesOtherwise}
+use Rattle.journal_check.proofs.Cited.{ℕ, ◌+◌, List, [], ◌∷◌, subst, GoesOn, GoesOtherwise}
 use Rattle.journal_check.proofs.SectionLemmas.{err-under, goes-on-then, heading-is, ok-under, otherwise-first, otherwise-then}
 use Rattle.journal_check.proofs.sections.section_goes_on.Goals as goal
 
@@ -13,7 +12,8 @@ returns-in-Ok-clause-ok c =
     let n : ℕ = c.args.left.number in
     ok-under c.goes_on-in-Ok.result _ _
     (λ left on. subst (λ (due : List ℕ). GoesOn due old n left.rest.now left.number) (heading-is c.args.caller text c.requires.digit)
-    (goes-on-then (heading c.args.caller) text old n c.in-Ok.under.rest.now c.in-Ok.under.number left.rest.now left.number c.in-Ok.ensures.ok on))
+    (goes-on-then (heading c.args.caller) text old n c.in-Ok.under.rest.now c.in-Ok.under.number left.rest.now left.number
+    c.in-Ok.ensures.ok on))
     c.goes_on-in-Ok.ensures.ok
 
 pub returns-in-Ok-clause-other : goal.returns-in-Ok-clause-other

@@ -1,6 +1,4 @@
-use Rattle.std.proofs.Common.{◌≡◌}
-use Rattle.bus_core.specs.State.{roots_in}
-use Rattle.bus_journal.specs.Told.{entries_of}
+use Rattle.journal_check.proofs.Cited.{◌≡◌, roots_in, entries_of}
 use Rattle.journal_check.proofs.StepLemmas.{IsFollowing}
 use Rattle.journal_check.proofs.steps.follow_told.Given as goal
 

@@ -1,13 +1,7 @@
-use Rattle.std.proofs.Common.{◌≡◌, ℕ, ◌++◌, List, All, length, drop, refl, sym, ◌∙◌, ap, subst, inl, inr}
-use Rattle.std.specs.List.{flat_map}
+use Rattle.journal_check.proofs.Cited.{◌≡◌, ℕ, ◌++◌, List, All, length, drop, refl, sym, ◌∙◌, ap, subst, inl, inr, flat_map, front_rest}
+use Rattle.journal_check.proofs.Cited.{Entry, IsStuckIn, ended_line, IsEntry, JournalView}
 use Rattle.std.proofs.lemmas.List.Elements.{All-drop}
-use Rattle.std.proofs.lemmas.List.Prefix.{front_rest}
-use Rattle.i2c_base.specs.declared.entry.Entry.{Entry}
-use Rattle.bus_core.specs.Answers.{IsStuckIn}
 use Rattle.bus_core.proofs.Advances.{waits-by}
-use Rattle.bus_spec.specs.Report.{ended_line}
-use Rattle.bus_journal.specs.Ranges.{IsEntry}
-use Rattle.bus_journal.specs.View.{JournalView}
 use Rattle.journal_check.proofs.OverLemmas.{over-stuck}
 use Rattle.journal_check.proofs.StepLemmas.{lines-behind}
 use Rattle.journal_check.proofs.steps.step_told.Goals as goal
@@ -18,7 +12,8 @@ returns-then-begins_with-clause-some g c =
     let made = added.turn c.requires.tells in
     let old : List Entry = c.args.core.now.journal.entries in
     let lines : c.behind-made.result.now ≡ flat_map ended_line made.turn.entries =
-    lines-behind c.args.core.now.journal.entries made.turn.entries c.step.new.self.journal.entries c.text.result.now c.behind-made.result.now
+    lines-behind c.args.core.now.journal.entries made.turn.entries c.step.new.self.journal.entries c.text.result.now
+    c.behind-made.result.now
     (length c.text-at.result.now) made.entries
     (c.text.ensures ∙ ap (λ (j : JournalView). flat_map ended_line j.entries) c.journal-in-Stepped-2.ensures)
     (ap (λ (xs : List ℕ). length xs) (c.text-at.ensures ∙ ap (λ (j : JournalView). flat_map ended_line j.entries) c.journal.ensures))
@@ -27,9 +22,11 @@ returns-then-begins_with-clause-some g c =
       room = added.room;
       made = made;
       in_range = subst (λ (xs : List Entry). All IsEntry xs)
-          (ap (drop (length c.args.core.now.journal.entries)) (ap (λ (j : JournalView). j.entries) c.journal-in-Stepped.ensures ∙ made.entries)
+          (ap (drop (length c.args.core.now.journal.entries)) (ap (λ (j : JournalView). j.entries) c.journal-in-Stepped.ensures
+          ∙ made.entries)
           ∙ front_rest (c.args.core.now.journal.entries ++ made.turn.entries) c.args.core.now.journal.entries made.turn.entries refl)
-          (All-drop IsEntry (length c.args.core.now.journal.entries) c.journal-in-Stepped.result.now.entries c.entries_are_in_range.ensures);
+          (All-drop IsEntry (length c.args.core.now.journal.entries) c.journal-in-Stepped.result.now.entries
+          c.entries_are_in_range.ensures);
       stands = c.begins_with.ensures.yes c.if-begins_with.true
           ∙ ap (λ (xs : List ℕ). xs ++ drop (length c.behind-made.result.now) c.args.text.now) lines;
     }
@@ -39,7 +36,8 @@ returns-else-begins_with-clause-none g c is =
     let added = c.step.ensures.stepped c.in-Stepped.is in
     let made = added.turn c.requires.tells in
     let lines : c.behind-made.result.now ≡ flat_map ended_line made.turn.entries =
-    lines-behind c.args.core.now.journal.entries made.turn.entries c.step.new.self.journal.entries c.text.result.now c.behind-made.result.now
+    lines-behind c.args.core.now.journal.entries made.turn.entries c.step.new.self.journal.entries c.text.result.now
+    c.behind-made.result.now
     (length c.text-at.result.now) made.entries
     (c.text.ensures ∙ ap (λ (j : JournalView). flat_map ended_line j.entries) c.journal-in-Stepped-2.ensures)
     (ap (λ (xs : List ℕ). length xs) (c.text-at.ensures ∙ ap (λ (j : JournalView). flat_map ended_line j.entries) c.journal.ensures))

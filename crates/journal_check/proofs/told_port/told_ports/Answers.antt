@@ -1,6 +1,4 @@
-use Rattle.std.proofs.Common.{◌≡◌, ◌++◌, [], ◌∷◌, length, sym, ◌∙◌, ap}
-use Rattle.i2c_physics.specs.SimPorts.{PortView}
-use Rattle.bus_journal.specs.Told.{entries_of}
+use Rattle.journal_check.proofs.Cited.{◌≡◌, ◌++◌, [], ◌∷◌, length, sym, ◌∙◌, ap, PortView, entries_of}
 use Rattle.journal_check.proofs.PortLemmas.{gaps-here, opened-all, opened-count, opened-here, opened-next}
 use Rattle.journal_check.proofs.told_port.told_ports.Goals as goal
 

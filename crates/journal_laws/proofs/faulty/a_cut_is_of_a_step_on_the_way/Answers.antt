@@ -1,4 +1,4 @@
-use Rattle.journal_laws.specs.Faulty.{KeepsCuts}
+use Rattle.journal_laws.proofs.Cited.{KeepsCuts}
 use Rattle.journal_laws.proofs.past.Cuts.{cuts-kept}
 use Rattle.journal_laws.proofs.past.LegalSteps.{kept-by-both}
 use Rattle.journal_laws.proofs.faulty.a_cut_is_of_a_step_on_the_way.Goals as goal

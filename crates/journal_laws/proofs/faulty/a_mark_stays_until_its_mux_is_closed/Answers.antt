@@ -1,5 +1,5 @@
+use Rattle.journal_laws.proofs.Cited.{lines-locked}
 use Rattle.std.specs.Prelude.{◌∷◌, ◌++◌}
-use Rattle.bus_laws.proofs.world.LineFacts.{lines-locked}
 use Rattle.bus_laws.proofs.past.Marks.{mark-keeps-none}
 use Rattle.journal_laws.proofs.past.Marked.{mark-stays, passes-until}
 use Rattle.journal_laws.proofs.past.Kept.{shut-keeps-none}

@@ -1,7 +1,5 @@
+use Rattle.journal_laws.proofs.Cited.{calls_of, faults_in, failed_on}
 use Rattle.std.specs.Prelude.{◌≡◌, ℕ}
-use Rattle.bus_spec.specs.Past.{calls_of}
-use Rattle.bus_spec.specs.Faults.{faults_in}
-use Rattle.journal_laws.specs.Counts.{failed_on}
 use Rattle.journal_laws.proofs.past.Counts.{counts-kept}
 use Rattle.journal_laws.proofs.past.LegalSteps.{kept-by-both}
 use Rattle.journal_laws.proofs.faulty.each_fault_is_a_failed_entry.Goals as goal

@@ -1,6 +1,5 @@
+use Rattle.journal_laws.proofs.Cited.{lines-locked, failures, remotes}
 use Rattle.std.specs.Prelude.{◌≤◌}
-use Rattle.bus_laws.proofs.world.LineFacts.{lines-locked}
-use Rattle.journal_laws.specs.Counts.{failures, remotes}
 use Rattle.journal_laws.proofs.past.Remotes.{remotes-counted, remotes-faults}
 use Rattle.journal_laws.proofs.past.LegalSteps.{kept-by-both}
 use Rattle.journal_laws.proofs.faulty.one_failure_fails_one_reply_at_most.Goals as goal

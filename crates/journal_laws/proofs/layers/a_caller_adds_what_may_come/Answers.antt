@@ -1,4 +1,4 @@
-use Rattle.bus_laws.proofs.world.LineFacts.{lines-locked}
+use Rattle.journal_laws.proofs.Cited.{lines-locked}
 use Rattle.journal_laws.proofs.past.Play.{play-may, play-fails, may-plays}
 use Rattle.journal_laws.proofs.layers.a_caller_adds_what_may_come.Goals as goal
 

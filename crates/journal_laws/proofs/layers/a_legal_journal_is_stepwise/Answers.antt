@@ -1,4 +1,4 @@
-use Rattle.bus_laws.proofs.world.LineFacts.{lines-locked}
+use Rattle.journal_laws.proofs.Cited.{lines-locked}
 use Rattle.journal_laws.proofs.past.LegalSteps.{legal-steps, legal-due}
 use Rattle.journal_laws.proofs.layers.a_legal_journal_is_stepwise.Goals as goal
 

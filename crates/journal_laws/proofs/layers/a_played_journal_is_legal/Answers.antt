@@ -1,8 +1,5 @@
-use Rattle.bus_laws.proofs.world.LineFacts.{lines-locked}
-use Rattle.flat_laws.proofs.device.Law.{replies-kept}
-use Rattle.flat_laws.proofs.past.Legal.{legal-with}
+use Rattle.journal_laws.proofs.Cited.{lines-locked, replies-kept, legal-with, played}
 use Rattle.journal_laws.proofs.past.Play.{played-steps}
-use Rattle.bus_spec.specs.Play.{played}
 use Rattle.std.specs.Prelude.{reverse}
 use Rattle.journal_laws.proofs.layers.a_played_journal_is_legal.Goals as goal
 

@@ -1,4 +1,4 @@
-use Rattle.bus_laws.proofs.world.LineFacts.{lines-locked}
+use Rattle.journal_laws.proofs.Cited.{lines-locked}
 use Rattle.journal_laws.proofs.past.LegalSteps.{front-legal}
 use Rattle.journal_laws.proofs.layers.each_prefix_of_a_legal_journal_is_legal.Goals as goal
 

@@ -1,5 +1,5 @@
-use Rattle.bus_laws.proofs.world.LineFacts.{lines-locked}
-use Rattle.flat_laws.proofs.past.Through.{complete-through, through-complete}
+use Rattle.journal_laws.proofs.Cited.{lines-locked, complete-through}
+use Rattle.flat_laws.proofs.past.Through.{through-complete}
 use Rattle.journal_laws.proofs.past.Complete.{complete-legal, complete-ruled}
 use Rattle.journal_laws.proofs.paths.a_journal_is_complete_by_its_entries_alone.Goals as goal
 

@@ -1,5 +1,6 @@
+use Rattle.journal_laws.proofs.Cited.{transfers-walks, walks-led}
 use Rattle.journal_laws.proofs.paths.a_journal_keeps_the_walk_rule.Goals as goal
-use Rattle.flat_laws.proofs.walk.Rule.{walks-transfers, transfers-walks, walks-led, led-walks}
+use Rattle.flat_laws.proofs.walk.Rule.{walks-transfers, led-walks}
 
 pub returns : goal.returns
 returns c =

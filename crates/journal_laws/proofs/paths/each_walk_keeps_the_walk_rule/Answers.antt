@@ -1,5 +1,6 @@
+use Rattle.journal_laws.proofs.Cited.{path-walk, walk-path, front-path}
 use Rattle.journal_laws.proofs.paths.each_walk_keeps_the_walk_rule.Goals as goal
-use Rattle.flat_laws.proofs.walk.Rule.{path-walk, walk-path, path-front, front-path}
+use Rattle.flat_laws.proofs.walk.Rule.{path-front}
 
 pub returns : goal.returns
 returns c =

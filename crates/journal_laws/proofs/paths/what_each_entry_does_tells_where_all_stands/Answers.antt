@@ -1,6 +1,4 @@
-use Rattle.std.proofs.Common.{ap}
-use Rattle.bus_spec.specs.Slots.{mark_in}
-use Rattle.bus_spec.specs.Stand.{Stand}
+use Rattle.journal_laws.proofs.Cited.{ap, mark_in, Stand}
 use Rattle.journal_laws.proofs.past.RuledLegal.{stands-so, worlds-so, calls-so}
 use Rattle.journal_laws.proofs.paths.what_each_entry_does_tells_where_all_stands.Goals as goal
 

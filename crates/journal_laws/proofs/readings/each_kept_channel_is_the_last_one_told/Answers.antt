@@ -1,6 +1,4 @@
-use Rattle.std.proofs.Common.{inl, inr, ap}
-use Rattle.bus_spec.specs.Slots.{mark_in}
-use Rattle.bus_laws.proofs.world.LineFacts.{lines-locked}
+use Rattle.journal_laws.proofs.Cited.{inl, inr, ap, mark_in, lines-locked}
 use Rattle.journal_laws.proofs.past.Kept.{kept-reads}
 use Rattle.journal_laws.proofs.readings.each_kept_channel_is_the_last_one_told.Goals as goal
 

@@ -1,4 +1,4 @@
-use Rattle.bus_laws.proofs.world.LineFacts.{lines-locked}
+use Rattle.journal_laws.proofs.Cited.{lines-locked}
 use Rattle.journal_laws.proofs.past.Selected.{goes-through}
 use Rattle.journal_laws.proofs.readings.each_message_goes_through_selected_muxes.Goals as goal
 

@@ -1,10 +1,10 @@
 -- Each journal is the one that play makes. That its callers are through, and that it follows its schedule, is computed.
-use Rattle.std.proofs.Common.{ℕ, ◌<◌, ◌++◌, [], ◌∷◌, replicate, reverse, refl, arith}
-use Rattle.bus_spec.specs.Past.{now}
-use Rattle.bus_spec.specs.Play.{played, transfers_of, none_fails, fails_at}
+use Rattle.journal_laws.proofs.Cited.{ℕ, ◌<◌, ◌++◌, [], ◌∷◌, reverse, refl, arith, now, played, transfers_of, IsDone}
+use Rattle.std.proofs.Common.{replicate}
+use Rattle.bus_spec.specs.Play.{none_fails, fails_at}
 use Rattle.bus_spec.specs.Rows as row
-use Rattle.flat_laws.specs.Ends.{IsDone}
-use Rattle.journal_laws.proofs.worked.Boards.{mux-locked, parent-locked, keeping, absent-inner, absent-outer, chain, arbitrator, three-beside, read-within}
+use Rattle.journal_laws.proofs.worked.Boards.{mux-locked, parent-locked, keeping, absent-inner, absent-outer, chain, arbitrator}
+use Rattle.journal_laws.proofs.worked.Boards.{three-beside, read-within}
 use Rattle.journal_laws.proofs.worked.Checks.{only-one, only-two}
 use Rattle.journal_laws.proofs.worked.Rows.{IsAskable, worked-out}
 use Rattle.journal_laws.proofs.rows.the_worked_journals_keep_every_rule.Goals as goal

@@ -1,7 +1,4 @@
-use Rattle.std.proofs.Common.{List, [], reverse, ap, arith}
-use Rattle.i2c_base.specs.declared.entry.Entry.{Entry}
-use Rattle.bus_spec.specs.Report.{report_of}
-use Rattle.bus_laws.proofs.world.LineFacts.{lines-locked}
+use Rattle.journal_laws.proofs.Cited.{List, [], reverse, ap, arith, Entry, report_of, lines-locked}
 use Rattle.journal_laws.proofs.schedule.Unique.{sole-journal, alone-follows}
 use Rattle.journal_laws.proofs.unique.a_caller_alone_has_one_journal.Goals as goal
 

@@ -1,7 +1,4 @@
-use Rattle.std.proofs.Common.{List, reverse, ap}
-use Rattle.i2c_base.specs.declared.entry.Entry.{Entry}
-use Rattle.bus_spec.specs.Report.{report_of}
-use Rattle.bus_laws.proofs.world.LineFacts.{lines-locked}
+use Rattle.journal_laws.proofs.Cited.{List, reverse, ap, Entry, report_of, lines-locked}
 use Rattle.journal_laws.proofs.schedule.Unique.{sole-journal}
 use Rattle.journal_laws.proofs.unique.a_schedule_has_one_journal.Goals as goal
 

@@ -1,4 +1,4 @@
-use Rattle.bus_laws.proofs.world.LineFacts.{lines-locked}
+use Rattle.journal_laws.proofs.Cited.{lines-locked}
 use Rattle.journal_laws.proofs.past.GoesOn.{goes-on-or-stuck, stuck-stops}
 use Rattle.journal_laws.proofs.waiting.each_caller_goes_on_or_is_stuck.Goals as goal
 

@@ -1,4 +1,4 @@
-use Rattle.bus_laws.proofs.world.LineFacts.{lines-locked}
+use Rattle.journal_laws.proofs.Cited.{lines-locked}
 use Rattle.journal_laws.proofs.past.GoesOn.{some-can-go-on}
 use Rattle.journal_laws.proofs.waiting.some_caller_can_go_on.Goals as goal
 

@@ -1,4 +1,4 @@
-use Rattle.bus_laws.proofs.world.LineFacts.{lines-locked}
+use Rattle.journal_laws.proofs.Cited.{lines-locked}
 use Rattle.journal_laws.proofs.schedule.Unique.{ready-exact}
 use Rattle.journal_laws.proofs.waiting.who_can_go_on_is_ready.Goals as goal
 

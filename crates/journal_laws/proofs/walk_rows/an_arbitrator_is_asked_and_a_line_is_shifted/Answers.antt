@@ -1,12 +1,7 @@
 -- A list leads through the walk to its end, or leaves it at a step, which isn't the next one there.
-use Rattle.bus_spec.specs.WalkRule.{Deed}
-use Rattle.std.proofs.Common.{ap, ◌≡◌, refl, Some}
-use Rattle.i2c_base.specs.declared.errno.Errno.TheVariants.{Eremoteio}
-use Rattle.i2c_spec.specs.Messages.{messages_of}
-use Rattle.bus_spec.specs.Walk.{Call, Select, Send, Settle}
+use Rattle.journal_laws.proofs.Cited.{Deed, ap, ◌≡◌, refl, Some, Eremoteio, messages_of, Call, Select, Send, Settle, path-walk, walk-path}
 use Rattle.bus_spec.specs.Rows as row
 use Rattle.journal_laws.specs.WalkRows as walk
-use Rattle.flat_laws.proofs.walk.Rule.{path-walk, walk-path}
 use Rattle.journal_laws.proofs.walk_rows.an_arbitrator_is_asked_and_a_line_is_shifted.Goals as goal
 
 pub returns : goal.returns

@@ -1,12 +1,9 @@
 -- Each list leaves the walk at a step, which isn't the next one there.
-use Rattle.bus_spec.specs.WalkRule.{Deed}
-use Rattle.std.proofs.Common.{ap, ◌≡◌, Some, None}
+use Rattle.journal_laws.proofs.Cited.{Deed, ap, ◌≡◌, Some, None, Select, Take, Free, Send, Settle, walk-path}
 use Rattle.i2c_base.specs.declared.ids.LockId.TheVariants as lock
 use Rattle.i2c_base.specs.declared.errno.Errno.TheVariants.{Enxio, Enodev}
-use Rattle.bus_spec.specs.Walk.{Select, Take, Free, Send, Settle}
 use Rattle.bus_spec.specs.Rows as row
 use Rattle.journal_laws.specs.WalkRows as walk
-use Rattle.flat_laws.proofs.walk.Rule.{walk-path}
 use Rattle.journal_laws.proofs.walk_rows.these_are_no_walks.Goals as goal
 
 pub returns : goal.returns

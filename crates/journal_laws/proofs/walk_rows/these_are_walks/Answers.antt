@@ -1,8 +1,7 @@
 -- Each list leads through the walk to its end: step by step, that is computed.
-use Rattle.std.proofs.Common.{refl}
+use Rattle.journal_laws.proofs.Cited.{refl, path-walk}
 use Rattle.bus_spec.specs.Rows as row
 use Rattle.journal_laws.specs.WalkRows as walk
-use Rattle.flat_laws.proofs.walk.Rule.{path-walk}
 use Rattle.journal_laws.proofs.walk_rows.these_are_walks.Goals as goal
 
 pub returns : goal.returns

@@ -1,4 +1,4 @@
-use Rattle.std.proofs.Common.{◌≡◌, true, false}
+use Rattle.journal_laws.proofs.Cited.{◌≡◌, true, false}
 use Rattle.journal_laws.proofs.wrong.a_closed_channel_lets_nothing_through.Goals as goal
 
 pub returns : goal.returns

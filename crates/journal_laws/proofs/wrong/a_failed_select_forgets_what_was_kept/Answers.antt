@@ -1,10 +1,7 @@
-use Rattle.std.proofs.Common.{◌≡◌, true, [], Some, ap}
-use Rattle.i2c_base.specs.declared.board.MuxKind.TheVariants.{Pca9548}
+use Rattle.journal_laws.proofs.Cited.{◌≡◌, true, [], Some, ap, Pca9548, steps_in, Select, SwitchOff, Close, Send, kept_board, keep_asks}
 use Rattle.i2c_base.specs.declared.entry.Purpose.TheVariants as purpose
-use Rattle.bus_spec.specs.ByTree.{steps_in}
 use Rattle.journal_laws.proofs.past.Follow.{Head, transfers-follow, head-told}
-use Rattle.bus_spec.specs.Walk.{Select, SwitchOff, Close, Send}
-use Rattle.journal_laws.specs.Wrong.{kept_board, keep_asks, kept_over_the_mark, kept_over_the_close}
+use Rattle.journal_laws.specs.Wrong.{kept_over_the_mark, kept_over_the_close}
 use Rattle.journal_laws.proofs.wrong.a_failed_select_forgets_what_was_kept.Goals as goal
 
 pub returns : goal.returns

@@ -1,8 +1,6 @@
-use Rattle.std.proofs.Common.{false, ◌≡◌, ℕ, true, [], Option, Some, ap, arith}
+use Rattle.journal_laws.proofs.Cited.{false, ◌≡◌, ℕ, true, [], Option, Some, ap, arith, Act, Select, Shift, steps_in}
 use Rattle.i2c_base.specs.declared.board.MuxKind.TheVariants.{Gpio}
 use Rattle.bus_spec.specs.Rows as row
-use Rattle.bus_spec.specs.Walk.{Act, Select, Shift}
-use Rattle.bus_spec.specs.ByTree.{steps_in}
 use Rattle.journal_laws.specs.Wrong.{line_asks, another_line, another_level}
 use Rattle.journal_laws.proofs.past.Follow.{transfers-follow, level-told}
 use Rattle.journal_laws.proofs.wrong.a_line_tells_its_mux.Goals as goal

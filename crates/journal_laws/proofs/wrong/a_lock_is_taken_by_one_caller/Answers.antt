@@ -1,4 +1,4 @@
-use Rattle.std.proofs.Common.{◌≡◌, ℕ, Option, Some, None, refl}
+use Rattle.journal_laws.proofs.Cited.{◌≡◌, ℕ, Option, Some, None, refl}
 use Rattle.journal_laws.proofs.wrong.a_lock_is_taken_by_one_caller.Goals as goal
 
 taken_once : (o : Option ℕ) → o ≡ Some 0 → o ≡ None → ⊥

@@ -1,10 +1,7 @@
-use Rattle.std.proofs.Common.{◌≡◌, true, false, [], Some, ap}
-use Rattle.i2c_spec.specs.Messages.{messages_of}
-use Rattle.bus_spec.specs.Walk.{Call, Send}
+use Rattle.journal_laws.proofs.Cited.{◌≡◌, true, false, [], Some, ap, messages_of, Call, Send, steps_in, one_asks}
 use Rattle.journal_laws.proofs.past.Follow.{Head, transfers-follow, head-told}
 use Rattle.bus_spec.specs.Rows as row
-use Rattle.bus_spec.specs.ByTree.{steps_in}
-use Rattle.journal_laws.specs.Wrong.{one_asks, another_direction}
+use Rattle.journal_laws.specs.Wrong.{another_direction}
 use Rattle.journal_laws.proofs.wrong.a_message_tells_its_direction.Goals as goal
 
 pub returns : goal.returns

@@ -1,9 +1,6 @@
-use Rattle.std.proofs.Common.{◌≡◌, [], Some, ap, arith}
-use Rattle.i2c_spec.specs.Messages.{messages_of}
-use Rattle.bus_spec.specs.Walk.{Call, Send}
+use Rattle.journal_laws.proofs.Cited.{◌≡◌, [], Some, ap, arith, messages_of, Call, Send, steps_in}
 use Rattle.journal_laws.proofs.past.Follow.{Head, transfers-follow, head-told}
 use Rattle.bus_spec.specs.Rows as row
-use Rattle.bus_spec.specs.ByTree.{steps_in}
 use Rattle.journal_laws.specs.Wrong.{silent_asks, another_part}
 use Rattle.journal_laws.proofs.wrong.a_message_tells_its_part.Goals as goal
 

@@ -1,10 +1,8 @@
-use Rattle.std.proofs.Common.{◌≡◌, [], Some}
+use Rattle.journal_laws.proofs.Cited.{◌≡◌, [], Some, SwitchOff, Deselect, Send, Free, steps_in, deep_asks}
 use Rattle.journal_laws.specs.WalkRows.{hop}
 use Rattle.i2c_base.specs.declared.ids.LockId.TheVariants as lock
 use Rattle.bus_spec.specs.Rows as row
-use Rattle.bus_spec.specs.Walk.{SwitchOff, Deselect, Send, Free}
-use Rattle.bus_spec.specs.ByTree.{steps_in}
-use Rattle.journal_laws.specs.Wrong.{deep_asks, not_deselected}
+use Rattle.journal_laws.specs.Wrong.{not_deselected}
 use Rattle.journal_laws.proofs.past.Follow.{transfers-follow}
 use Rattle.journal_laws.proofs.wrong.a_mux_is_deselected.Goals as goal
 

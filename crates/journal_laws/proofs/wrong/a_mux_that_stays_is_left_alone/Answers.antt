@@ -1,12 +1,9 @@
-use Rattle.std.proofs.Common.{◌≡◌, [], Some, ap}
+use Rattle.journal_laws.proofs.Cited.{◌≡◌, [], Some, ap, steps_in, messages_of, Call, Send, Free, kept_board}
 use Rattle.i2c_base.specs.declared.entry.Purpose.TheVariants as purpose
-use Rattle.bus_spec.specs.ByTree.{steps_in}
 use Rattle.journal_laws.proofs.past.Follow.{Head, transfers-follow, head-told}
 use Rattle.i2c_base.specs.declared.ids.LockId.TheVariants as lock
-use Rattle.i2c_spec.specs.Messages.{messages_of}
 use Rattle.bus_spec.specs.Rows as row
-use Rattle.bus_spec.specs.Walk.{Call, Send, Free}
-use Rattle.journal_laws.specs.Wrong.{kept_board, same_asks, selected_again, deselected}
+use Rattle.journal_laws.specs.Wrong.{same_asks, selected_again, deselected}
 use Rattle.journal_laws.proofs.wrong.a_mux_that_stays_is_left_alone.Goals as goal
 
 pub returns : goal.returns

@@ -1,4 +1,4 @@
-use Rattle.std.proofs.Common.{◌≡◌, true, false, arith}
+use Rattle.journal_laws.proofs.Cited.{◌≡◌, true, false, arith}
 use Rattle.journal_laws.proofs.wrong.a_schedule_is_not_ignored.Goals as goal
 
 pub returns : goal.returns

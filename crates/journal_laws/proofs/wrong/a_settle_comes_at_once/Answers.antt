@@ -1,4 +1,4 @@
-use Rattle.std.proofs.Common.{◌≡◌, true, false, refl}
+use Rattle.journal_laws.proofs.Cited.{◌≡◌, true, false, refl}
 use Rattle.journal_laws.proofs.wrong.a_settle_comes_at_once.Goals as goal
 
 pub returns : goal.returns

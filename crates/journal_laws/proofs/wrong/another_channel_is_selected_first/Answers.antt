@@ -1,10 +1,7 @@
-use Rattle.std.proofs.Common.{◌≡◌, true, [], Some, ap}
-use Rattle.i2c_base.specs.declared.board.MuxKind.TheVariants.{Pca9548}
+use Rattle.journal_laws.proofs.Cited.{◌≡◌, true, [], Some, ap, Pca9548, steps_in, Select, Send, kept_board, keep_asks}
 use Rattle.i2c_base.specs.declared.entry.Purpose.TheVariants as purpose
-use Rattle.bus_spec.specs.ByTree.{steps_in}
 use Rattle.journal_laws.proofs.past.Follow.{Head, transfers-follow, head-told}
-use Rattle.bus_spec.specs.Walk.{Select, Send}
-use Rattle.journal_laws.specs.Wrong.{kept_board, keep_asks, select_left_out}
+use Rattle.journal_laws.specs.Wrong.{select_left_out}
 use Rattle.journal_laws.proofs.wrong.another_channel_is_selected_first.Goals as goal
 
 pub returns : goal.returns

@@ -1,4 +1,4 @@
-use Rattle.std.proofs.Common.{◌≡◌, true, false, [], ◌∷◌, refl}
+use Rattle.journal_laws.proofs.Cited.{◌≡◌, true, false, [], ◌∷◌, refl}
 use Rattle.bus_spec.specs.Rows as row
 use Rattle.journal_laws.specs.Wrong.{asks_register, reads_byte}
 use Rattle.journal_laws.proofs.wrong.another_message_stands_outside.Goals as goal

@@ -1,4 +1,4 @@
-use Rattle.std.proofs.Common.{◌<◌, refl, arith}
+use Rattle.journal_laws.proofs.Cited.{◌<◌, refl, arith}
 use Rattle.i2c_base.specs.declared.ids.LockId.TheVariants as lock
 use Rattle.journal_laws.proofs.wrong.locks_are_taken_towards_the_root.Goals as goal
 

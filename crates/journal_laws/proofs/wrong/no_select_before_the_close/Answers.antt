@@ -1,11 +1,7 @@
-use Rattle.std.proofs.Common.{◌≡◌, [], ◌∷◌, Some, arith}
-use Rattle.i2c_base.specs.declared.board.MuxKind.TheVariants.{Pca9548}
+use Rattle.journal_laws.proofs.Cited.{◌≡◌, [], ◌∷◌, Some, arith, Pca9548, SwitchOff, Close, Send, now, steps_in, two_asks}
 use Rattle.i2c_base.specs.declared.entry.End.TheVariants as end
 use Rattle.bus_spec.specs.Rows as row
-use Rattle.bus_spec.specs.Walk.{SwitchOff, Close, Send}
-use Rattle.bus_spec.specs.Past.{now}
-use Rattle.bus_spec.specs.ByTree.{steps_in}
-use Rattle.journal_laws.specs.Wrong.{two_asks, behind_a_failed_deselect, select_over_the_mark}
+use Rattle.journal_laws.specs.Wrong.{behind_a_failed_deselect, select_over_the_mark}
 use Rattle.journal_laws.proofs.past.Follow.{transfers-follow, bytes-told}
 use Rattle.journal_laws.proofs.wrong.no_select_before_the_close.Goals as goal
 

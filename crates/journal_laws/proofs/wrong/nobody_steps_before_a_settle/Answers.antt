@@ -1,4 +1,4 @@
-use Rattle.std.proofs.Common.{◌≡◌, refl, arith}
+use Rattle.journal_laws.proofs.Cited.{◌≡◌, refl, arith}
 use Rattle.journal_laws.proofs.wrong.nobody_steps_before_a_settle.Goals as goal
 
 pub returns : goal.returns

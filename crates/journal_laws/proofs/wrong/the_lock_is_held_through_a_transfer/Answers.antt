@@ -1,11 +1,8 @@
-use Rattle.std.proofs.Common.{◌≡◌, [], Some}
+use Rattle.journal_laws.proofs.Cited.{◌≡◌, [], Some, messages_of, Call, Send, Free, steps_in, one_asks}
 use Rattle.i2c_base.specs.declared.ids.LockId.TheVariants as lock
-use Rattle.i2c_spec.specs.Messages.{messages_of}
-use Rattle.bus_spec.specs.Walk.{Call, Send, Free}
 use Rattle.journal_laws.proofs.past.Follow.{transfers-follow}
 use Rattle.bus_spec.specs.Rows as row
-use Rattle.bus_spec.specs.ByTree.{steps_in}
-use Rattle.journal_laws.specs.Wrong.{one_asks, unlocked_early}
+use Rattle.journal_laws.specs.Wrong.{unlocked_early}
 use Rattle.journal_laws.proofs.wrong.the_lock_is_held_through_a_transfer.Goals as goal
 
 pub returns : goal.returns

@@ -1,9 +1,4 @@
-use Rattle.std.proofs.Common.{◌≡◌, ◌<◌, ◌∙◌, sym, ap, subst, List, None}
-use Rattle.i2c_base.specs.declared.reply.Reply.{Reply}
-use Rattle.caller_core.specs.Scripts.{asked_by, left_of}
-use Rattle.caller_core.specs.View.{ScriptView}
-use Rattle.cache_laws.specs.Cache.{hit, known}
-use Rattle.reg_cache.specs.Cached.{HasAnswered}
+use Rattle.reg_cache.proofs.Cited.{◌≡◌, ◌<◌, ◌∙◌, sym, ap, subst, List, None, Reply, asked_by, left_of, ScriptView, hit, known, HasAnswered}
 use Rattle.reg_cache.proofs.CacheLemmas.{answered-falls, answered-knows, answered-same, answered-all}
 use Rattle.reg_cache.proofs.caller.answer_hits.Goals as goal
 
@@ -16,8 +11,10 @@ hits-smaller c =
 
 pub hits-preserved : goal.hits-preserved
 hits-preserved c =
-    let answered : HasAnswered c.args.script.now.script c.hits.script.taken c.answer_hit.new.script.taken c.hits.kept.items c.answer_hit.new.kept.items =
-    subst (λ (s : ScriptView). HasAnswered s c.hits.script.taken c.answer_hit.new.script.taken c.hits.kept.items c.answer_hit.new.kept.items)
+    let answered : HasAnswered c.args.script.now.script c.hits.script.taken c.answer_hit.new.script.taken c.hits.kept.items
+    c.answer_hit.new.kept.items =
+    subst (λ (s : ScriptView). HasAnswered s c.hits.script.taken c.answer_hit.new.script.taken c.hits.kept.items
+    c.answer_hit.new.kept.items)
     c.hits.invariant.script (c.answer_hit.ensures.some c.hits-test.true) in
     record {
       script = c.answer_hit.ensures.script ∙ c.hits.invariant.script;

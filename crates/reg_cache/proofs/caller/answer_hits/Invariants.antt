@@ -1,10 +1,4 @@
-use Rattle.std.proofs.Common.{◌≡◌, List}
-use Rattle.i2c_base.specs.Need.{Covers}
-use Rattle.caller_core.specs.Callers.{owed_by}
-use Rattle.caller_core.specs.Scripts.{asked_by, left_of}
-use Rattle.cache_laws.specs.declared.registers.Kept.{Kept}
-use Rattle.cache_laws.specs.Cache.{known, all_of, with_hits}
-use Rattle.reg_cache.specs.Cached.{cached_on}
+use Rattle.reg_cache.proofs.Cited.{◌≡◌, List, Covers, owed_by, asked_by, left_of, Kept, known, all_of, with_hits, cached_on}
 use Rattle.reg_cache.proofs.caller.answer_hits.Given as goal
 
 abbrev pub decreases-hits : goal.decreases-hits
@@ -16,7 +10,8 @@ invariant-hits l =
       script : l.script.script ≡ l.fn.script.script;
       room : Covers l.script.spare (owed_by l.script.script l.script.taken);
       taken : (ks : List Kept) → l.fn.kept.items ≡ known (asked_by l.fn.script.script) ks l.fn.script.taken
-          → all_of (with_hits (cached_on l.fn.script.script ks) l.script.taken) ≡ all_of (with_hits (cached_on l.fn.script.script ks) l.fn.script.taken);
+          → all_of (with_hits (cached_on l.fn.script.script ks) l.script.taken) ≡ all_of (with_hits
+          (cached_on l.fn.script.script ks) l.fn.script.taken);
       knows : (ks : List Kept) → l.fn.kept.items ≡ known (asked_by l.fn.script.script) ks l.fn.script.taken
           → l.kept.items ≡ known (asked_by l.fn.script.script) ks l.script.taken;
     }

@@ -1,6 +1,4 @@
-use Rattle.std.proofs.Common.{◌∙◌, sym, ap, Bool, ◌==◌, ◌||◌, drop, ◌+◌}
-use Rattle.std.proofs.lemmas.Option.{slice_get-get_or}
-use Rattle.reg_cache.specs.Cacheable.{another_writes}
+use Rattle.reg_cache.proofs.Cited.{◌∙◌, sym, ap, Bool, ◌==◌, ◌||◌, drop, ◌+◌, slice_get-get_or, another_writes}
 use Rattle.reg_cache.proofs.ReachLemmas.{one-writes, none-writes, counts, counts-own, counts-not}
 use Rattle.reg_cache.proofs.devices.another_writes.Goals.{else-writes-via-then-writes+else-number-from, else-writes-via-else-writes}
 use Rattle.reg_cache.proofs.devices.another_writes.Goals as goal

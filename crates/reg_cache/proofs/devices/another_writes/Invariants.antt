@@ -1,7 +1,5 @@
-use Rattle.std.proofs.Common.{◌≡◌, drop}
-use Rattle.std.specs.Prelude.{slice_get, Some}
-use Rattle.i2c_base.specs.Board.{BoardView, DeviceView}
-use Rattle.reg_cache.specs.Cacheable.{Texts, AreReaches, another_writes}
+use Rattle.reg_cache.proofs.Cited.{◌≡◌, drop, slice_get, BoardView, DeviceView, Texts, AreReaches, another_writes}
+use Rattle.std.specs.Prelude.{Some}
 use Rattle.reg_cache.proofs.devices.another_writes.Given as goal
 
 abbrev pub invariant-loop-number : goal.invariant-loop-number

@@ -1,9 +1,8 @@
-use Rattle.std.proofs.Common.{◌≡◌, ℕ, ◌<◌, ◌∙◌, sym, ap, Bool, true, false, cond, List, [], ◌∷◌, ◌++◌, length, subst, get_or}
-use Rattle.std.specs.Prelude.{slice_get, Some}
+use Rattle.reg_cache.proofs.Cited.{◌≡◌, ℕ, ◌<◌, ◌∙◌, sym, ap, Bool, true, false, cond, List, [], ◌∷◌, ◌++◌, length, subst, slice_get}
+use Rattle.reg_cache.proofs.Cited.{slice_get-get_or, DeviceView, is_cacheable}
+use Rattle.std.proofs.Common.{get_or}
+use Rattle.std.specs.Prelude.{Some}
 use Rattle.std.proofs.lemmas.List.{append-nil}
-use Rattle.std.proofs.lemmas.Option.{slice_get-get_or}
-use Rattle.i2c_base.specs.Board.{DeviceView}
-use Rattle.reg_cache.specs.Cacheable.{is_cacheable}
 use Rattle.reg_cache.proofs.ReachLemmas.{one-kept}
 use Rattle.reg_cache.proofs.devices.cacheable.Goals.{then-may_keep+in_ok-push, else-may_keep}
 use Rattle.reg_cache.proofs.devices.cacheable.Goals as goal
@@ -14,9 +13,11 @@ loop-number-preserved c texts are =
     let items : c.devices-device-items.result.now ≡ c.args.board.now.devices =
     c.devices-device-items.ensures.value ∙ ap (λ b. b.devices) c.board.ensures.value in
     let there : slice_get c.args.board.now.devices n ≡ Some c.device-item.result =
-    slice_get-get_or c.args.board.now.devices n c.device-item.result (subst (λ (ds : List DeviceView). n < length ds) items c.loop-number-test.true)
+    slice_get-get_or c.args.board.now.devices n c.device-item.result
+    (subst (λ (ds : List DeviceView). n < length ds) items c.loop-number-test.true)
     ∙ ap Some (sym (c.device-item.is ∙ ap (λ (ds : List DeviceView). get_or ds n c.device-item.result) items)) in
-    let told : c.may_keep.result ≡ is_cacheable c.args.board.now texts c.args.caller n = c.may_keep.ensures c.args.board.now texts are there in
+    let told : c.may_keep.result ≡ is_cacheable c.args.board.now texts c.args.caller n =
+    c.may_keep.ensures c.args.board.now texts are there in
     let before = c.loop-number.invariant texts are in
     let more = one-kept (is_cacheable c.args.board.now texts c.args.caller) n c.may_keep.result told in
     let same = λ (z : Bool) (e : c.may_keep.result ≡ z). ap (λ (y : Bool). c.loop-number.devices.items ++ cond y (n ∷ []) []) (sym e) in

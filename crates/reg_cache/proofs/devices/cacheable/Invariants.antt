@@ -1,6 +1,4 @@
-use Rattle.std.proofs.Common.{◌≡◌}
-use Rattle.std.specs.List.{filter, range_with_len}
-use Rattle.reg_cache.specs.Cacheable.{Texts, AreReaches, is_cacheable}
+use Rattle.reg_cache.proofs.Cited.{◌≡◌, filter, range_with_len, Texts, AreReaches, is_cacheable}
 use Rattle.reg_cache.proofs.devices.cacheable.Given as goal
 
 abbrev pub invariant-loop-number : goal.invariant-loop-number

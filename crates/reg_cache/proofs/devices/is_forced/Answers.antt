@@ -1,7 +1,4 @@
-use Rattle.std.proofs.Common.{◌∙◌, sym, ap, Bool, ◌||◌, drop, ◌+◌}
-use Rattle.std.specs.List.{list_any}
-use Rattle.std.proofs.lemmas.Option.{slice_get-get_or}
-use Rattle.caller_core.specs.Reach.{is_forced_in}
+use Rattle.reg_cache.proofs.Cited.{◌∙◌, sym, ap, Bool, ◌||◌, drop, ◌+◌, list_any, slice_get-get_or, is_forced_in}
 use Rattle.reg_cache.proofs.ReachLemmas.{one-forced, none-forced}
 use Rattle.reg_cache.proofs.devices.is_forced.Goals as goal
 
@@ -21,4 +18,5 @@ loop-reach-preserved c b texts are =
 
 pub returns : goal.returns
 returns c b texts are =
-    none-forced b texts c.args.reaches.now are c.loop-reach.reach-index c.args.addr c.loop-reach-test.false ∙ c.loop-reach.invariant b texts are
+    none-forced b texts c.args.reaches.now are c.loop-reach.reach-index c.args.addr c.loop-reach-test.false
+    ∙ c.loop-reach.invariant b texts are

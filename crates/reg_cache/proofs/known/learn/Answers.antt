@@ -1,14 +1,12 @@
-use Rattle.std.proofs.Common.{rules, arith, ◌<◌, ◌∙◌, ap, length}
-use Rattle.std.specs.Prelude.{slice_set}
+use Rattle.reg_cache.proofs.Cited.{arith, ◌<◌, ◌∙◌, ap, length, slice_set, reply_by, learn_at, Kept}
+use Rattle.std.proofs.Common.{rules}
 use Rattle.std.proofs.lemmas.List.Edits.{map_over_more}
-use Rattle.i2c_base.specs.Replies.{reply_by}
-use Rattle.cache_laws.specs.Cache.{learn_at}
-use Rattle.cache_laws.specs.declared.registers.Kept.{Kept}
 use Rattle.reg_cache.proofs.known.learn.Goals as goal
 
 pub loop-place-preserved : goal.loop-place-preserved
 loop-place-preserved c =
-    let within : c.loop-place.place < length c.args.kept.now.items = grind (arith, c.loop-place-test.true, c.len-place-end.ensures, c.loop-place.invariant.same) in
+    let within : c.loop-place.place < length c.args.kept.now.items =
+    grind (arith, c.loop-place-test.true, c.len-place-end.ensures, c.loop-place.invariant.same) in
     record {
       items = ap (λ (k : Kept). slice_set c.loop-place.kept.items c.loop-place.place k) c.learned_at.ensures
           ∙ map_over_more (learn_at c.args.access.now (reply_by c.args.head c.args.bytes.now)) c.args.kept.now.items c.loop-place.kept.items

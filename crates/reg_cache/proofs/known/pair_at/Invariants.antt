@@ -1,5 +1,4 @@
-use Rattle.std.proofs.Common.{◌≡◌, drop}
-use Rattle.cache_laws.specs.Cache.{pair_at}
+use Rattle.reg_cache.proofs.Cited.{◌≡◌, drop, pair_at}
 use Rattle.reg_cache.proofs.known.pair_at.Given as goal
 
 abbrev pub invariant-loop-device : goal.invariant-loop-device

@@ -1,4 +1,4 @@
-use Rattle.std.proofs.Common.{refl}
+use Rattle.run_laws.proofs.Cited.{refl}
 use Rattle.i2c_gen.proofs.BoardLemmas.{meets_rules, plain_board}
 use Rattle.i2c_gen.proofs.ScriptLemmas.{scripts_cost}
 use Rattle.run_laws.proofs.Planned.{plan-named, schedule-named, scripts-lines, scripts-whole}

@@ -1,7 +1,4 @@
-use Rattle.std.proofs.Common.{length, map, sym, ◌∙◌}
-use Rattle.std.specs.List.{range_with_len}
-use Rattle.bus_spec.specs.Report.{text_of}
-use Rattle.i2c_top.specs.Runs.{printed_by}
+use Rattle.run_laws.proofs.Cited.{length, map, sym, ◌∙◌, range_with_len, text_of, printed_by}
 use Rattle.run_laws.proofs.Told.{sections-whole}
 use Rattle.run_laws.proofs.rules.a_report_tells_its_run.Goals as goal
 

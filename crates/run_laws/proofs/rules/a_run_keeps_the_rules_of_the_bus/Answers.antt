@@ -1,13 +1,9 @@
-use Rattle.std.proofs.Common.{◌≤◌, ℕ, [], length, reverse, ◌∙◌, ap}
+use Rattle.run_laws.proofs.Cited.{◌≤◌, ℕ, [], length, reverse, ◌∙◌, ap, replies, faults_in, failures, remotes, asks_by}
 use Rattle.bus_spec.specs.Legal.{KeepsWhole, Reaches}
-use Rattle.bus_spec.specs.Readings.{replies}
 use Rattle.bus_laws.specs.Reach.{KeepsPathsOpen}
-use Rattle.bus_spec.specs.Faults.{faults_in}
-use Rattle.journal_laws.specs.Counts.{failures, remotes}
 use Rattle.journal_laws.specs.Faulty.{KeepsCuts}
 use Rattle.journal_laws.specs.Selected.{GoesThroughSelected}
 use Rattle.journal_laws.specs.Spent.{IsWithinCost, KeepsFits, cost_from, its_bytes, its_calls, of_caller, one_entry}
-use Rattle.i2c_top.specs.Runs.{asks_by}
 use Rattle.run_laws.proofs.Rooted.{log-told}
 use Rattle.run_laws.proofs.Ruled.{run-keeps, run-legal, run-logs}
 use Rattle.run_laws.proofs.rules.a_run_keeps_the_rules_of_the_bus.Goals as goal

@@ -1,13 +1,5 @@
-use Rattle.std.proofs.Common.{◌≡◌, ◌≤◌, ℕ, List, Option, length, reverse, sym, ◌∙◌, arith}
-use Rattle.std.specs.Prelude.{All}
-use Rattle.i2c_base.specs.declared.entry.Entry.{Entry}
-use Rattle.i2c_base.specs.declared.port.PortCall.{PortCall}
-use Rattle.i2c_base.specs.Board.{BoardView}
-use Rattle.i2c_spec.specs.Targets.{TargetState}
-use Rattle.bus_spec.specs.Past.{calls_of}
-use Rattle.bus_laws.proofs.world.LineFacts.{lines-locked}
-use Rattle.journal_laws.specs.Counts.{failures, remotes}
-use Rattle.i2c_top.specs.Runs.{asks_by, HasRunTold}
+use Rattle.run_laws.proofs.Cited.{◌≡◌, ◌≤◌, ℕ, List, Option, length, reverse, sym, ◌∙◌, arith, All, Entry, PortCall, BoardView, TargetState}
+use Rattle.run_laws.proofs.Cited.{calls_of, lines-locked, failures, remotes, asks_by, HasRunTold}
 use Rattle.run_laws.proofs.Faultless.{no-faults, none-counted, none-failed}
 use Rattle.run_laws.proofs.Rooted.{failed-fault}
 use Rattle.run_laws.proofs.Ruled.{run-logs, run-steps}

@@ -1,17 +1,7 @@
-use Rattle.std.proofs.Common.{ℕ, List, length, reverse, Some, sym, ◌∙◌, ap, subst}
-use Rattle.std.proofs.lemmas.List.{reverse-reverse}
-use Rattle.i2c_base.specs.declared.entry.Entry.{Entry}
-use Rattle.i2c_base.specs.declared.port.PortCall.{PortCall}
-use Rattle.i2c_base.specs.Board.{BoardView}
-use Rattle.i2c_gen.specs.Boards.{made_board}
-use Rattle.i2c_gen.specs.Scripts.{scripts_of, schedule_of}
-use Rattle.i2c_spec.specs.Targets.{TargetState}
-use Rattle.bus_spec.specs.Legal.{IsLegal}
-use Rattle.bus_spec.specs.Schedule.{Follows}
-use Rattle.bus_laws.proofs.world.LineFacts.{lines-locked}
-use Rattle.i2c_top.specs.Runs.{asks_by, report_by, HasRunTold}
+use Rattle.run_laws.proofs.Cited.{ℕ, List, length, reverse, Some, sym, ◌∙◌, ap, subst, reverse-reverse, Entry, PortCall, BoardView}
+use Rattle.run_laws.proofs.Cited.{made_board, scripts_of, schedule_of, TargetState, IsLegal, Follows, lines-locked, asks_by, report_by}
+use Rattle.run_laws.proofs.Cited.{HasRunTold, FaultsAlike}
 use Rattle.i2c_top.specs.forms.Generations.{summary_of}
-use Rattle.run_laws.specs.Alike.{FaultsAlike}
 use Rattle.run_laws.proofs.Asked.{messages-asked, limits-kept}
 use Rattle.run_laws.proofs.Rooted.{fail-alike}
 use Rattle.run_laws.proofs.Ruled.{run-complete, run-legal, run-logs}
@@ -20,7 +10,8 @@ use Rattle.run_laws.proofs.runs.a_replay_has_one_report.Goals as goal
 
 pub returns : goal.returns
 returns c =
-    (let run = λ (told : List Entry → List ℕ) (b : BoardView) (texts : List (List ℕ)) (words x y : List ℕ) (logs others : List (List PortCall))
+    (let run = λ (told : List Entry → List ℕ) (b : BoardView) (texts : List (List ℕ)) (words x y : List ℕ)
+    (logs others : List (List PortCall))
     (states ends : List TargetState) (counts rises : List ℕ) (one : HasRunTold told b texts (Some words) x logs states counts)
     (two : HasRunTold told b texts (Some words) y others ends rises) (alike : FaultsAlike logs others).
     let plain = one.is_run.plain in
@@ -37,7 +28,8 @@ returns c =
     let pasts = c.a_schedule_has_one_legal_journal.ensures b (length texts) (asks_by b texts) words (reverse one.journal)
     (reverse two.journal) plain rules some limits first_legal second_legal
     (run-complete b (length texts) asks logs states counts one.journal one.is_run some limits)
-    (run-complete b (length texts) asks others ends rises two.journal two.is_run some limits) (follows one.journal one.ordered) (follows two.journal two.ordered)
+    (run-complete b (length texts) asks others ends rises two.journal two.is_run some limits) (follows one.journal one.ordered)
+    (follows two.journal two.ordered)
     (fail-alike b (c.an_accepted_board_is_a_tree.ensures b plain rules) plain (lines-locked b rules) (asks_by b texts) some
     (length texts) (reverse one.journal) (reverse two.journal) (steps (reverse one.journal) first_legal)
     (steps (reverse two.journal) second_legal) logs others (run-logs b (length texts) asks logs states counts one.journal one.is_run)

@@ -1,7 +1,4 @@
-use Rattle.std.proofs.Common.{length, reverse, Some}
-use Rattle.bus_laws.proofs.world.LineFacts.{lines-locked}
-use Rattle.i2c_top.specs.Runs.{asks_by, report_by, HasRun}
-use Rattle.run_laws.specs.Alike.{steps_of}
+use Rattle.run_laws.proofs.Cited.{length, reverse, Some, lines-locked, asks_by, report_by, HasRun, steps_of}
 use Rattle.run_laws.proofs.Asked.{messages-asked, limits-kept}
 use Rattle.run_laws.proofs.Ruled.{run-legal}
 use Rattle.run_laws.proofs.Steps.{own-followed, own-named}
@@ -29,6 +26,7 @@ returns c =
       named = own-named b tree plain (lines-locked b rules) (asks_by b texts) some (length texts) run.journal steps none;
       run = replay;
       only = λ other_bytes others ends other_counts other alike.
-          c.a_replay_has_one_report.ensures.run (report_by b texts) b texts (steps_of run.journal) x other_bytes logs others states ends counts
+          c.a_replay_has_one_report.ensures.run (report_by b texts) b texts
+          (steps_of run.journal) x other_bytes logs others states ends counts
           other_counts replay other alike;
     }

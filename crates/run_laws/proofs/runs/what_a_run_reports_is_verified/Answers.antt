@@ -1,18 +1,14 @@
-use Rattle.std.proofs.Common.{ℕ, List, Option, length, refl}
-use Rattle.bus_laws.specs.Reach.{AsksForMessages, AsksWithinLimits}
-use Rattle.i2c_base.specs.Board.{BoardView}
-use Rattle.i2c_base.specs.declared.port.PortCall.{PortCall}
-use Rattle.i2c_spec.specs.Targets.{TargetState}
+use Rattle.run_laws.proofs.Cited.{ℕ, List, Option, length, refl, AsksForMessages, AsksWithinLimits, BoardView, PortCall, TargetState}
+use Rattle.run_laws.proofs.Cited.{asks_by, HasRun, texts_in}
 use Rattle.i2c_top.specs.Checked.{checked_on}
-use Rattle.i2c_top.specs.Runs.{asks_by, HasRun}
-use Rattle.i2c_top.specs.Scripts.{texts_in}
 use Rattle.journal_check.specs.Faults.{IsVerified}
 use Rattle.run_laws.proofs.Asked.{limits-kept, messages-asked}
 use Rattle.run_laws.proofs.Ruled.{run-complete, run-legal}
 use Rattle.run_laws.proofs.runs.what_a_run_reports_is_verified.Goals as goal
 
 -- the journal of a run is one of which its report is the text
-verified : (b : BoardView) (texts : List (List ℕ)) → AsksForMessages (asks_by b texts) → AsksWithinLimits (asks_by b texts) → (words : Option (List ℕ)) (x : List ℕ)
+verified : (b : BoardView) (texts : List (List ℕ)) → AsksForMessages (asks_by b texts) → AsksWithinLimits (asks_by b texts)
+    → (words : Option (List ℕ)) (x : List ℕ)
     (logs : List (List PortCall)) (states : List TargetState) (counts : List ℕ) (run : HasRun b texts words x logs states counts)
     → IsVerified (checked_on b texts) x (length run.journal)
 verified b texts some limits words x logs states counts run = record {
@@ -42,5 +38,6 @@ returns-clause-report c = λ file names journal x logs states counts report ther
   };
   verified = verified report.files.texts.board.board (texts_in file names.scripts)
       (messages-asked c.scripts_are_fair.ensures report.files.texts.board.board (texts_in file names.scripts))
-      (limits-kept c.scripts_are_fair.ensures report.files.texts.board.board (texts_in file names.scripts)) _ x logs states counts report.run;
+      (limits-kept c.scripts_are_fair.ensures report.files.texts.board.board (texts_in file names.scripts)) _ x logs states counts
+      report.run;
 }

@@ -1,4 +1,4 @@
-use Rattle.std.proofs.Common.{refl}
+use Rattle.tools.proofs.Cited.{refl}
 use Rattle.tools.specs.Commands.{grammar}
 use Rattle.tools.specs.Options.{force_and_yes}
 use Rattle.tools.specs.Sets.{set_words, set_bus, set_reg, set_values, set_number, set_byte, set_block}

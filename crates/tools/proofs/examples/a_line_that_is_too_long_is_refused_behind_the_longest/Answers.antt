@@ -1,4 +1,4 @@
-use Rattle.std.proofs.Common.{refl}
+use Rattle.tools.proofs.Cited.{refl}
 use Rattle.tools.specs.Commands.{grammar}
 use Rattle.tools.specs.Gets.{get_words, get_bus, get_reg, get_len}
 use Rattle.tools.specs.Options.{force_and_yes}

@@ -1,4 +1,4 @@
-use Rattle.std.proofs.Common.{refl}
+use Rattle.tools.proofs.Cited.{refl}
 use Rattle.tools.specs.Tables.{parts}
 use Rattle.tools.proofs.examples.a_range_of_words_is_printed_in_its_columns.Goals as goal
 

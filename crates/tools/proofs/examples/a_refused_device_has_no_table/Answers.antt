@@ -1,4 +1,4 @@
-use Rattle.std.proofs.Common.{refl}
+use Rattle.tools.proofs.Cited.{refl}
 use Rattle.tools.specs.Tables.{parts}
 use Rattle.tools.proofs.examples.a_refused_device_has_no_table.Goals as goal
 

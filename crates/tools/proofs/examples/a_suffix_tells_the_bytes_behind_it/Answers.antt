@@ -1,4 +1,4 @@
-use Rattle.std.proofs.Common.{refl}
+use Rattle.tools.proofs.Cited.{refl}
 use Rattle.tools.specs.Combined.{combined_words, combined_bus, descs, data_words, counted}
 use Rattle.tools.specs.Commands.{grammar}
 use Rattle.tools.specs.Options.{force_and_yes}

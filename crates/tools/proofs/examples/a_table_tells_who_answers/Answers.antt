@@ -1,4 +1,4 @@
-use Rattle.std.proofs.Common.{refl}
+use Rattle.tools.proofs.Cited.{refl}
 use Rattle.tools.specs.Tables.{parts}
 use Rattle.tools.proofs.examples.a_table_tells_who_answers.Goals as goal
 

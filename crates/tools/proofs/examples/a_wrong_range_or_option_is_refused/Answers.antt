@@ -1,4 +1,4 @@
-use Rattle.std.proofs.Common.{refl}
+use Rattle.tools.proofs.Cited.{refl}
 use Rattle.tools.specs.Commands.{grammar}
 use Rattle.tools.specs.Dumps.{dump_words, dump_options, dump_bus, dump_tail}
 use Rattle.tools.specs.Options.{force_and_yes}

@@ -1,4 +1,4 @@
-use Rattle.std.proofs.Common.{refl}
+use Rattle.tools.proofs.Cited.{refl}
 use Rattle.std.specs.Fmt.{digits}
 use Rattle.tools.proofs.examples.the_buses_are_listed_by_number.Goals as goal
 

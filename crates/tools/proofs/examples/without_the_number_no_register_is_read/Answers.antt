@@ -1,4 +1,4 @@
-use Rattle.std.proofs.Common.{refl}
+use Rattle.tools.proofs.Cited.{refl}
 use Rattle.tools.specs.Tables.{parts}
 use Rattle.tools.proofs.examples.without_the_number_no_register_is_read.Goals as goal
 

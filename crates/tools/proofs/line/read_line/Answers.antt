@@ -1,8 +1,4 @@
-use Rattle.std.proofs.Common.{◌≡◌, ◌+◌, true, take}
-use Rattle.tools.specs.Commands.{MOST_WORDS}
-use Rattle.tools.specs.Lines.{is_command}
-use Rattle.tools.specs.Splits.{words_of}
-use Rattle.tools.specs.Readers.{texts}
+use Rattle.tools.proofs.Cited.{◌≡◌, ◌+◌, true, take, MOST_WORDS, is_command, words_of, texts}
 use Rattle.tools.proofs.LineLemmas.{command_read, command_faulty}
 use Rattle.tools.proofs.line.read_line.Goals as goal
 

@@ -1,4 +1,4 @@
-use Rattle.std.proofs.Common.{refl}
+use Rattle.tools.proofs.Cited.{refl}
 use Rattle.tools.specs.Commands.{grammar}
 use Rattle.tools.specs.DriverLines.{driver_lines}
 use Rattle.tools.specs.HandleLines.{handle_lines, pec_words}

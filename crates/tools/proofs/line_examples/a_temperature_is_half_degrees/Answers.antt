@@ -1,4 +1,4 @@
-use Rattle.std.proofs.Common.{refl}
+use Rattle.tools.proofs.Cited.{refl}
 use Rattle.tools.specs.Commands.{grammar}
 use Rattle.tools.specs.DriverLines.{driver_lines}
 use Rattle.tools.specs.Lm75Lines.{lm75_words, lm75_write_words, written_reg}

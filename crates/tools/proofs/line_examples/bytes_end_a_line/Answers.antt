@@ -1,4 +1,4 @@
-use Rattle.std.proofs.Common.{refl}
+use Rattle.tools.proofs.Cited.{refl}
 use Rattle.tools.specs.At24Lines.{at24_words, at24_write_words, written_span}
 use Rattle.tools.specs.ByteLists.{some_bytes}
 use Rattle.tools.specs.Commands.{grammar}

@@ -1,5 +1,4 @@
-use Rattle.std.proofs.Common.{◌+◌, ◌*◌, ◌<◌, arith}
-use Rattle.tools.specs.Numbers.{digits_on, within}
+use Rattle.tools.proofs.Cited.{◌+◌, ◌*◌, ◌<◌, arith, digits_on, within}
 use Rattle.tools.proofs.DigitLemmas.{value_past}
 use Rattle.tools.proofs.number.value.Goals as goal
 

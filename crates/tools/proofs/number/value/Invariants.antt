@@ -1,5 +1,4 @@
-use Rattle.std.proofs.Common.{◌≡◌, ◌≤◌, drop}
-use Rattle.tools.specs.Numbers.{base_of, digits_on, within}
+use Rattle.tools.proofs.Cited.{◌≡◌, ◌≤◌, drop, base_of, digits_on, within}
 use Rattle.tools.proofs.number.value.Given as goal
 
 abbrev pub invariant-loop-byte : goal.invariant-loop-byte

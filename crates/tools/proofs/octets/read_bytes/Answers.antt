@@ -1,6 +1,4 @@
-use Rattle.std.proofs.Common.{◌≡◌, ◌+◌, ◌++◌, ◌∷◌, [], true, false, rules, arith, sym, ◌∙◌, Ok, Err}
-use Rattle.tools.specs.Options.{byte}
-use Rattle.tools.specs.Readers.{texts, one_at, is_past}
+use Rattle.tools.proofs.Cited.{◌≡◌, ◌+◌, ◌++◌, ◌∷◌, [], true, false, rules, arith, sym, ◌∙◌, Ok, Err, byte, texts, one_at, is_past}
 use Rattle.tools.proofs.ByteListLemmas.{byte_refused, byte_last, byte_on, bytes_over}
 use Rattle.tools.proofs.octets.read_bytes.Goals as goal
 

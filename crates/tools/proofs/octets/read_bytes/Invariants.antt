@@ -1,6 +1,5 @@
-use Rattle.std.proofs.Common.{◌≡◌, ◌<◌, ◌+◌, ◌-◌, [], false}
+use Rattle.tools.proofs.Cited.{◌≡◌, ◌<◌, ◌+◌, ◌-◌, [], false, texts, is_past}
 use Rattle.tools.specs.ByteLists.{bytes_at}
-use Rattle.tools.specs.Readers.{texts, is_past}
 use Rattle.tools.proofs.octets.read_bytes.Given as goal
 
 abbrev pub invariant-loop : goal.invariant-loop

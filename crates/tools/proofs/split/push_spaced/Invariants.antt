@@ -1,7 +1,5 @@
-use Rattle.std.proofs.Common.{◌≡◌, ◌<◌, ◌++◌, true, length}
-use Rattle.std.specs.List.{flat_map}
-use Rattle.tools.specs.Words.{begins_with_word}
-use Rattle.tools.specs.Splits.{is_blank, behind_space, words_of}
+use Rattle.tools.proofs.Cited.{◌≡◌, ◌<◌, ◌++◌, true, length, flat_map, begins_with_word, is_blank, words_of}
+use Rattle.tools.specs.Splits.{behind_space}
 use Rattle.tools.proofs.split.push_spaced.Given as goal
 
 abbrev pub decreases-loop-rest : goal.decreases-loop-rest

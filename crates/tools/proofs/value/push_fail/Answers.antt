@@ -1,5 +1,4 @@
-use Rattle.std.proofs.Common.{◌++◌, codes, sym, ap, ◌∙◌}
-use Rattle.tools.specs.Values.{byte_word, fail_text}
+use Rattle.tools.proofs.Cited.{◌++◌, codes, sym, ap, ◌∙◌, byte_word, fail_text}
 use Rattle.tools.proofs.value.push_fail.Goals as goal
 use Rattle.bus_journal.proofs.Behind.{five_pieces}
 

@@ -1,5 +1,4 @@
-use Rattle.std.proofs.Common.{arith}
-use Rattle.std.proofs.lemmas.Grind.{common_steps}
+use Rattle.tools.proofs.Cited.{arith, common_steps}
 use Rattle.tools.proofs.value.push_hex_word.Goals as goal
 
 pub returns-clause-bytes : goal.returns-clause-bytes

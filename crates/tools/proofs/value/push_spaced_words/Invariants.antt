@@ -1,6 +1,4 @@
-use Rattle.std.proofs.Common.{◌≡◌, ◌+◌, ◌*◌, ◌≤◌, ◌++◌, take}
-use Rattle.std.specs.List.{flat_map}
-use Rattle.tools.specs.Values.{spaced_word}
+use Rattle.tools.proofs.Cited.{◌≡◌, ◌+◌, ◌*◌, ◌≤◌, ◌++◌, take, flat_map, spaced_word}
 use Rattle.tools.proofs.value.push_spaced_words.Given as goal
 
 abbrev pub invariant-loop-byte : goal.invariant-loop-byte

@@ -1,5 +1,4 @@
-use Rattle.std.proofs.Common.{◌≡◌, ◌+◌, drop}
-use Rattle.tools.specs.Words.{gap_at}
+use Rattle.tools.proofs.Cited.{◌≡◌, ◌+◌, drop, gap_at}
 use Rattle.tools.proofs.words.gap_at.Given as goal
 
 abbrev pub invariant-loop-byte : goal.invariant-loop-byte

@@ -1,5 +1,4 @@
-use Rattle.std.proofs.Common.{◌≡◌, ◌≤◌, length}
-use Rattle.tools.specs.Words.{behind_gaps, words_between}
+use Rattle.tools.proofs.Cited.{◌≡◌, ◌≤◌, length, behind_gaps, words_between}
 use Rattle.tools.proofs.words.skip_gaps.Given as goal
 
 abbrev pub decreases-loop-first : goal.decreases-loop-first

@@ -1,4 +1,4 @@
-use Rattle.wire_spec.specs.Sites.{node_table}
+use Rattle.wire_spec.proofs.Cited.{node_table}
 use Rattle.wire_spec.proofs.ByteLaws.{cut_put, cut_address, cut_get}
 use Rattle.wire_spec.proofs.bytes.a_byte_that_is_cut_stands_partway.Goals as goal
 

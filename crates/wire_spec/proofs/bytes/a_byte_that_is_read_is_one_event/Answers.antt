@@ -1,4 +1,4 @@
-use Rattle.wire_spec.specs.Sites.{node_table}
+use Rattle.wire_spec.proofs.Cited.{node_table}
 use Rattle.wire_spec.proofs.Clocks.{get_clocks}
 use Rattle.wire_spec.proofs.ByteLaws.{gets_are_events}
 use Rattle.wire_spec.proofs.bytes.a_byte_that_is_read_is_one_event.Goals as goal

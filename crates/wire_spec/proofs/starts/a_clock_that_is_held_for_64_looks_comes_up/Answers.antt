@@ -1,4 +1,4 @@
-use Rattle.wire_spec.specs.Sites.{node_table}
+use Rattle.wire_spec.proofs.Cited.{node_table}
 use Rattle.wire_spec.proofs.StartLemmas.{node_fair}
 use Rattle.wire_spec.proofs.StartLaws.{held_comes_up}
 use Rattle.wire_spec.proofs.starts.a_clock_that_is_held_for_64_looks_comes_up.Goals as goal

@@ -1,4 +1,4 @@
-use Rattle.wire_spec.specs.Sites.{node_table}
+use Rattle.wire_spec.proofs.Cited.{node_table}
 use Rattle.wire_spec.proofs.StartLaws.{stop_written, stop_out}
 use Rattle.wire_spec.proofs.starts.a_stop_frees_the_lines.Goals as goal
 

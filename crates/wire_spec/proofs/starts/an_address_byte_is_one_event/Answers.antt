@@ -1,4 +1,4 @@
-use Rattle.wire_spec.specs.Sites.{node_table}
+use Rattle.wire_spec.proofs.Cited.{node_table}
 use Rattle.wire_spec.proofs.StartLemmas.{node_fair}
 use Rattle.wire_spec.proofs.StartLaws.{address_is_event}
 use Rattle.wire_spec.proofs.starts.an_address_byte_is_one_event.Goals as goal

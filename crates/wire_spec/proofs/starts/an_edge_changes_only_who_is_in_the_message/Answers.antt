@@ -1,4 +1,4 @@
-use Rattle.wire_spec.specs.Sites.{node_table}
+use Rattle.wire_spec.proofs.Cited.{node_table}
 use Rattle.wire_spec.proofs.StartLaws.{out_sees, quiet_stays, some_are_all}
 use Rattle.wire_spec.proofs.starts.an_edge_changes_only_who_is_in_the_message.Goals as goal
 

@@ -1,6 +1,4 @@
-use Rattle.std.proofs.Common.{[], ◌∙◌, ap, subst}
-use Rattle.bus_laws.specs.Following.{GoesOnBy}
-use Rattle.bus_core.specs.State.{CoreState, roots_in}
+use Rattle.bus_core.proofs.Cited.{[], ◌∙◌, ap, subst, GoesOnBy, CoreState, roots_in}
 use Rattle.bus_core.proofs.Told.{core-told, opening-same, roots-same}
 use Rattle.bus_core.proofs.bus.BusCore.finish.Goals as goal
 

@@ -1,7 +1,5 @@
-use Rattle.std.proofs.Common.{◌≡◌, true, sym, ◌∙◌, ap, subst}
+use Rattle.bus_core.proofs.Cited.{◌≡◌, true, sym, ◌∙◌, ap, subst, GoesOnBy, CoreState, has_caller, roots_in}
 use Rattle.std.specs.List.{slice_index_or}
-use Rattle.bus_laws.specs.Following.{GoesOnBy}
-use Rattle.bus_core.specs.State.{CoreState, has_caller, roots_in}
 use Rattle.bus_core.proofs.Told.{core-told, opening-same, placed-of, roots-same}
 use Rattle.bus_core.proofs.bus.BusCore.follow.Goals as goal
 

@@ -1,8 +1,6 @@
-use Rattle.std.proofs.Common.{◌≡◌, ◌<◌, length, refl, ◌∙◌, ap, arith}
-use Rattle.std.specs.Prelude.{vec_len}
+use Rattle.bus_core.proofs.Cited.{◌≡◌, ◌<◌, length, refl, ◌∙◌, ap, arith, vec_len, CoreState, has_caller}
 use Rattle.std.proofs.lemmas.Bool.{le-ltb}
 use Rattle.std.proofs.lemmas.Option.{slice_get_past}
-use Rattle.bus_core.specs.State.{CoreState, has_caller}
 use Rattle.bus_core.proofs.SeatLemmas.{number_read}
 use Rattle.bus_core.proofs.Told.{placed-is, unplaced}
 use Rattle.bus_core.proofs.bus.BusCore.has.Goals as goal

@@ -1,5 +1,4 @@
-use Rattle.std.proofs.Common.{ℕ, List, ap, ◌∙◌}
-use Rattle.bus_core.specs.State.{logs_of}
+use Rattle.bus_core.proofs.Cited.{ℕ, List, ap, ◌∙◌, logs_of}
 use Rattle.bus_core.proofs.Told.{opened-with, uncalled-told}
 use Rattle.bus_core.proofs.bus.BusCore.open.Goals as goal
 

@@ -1,7 +1,5 @@
-use Rattle.std.proofs.Common.{subst}
+use Rattle.bus_core.proofs.Cited.{subst, IsLeast, AllThrough, CoreState}
 use Rattle.std.proofs.lemmas.Option.{IfSome_then}
-use Rattle.bus_core.specs.Answers.{IsLeast}
-use Rattle.bus_core.specs.State.{AllThrough, CoreState}
 use Rattle.bus_core.proofs.Loops.{all-through}
 use Rattle.bus_core.proofs.Told.{is-least}
 use Rattle.bus_core.proofs.bus.BusCore.ready.Goals as goal

@@ -1,11 +1,6 @@
-use Rattle.std.proofs.Common.{◌≡◌, ℕ, ◌<◌, true, length, Some, None, sym, ◌∙◌, ap, subst, arith}
-use Rattle.std.specs.Prelude.{vec_len}
-use Rattle.std.proofs.lemmas.Option.{slice_get_within}
-use Rattle.bus_core.specs.Answers.{HasAdded, WaitsFor, HasUsedUp, IsOverIn}
-use Rattle.bus_core.specs.Kept.{HasCome, HasStepped}
-use Rattle.bus_core.specs.State.{CoreState, CoreTold, has_caller, roots_in, state_of}
-use Rattle.bus_core.specs.Steps.{IsBlockedAt, HasEndedAt}
-use Rattle.bus_core.specs.declared.parts.CoreInside.{CoreInside}
+use Rattle.bus_core.proofs.Cited.{◌≡◌, ℕ, ◌<◌, true, length, Some, None, sym, ◌∙◌, ap, subst, arith, vec_len, slice_get_within, HasAdded}
+use Rattle.bus_core.proofs.Cited.{WaitsFor, HasUsedUp, IsOverIn, HasCome, HasStepped, CoreState, CoreTold, has_caller, roots_in, state_of}
+use Rattle.bus_core.proofs.Cited.{IsBlockedAt, HasEndedAt, CoreInside}
 use Rattle.bus_core.proofs.Advances.{within as is_within, has-made}
 use Rattle.bus_core.proofs.SeatLemmas.{number_read}
 use Rattle.bus_core.proofs.Told.{added, came-by, core-after, core-told, over-told, opening-same, placed-of, roots-same, used-up, waits-for}

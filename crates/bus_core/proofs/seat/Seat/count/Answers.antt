@@ -1,4 +1,4 @@
-use Rattle.std.proofs.Common.{arith}
+use Rattle.bus_core.proofs.Cited.{arith}
 use Rattle.i2c_base.proofs.TransferLemmas.{written_size}
 use Rattle.bus_message.proofs.PartwayLemmas.{written_within}
 use Rattle.bus_core.proofs.seat.Seat.count.Goals as goal

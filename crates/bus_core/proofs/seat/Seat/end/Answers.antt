@@ -1,18 +1,6 @@
-use Rattle.std.proofs.Common.{◌≡◌, ◌⊎◌, ◌<◌, false, true, [], ◌∷◌, ◌++◌, Option, sym, ◌∙◌, ap, subst, arith}
-use Rattle.std.specs.Prelude.{take, sum_by}
-use Rattle.i2c_base.specs.declared.reply.Reply.{Reply}
-use Rattle.i2c_base.specs.Need.{Covers}
-use Rattle.i2c_base.specs.Transfer.{TransferView, written_of}
-use Rattle.i2c_spec.specs.Tree.{buses, root_of}
-use Rattle.bus_spec.specs.Grammar.{walk_for}
-use Rattle.bus_spec.specs.Walk.{WalkTree}
-use Rattle.core_laws.specs.Core.{IsLone}
-use Rattle.bus_core.specs.Kept.{roots_of}
-use Rattle.bus_core.specs.Opening.{HasRoot}
-use Rattle.bus_core.specs.Places.{owed_by}
-use Rattle.bus_core.specs.Replies.{reply_decided}
-use Rattle.bus_core.specs.declared.replies.Decided.{Decided}
-use Rattle.bus_core.specs.declared.seat.Seat.{Seat}
+use Rattle.bus_core.proofs.Cited.{◌≡◌, ◌⊎◌, ◌<◌, false, true, [], ◌∷◌, ◌++◌, Option, sym, ◌∙◌, ap, subst, arith, take, sum_by, Reply}
+use Rattle.bus_core.proofs.Cited.{Covers, TransferView, written_of, buses, root_of, walk_for, WalkTree, IsLone, roots_of, HasRoot, owed_by}
+use Rattle.bus_core.proofs.Cited.{reply_decided, Decided, Seat}
 use Rattle.bus_core.proofs.SeatLemmas.{same_owed, asks_or_not}
 use Rattle.bus_core.proofs.There.{there-for}
 use Rattle.bus_core.proofs.seat.Seat.end.Goals as goal

@@ -1,4 +1,4 @@
-use Rattle.bus_core.specs.Kept.{roots_of}
+use Rattle.bus_core.proofs.Cited.{roots_of}
 use Rattle.bus_core.proofs.Reseating.{may_end, freed}
 use Rattle.bus_core.proofs.seat.Seat.free_done.Goals as goal
 

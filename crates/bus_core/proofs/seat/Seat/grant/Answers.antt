@@ -1,7 +1,5 @@
-use Rattle.std.proofs.Common.{ap, refl, take}
-use Rattle.std.specs.Prelude.{sum_by}
-use Rattle.i2c_base.specs.Transfer.{written_of}
-use Rattle.i2c_spec.specs.Messages.{MessageView}
+use Rattle.bus_core.proofs.Cited.{ap, refl, sum_by, written_of, MessageView}
+use Rattle.std.proofs.Common.{take}
 use Rattle.i2c_spec.specs.Grant.{grant_of}
 use Rattle.bus_message.proofs.PartwayLemmas.{message_here}
 use Rattle.bus_core.proofs.seat.Seat.grant.Goals as goal

@@ -1,7 +1,4 @@
-use Rattle.std.proofs.Common.{◌≡◌, ◌∙◌, ap}
-use Rattle.i2c_base.specs.declared.reply.Cut.{Cut}
-use Rattle.bus_spec.specs.Walk.{Lined}
-use Rattle.bus_core.specs.Seats.{cut_of_line}
+use Rattle.bus_core.proofs.Cited.{◌≡◌, ◌∙◌, ap, Cut, Lined, cut_of_line}
 use Rattle.bus_core.proofs.Looking.{rest-looked}
 use Rattle.bus_core.proofs.seat.Seat.line_done.Goals.{then-failed, else-failed}
 use Rattle.bus_core.proofs.seat.Seat.line_done.Goals as goal

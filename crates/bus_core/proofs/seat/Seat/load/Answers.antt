@@ -1,5 +1,4 @@
-use Rattle.mux_plan.specs.Plans.{slots_of}
-use Rattle.core_laws.specs.Spots.{seen_of}
+use Rattle.bus_core.proofs.Cited.{slots_of, seen_of}
 use Rattle.bus_core.proofs.seat.Seat.load.Goals as goal
 
 pub returns-in-Some-clause-looked : goal.returns-in-Some-clause-looked

@@ -1,8 +1,5 @@
-use Rattle.std.proofs.Common.{◌∙◌, ap}
+use Rattle.bus_core.proofs.Cited.{◌∙◌, ap, RouteView, Seat, Passed}
 use Rattle.i2c_base.specs.declared.reply.Cut.TheVariants as cut_at
-use Rattle.mux_plan.specs.Plans.{RouteView}
-use Rattle.bus_core.specs.declared.seat.Seat.{Seat}
-use Rattle.bus_spec.specs.Walk.{Passed}
 use Rattle.bus_core.proofs.Looking.{rest-looked}
 use Rattle.bus_core.proofs.seat.Seat.lock_done.Goals as goal
 

@@ -1,6 +1,5 @@
-use Rattle.std.proofs.Common.{refl, ap, subst, sym, ◌∙◌}
-use Rattle.mux_plan.specs.Looks.{IsLooked}
-use Rattle.mux_plan.specs.Plans.{SeenView, WalkView, slots_of, walk_of}
+use Rattle.bus_core.proofs.Cited.{refl, ap, subst, sym, ◌∙◌, IsLooked, SeenView, slots_of}
+use Rattle.mux_plan.specs.Plans.{WalkView, walk_of}
 use Rattle.bus_core.proofs.seat.Seat.look.Goals as goal
 
 pub look-requires : goal.look-requires

@@ -1,11 +1,6 @@
-use Rattle.std.proofs.Common.{◌≡◌, ◌∷◌, [], ◌++◌, length, Some, sym, ◌∙◌, ap, subst, arith}
-use Rattle.i2c_base.specs.Need.{bytes_given}
-use Rattle.i2c_base.specs.declared.entry.Entry.{Entry}
+use Rattle.bus_core.proofs.Cited.{◌≡◌, ◌∷◌, [], ◌++◌, length, Some, sym, ◌∙◌, ap, subst, arith, bytes_given, Entry, roots_of, IsLookedAt}
+use Rattle.bus_core.proofs.Cited.{reply_decided, IsOn}
 use Rattle.i2c_base.specs.declared.reply.Reply.TheVariants as reply
-use Rattle.bus_core.specs.Kept.{roots_of}
-use Rattle.bus_core.specs.Looks.{IsLookedAt}
-use Rattle.bus_core.specs.Replies.{reply_decided}
-use Rattle.bus_core.specs.Seats.{IsOn}
 use Rattle.bus_core.proofs.Reseating.{settled, settle_entry, may_end_refused, refused}
 use Rattle.bus_core.proofs.seat.Seat.refuse.Goals as goal
 

@@ -1,5 +1,4 @@
-use Rattle.mux_plan.specs.Plans.{slots_of}
-use Rattle.core_laws.specs.Spots.{seen_of}
+use Rattle.bus_core.proofs.Cited.{slots_of, seen_of}
 use Rattle.bus_core.proofs.seat.Seat.resting.Goals as goal
 
 pub returns-clause-looked : goal.returns-clause-looked

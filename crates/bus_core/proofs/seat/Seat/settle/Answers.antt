@@ -1,10 +1,5 @@
-use Rattle.std.proofs.Common.{◌≡◌, ◌+◌, true, false, List, ℕ, ◌∷◌, [], ◌++◌, length, Some, refl, sym, ◌∙◌, ap, subst}
-use Rattle.i2c_base.specs.Need.{bytes_given}
-use Rattle.i2c_base.specs.declared.entry.Entry.{Entry}
-use Rattle.bus_spec.specs.Stepwise.{reply_by}
-use Rattle.bus_core.specs.Looks.{IsLookedAt}
-use Rattle.bus_core.specs.Replies.{reply_decided}
-use Rattle.bus_core.specs.Seats.{IsOn}
+use Rattle.bus_core.proofs.Cited.{◌≡◌, ◌+◌, true, false, List, ℕ, ◌∷◌, [], ◌++◌, length, Some, refl, sym, ◌∙◌, ap, subst, bytes_given}
+use Rattle.bus_core.proofs.Cited.{Entry, reply_by, IsLookedAt, reply_decided, IsOn}
 use Rattle.bus_core.proofs.Looking.{next-looked}
 use Rattle.bus_core.proofs.Reseating.{settled, settle_entry}
 use Rattle.bus_core.proofs.seat.Seat.settle.Goals as goal

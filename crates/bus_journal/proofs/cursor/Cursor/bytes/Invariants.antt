@@ -1,5 +1,5 @@
-use Rattle.std.proofs.Common.{◌≡◌, ◌≤◌, ◌++◌, length, take}
-use Rattle.bus_journal.specs.Guess.{bytes_of, behind_bytes}
+use Rattle.bus_journal.proofs.Cited.{◌≡◌, ◌≤◌, ◌++◌, length, take, bytes_of}
+use Rattle.bus_journal.specs.Guess.{behind_bytes}
 use Rattle.bus_journal.proofs.cursor.Cursor.bytes.Given as goal
 
 abbrev pub invariant-loop-byte : goal.invariant-loop-byte

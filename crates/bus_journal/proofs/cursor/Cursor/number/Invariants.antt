@@ -1,5 +1,4 @@
-use Rattle.std.proofs.Common.{◌≡◌, ◌<◌, length}
-use Rattle.bus_journal.specs.Guess.{number_from, behind_number}
+use Rattle.bus_journal.proofs.Cited.{◌≡◌, ◌<◌, length, number_from, behind_number}
 use Rattle.bus_journal.proofs.cursor.Cursor.number.Given as goal
 
 abbrev pub invariant-loop-longer : goal.invariant-loop-longer

@@ -1,8 +1,5 @@
-use Rattle.std.proofs.Common.{◌<◌, [], ◌∷◌, ◌++◌, arith, sym, ap, subst, ◌∙◌}
-use Rattle.std.proofs.lemmas.Grind.{common_steps}
+use Rattle.bus_journal.proofs.Cited.{◌<◌, [], ◌∷◌, ◌++◌, arith, sym, ap, subst, ◌∙◌, common_steps, entries_of, JournalView}
 use Rattle.bus_journal.specs.Borrowed.{entry_seen}
-use Rattle.bus_journal.specs.Told.{entries_of}
-use Rattle.bus_journal.specs.View.{JournalView}
 use Rattle.bus_journal.proofs.Told.{entries_of-push, text-push}
 use Rattle.bus_journal.proofs.journal.Journal.push.Goals as goal
 

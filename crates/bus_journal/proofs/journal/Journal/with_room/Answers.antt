@@ -1,9 +1,4 @@
-use Rattle.std.proofs.Common.{ℕ, List, arith, sym, subst, ap, ◌∙◌}
-use Rattle.std.specs.Prelude.{None}
-use Rattle.std.proofs.lemmas.Grind.{common_steps}
-use Rattle.bus_journal.specs.Told.{entries_of, IsTextOf}
-use Rattle.bus_journal.specs.View.{JournalView}
-use Rattle.i2c_base.specs.declared.entry.Entry.{Entry}
+use Rattle.bus_journal.proofs.Cited.{ℕ, List, arith, sym, subst, ap, ◌∙◌, None, common_steps, entries_of, IsTextOf, JournalView, Entry}
 use Rattle.bus_journal.proofs.Told.{entries_of-nil, text-empty}
 use Rattle.bus_journal.proofs.journal.Journal.with_room.Goals as goal
 

@@ -1,8 +1,5 @@
-use Rattle.std.proofs.Common.{drop, ap, ◌∙◌, arith}
+use Rattle.bus_lines.proofs.Cited.{drop, ap, ◌∙◌, arith, is_wired, is_own, ApartView}
 use Rattle.std.proofs.lemmas.List.{length-drop, take_all}
-use Rattle.bus_lines.specs.Away.{is_wired}
-use Rattle.bus_lines.specs.Owned.{is_own}
-use Rattle.bus_lines.specs.Aparts.{ApartView}
 use Rattle.bus_lines.proofs.ApartLemmas.{wired_own}
 use Rattle.bus_lines.proofs.apart.Apart.is_own.Goals as goal
 

@@ -1,7 +1,4 @@
-use Rattle.std.proofs.Common.{count_by, length, ap, ◌∙◌}
-use Rattle.wire_spec.specs.Wires.{Bit}
-use Rattle.wire_spec.specs.Sites.{NodeState}
-use Rattle.bus_lines.specs.Joins.{is_chip}
+use Rattle.bus_lines.proofs.Cited.{count_by, length, ap, ◌∙◌, Bit, NodeState, is_chip}
 use Rattle.bus_lines.proofs.ApartLemmas.{chips_counted}
 use Rattle.bus_lines.proofs.apart.Apart.of.Goals as goal
 

@@ -1,13 +1,8 @@
-use Rattle.std.proofs.Common.{◌≡◌, ℕ, ◌+◌, ◌<◌, true, false, get_or, map, length, List, sym, ap, arith, ◌∙◌, subst}
-use Rattle.std.specs.Prelude.{IsSome}
-use Rattle.wire_spec.specs.Wires.{Site, Bit, site_of}
-use Rattle.wire_spec.specs.Sites.{NodeState}
-use Rattle.i2c_bits.specs.Wiring.{Rooted}
-use Rattle.bus_lines.specs.Owned.{is_own, own_device, without}
-use Rattle.bus_lines.specs.Joins.{is_chip, kinds_of, states_on}
-use Rattle.bus_lines.specs.Aparts.{ApartView, apart_of, world_apart, device_of}
-use Rattle.bus_lines.specs.Away.{is_wired, whole_on}
-use Rattle.bus_lines.proofs.ApartLemmas.{emptied_site, own_is, device_there, kinds_set_of, kinds_whole, wired_from, wired_own, in_bits, long_whole, get_whole, set_whole, world_after}
+use Rattle.bus_lines.proofs.Cited.{◌≡◌, ℕ, ◌+◌, ◌<◌, true, false, get_or, map, length, List, sym, ap, arith, ◌∙◌, subst, IsSome, Site, Bit}
+use Rattle.bus_lines.proofs.Cited.{site_of, NodeState, Rooted, is_own, own_device, without, is_chip, kinds_of, states_on, ApartView}
+use Rattle.bus_lines.proofs.Cited.{apart_of, world_apart, device_of, is_wired, whole_on}
+use Rattle.bus_lines.proofs.ApartLemmas.{emptied_site, own_is, device_there, kinds_set_of, kinds_whole, wired_from, wired_own, in_bits}
+use Rattle.bus_lines.proofs.ApartLemmas.{long_whole, get_whole, set_whole, world_after}
 use Rattle.bus_lines.proofs.apart.Apart.take_device.Goals as goal
 
 is_of_root : (c : goal.After-self-1) → is_own c.self.inside.board.value c.self.inside.root c.args.number ≡ true
@@ -93,13 +88,16 @@ pub returns-clause-has : goal.returns-clause-has
 returns-clause-has c = λ owned.
     let s = c.self.inside in
     subst IsSome (sym (device_was c))
-    (device_there c.chips_stand_before_devices.ensures (rooted c) (whole c) s.muxes c.args.number (kinds c) c.self.invariant.count (is_of_root c)
+    (device_there c.chips_stand_before_devices.ensures (rooted c) (whole c) s.muxes c.args.number (kinds c) c.self.invariant.count
+    (is_of_root c)
     c.index_mut.result.now)
 
 pub returns-clause-after : goal.returns-clause-after
 returns-clause-after c = λ busy.
     let s = c.self.inside in
-    ap (λ (bs : List (Bit NodeState)). world_apart busy (apart_of (rooted c) bs)) (set_whole s.board.value s.places.items (number c) s.bits.items _ (wired c))
-    ∙ world_after c.chips_stand_before_devices.ensures (rooted c) (whole c) s.muxes c.args.number (kinds c) c.self.invariant.count (is_of_root c)
+    ap (λ (bs : List (Bit NodeState)). world_apart busy (apart_of (rooted c) bs)) (set_whole s.board.value s.places.items
+    (number c) s.bits.items _ (wired c))
+    ∙ world_after c.chips_stand_before_devices.ensures (rooted c) (whole c) s.muxes c.args.number (kinds c) c.self.invariant.count
+    (is_of_root c)
     c.index_mut.result.now _ (site_taken c) busy
     ∙ ap (λ (a : ApartView). without (world_apart busy a) c.args.number) c.self.view_is

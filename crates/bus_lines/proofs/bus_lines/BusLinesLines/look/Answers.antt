@@ -1,4 +1,4 @@
-use Rattle.std.proofs.Common.{◌∙◌}
+use Rattle.bus_lines.proofs.Cited.{◌∙◌}
 use Rattle.bus_lines.proofs.LinesLemmas.{look_low, look_high, level_is}
 use Rattle.bus_lines.proofs.bus_lines.BusLinesLines.look.Goals as goal
 

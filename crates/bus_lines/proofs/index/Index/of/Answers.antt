@@ -1,6 +1,4 @@
-use Rattle.std.proofs.Common.{◌∙◌}
-use Rattle.std.proofs.lemmas.List.{length-map}
-use Rattle.bus_lines.specs.Units.{lists_of}
+use Rattle.bus_lines.proofs.Cited.{◌∙◌, length-map, lists_of}
 use Rattle.bus_lines.proofs.IndexLemmas.{index_is, index_lists}
 use Rattle.bus_lines.proofs.index.Index.of.Goals as goal
 

@@ -1,5 +1,4 @@
-use Rattle.std.proofs.Common.{◌≡◌, ◌≤◌, ℕ, [], get_or, length, vec_capacity}
-use Rattle.bus_lines.specs.Units.{lists_of}
+use Rattle.bus_lines.proofs.Cited.{◌≡◌, ◌≤◌, ℕ, [], get_or, length, vec_capacity, lists_of}
 use Rattle.bus_lines.proofs.index.Index.of.Given as goal
 
 -- so many addresses have nobody yet

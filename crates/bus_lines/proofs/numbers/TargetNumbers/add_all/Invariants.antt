@@ -1,5 +1,4 @@
-use Rattle.std.proofs.Common.{◌≡◌, ℕ, ◌<◌, true}
-use Rattle.bus_lines.specs.Numbers.{is_among}
+use Rattle.bus_lines.proofs.Cited.{◌≡◌, ℕ, ◌<◌, true, is_among}
 use Rattle.bus_lines.proofs.numbers.TargetNumbers.add_all.Given as goal
 
 -- so many are among them

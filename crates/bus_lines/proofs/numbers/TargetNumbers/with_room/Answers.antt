@@ -1,5 +1,5 @@
+use Rattle.bus_lines.proofs.Cited.{vec_capacity}
 use Rattle.bus_lines.proofs.NumbersLemmas.{no_numbers}
-use Rattle.std.proofs.Common.{vec_capacity}
 use Rattle.bus_lines.proofs.numbers.TargetNumbers.with_room.Goals as goal
 
 pub invariant_of-result : goal.invariant_of-result

@@ -1,5 +1,5 @@
-use Rattle.std.proofs.Common.{ℕ, ◌+◌, ◌-◌, ◌*◌, ◌^◌, ◌<◌, subst, sym, arith}
-use Rattle.bus_lines.specs.Units.{RegisterView}
+use Rattle.bus_lines.proofs.Cited.{ℕ, ◌+◌, ◌-◌, ◌^◌, ◌<◌, subst, sym, arith, RegisterView}
+use Rattle.std.proofs.Common.{◌*◌}
 use Rattle.tgt_bits.proofs.BitLemmas.{next_fits}
 use Rattle.bus_lines.proofs.register.Register.take.Goals as goal
 

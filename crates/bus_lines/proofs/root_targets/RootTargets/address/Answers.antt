@@ -1,22 +1,11 @@
-use Rattle.std.proofs.Common.{◌≡◌, ℕ, false, ◌&&◌, ◌/◌, ◌<◌, List, map, get_or, [], sym, ap, ◌∙◌, subst, arith}
-use Rattle.std.specs.List.{list_any}
-use Rattle.i2c_spec.specs.Targets.RegsDevice.{is_too_long}
-use Rattle.wire_spec.specs.Wires.{Bit}
-use Rattle.wire_spec.specs.Roots.{where_joined, some_one}
-use Rattle.wire_spec.specs.Calls.{more_edges}
-use Rattle.wire_spec.specs.Sites.{NodeState, NO_ADDRESS, node_table}
-use Rattle.i2c_bits.specs.Wiring.{Rooted}
-use Rattle.bus_lines.specs.declared.edges.Edge.TheVariants.{Enter}
-use Rattle.bus_lines.specs.Away.{whole_on}
-use Rattle.bus_lines.specs.Edges.{acks_enter, address_in, joined_at, slow_at}
-use Rattle.bus_lines.specs.Joins.{joins_by, states_on}
-use Rattle.bus_lines.specs.Known.{known_of, known_on}
-use Rattle.bus_lines.specs.LinesViews.{TargetsView, targets_of}
-use Rattle.bus_lines.specs.Numbers.{AreNumbers, is_among}
-use Rattle.bus_lines.specs.Units.{RegisterView, by_number, shared, some_by, of_those}
+use Rattle.bus_lines.proofs.Cited.{◌≡◌, ℕ, false, ◌&&◌, ◌/◌, ◌<◌, List, map, get_or, [], sym, ap, ◌∙◌, subst, arith, list_any, is_too_long}
+use Rattle.bus_lines.proofs.Cited.{Bit, where_joined, some_one, more_edges, NodeState, NO_ADDRESS, node_table, Rooted, Enter, whole_on}
+use Rattle.bus_lines.proofs.Cited.{acks_enter, address_in, joined_at, slow_at, joins_by, states_on, known_of, known_on, TargetsView}
+use Rattle.bus_lines.proofs.Cited.{targets_of, AreNumbers, is_among, RegisterView, by_number, shared, some_by, of_those}
 use Rattle.bus_lines.proofs.AwayLemmas.{units_away, whole_edge}
 use Rattle.bus_lines.proofs.CalledLemmas.{none_is_slow}
-use Rattle.bus_lines.proofs.EnterLemmas.{mid_are, mid_called, held_none, would_be_slow, would_ack, quick_all, entered_is, acks_is, enter_holds, enter_acks}
+use Rattle.bus_lines.proofs.EnterLemmas.{mid_are, mid_called, held_none, would_be_slow, would_ack, quick_all, entered_is, acks_is}
+use Rattle.bus_lines.proofs.EnterLemmas.{enter_holds, enter_acks}
 use Rattle.bus_lines.proofs.InvariantLemmas.{nodes_fair, seen_as, some_comes}
 use Rattle.bus_lines.proofs.KeptLemmas.{edge_known, edge_kept, fresh_known, fresh_those, fresh_kept, fresh_joined, call_known, call_kept}
 use Rattle.bus_lines.proofs.KnownLemmas.{some_known, any_known}
@@ -37,7 +26,11 @@ invariant_of-self c =
     ∙ ap (λ ms. by_number (known_of ms (joins_by ps (states_on i.bits.items))) 0 i.bits.items) c.at.ensures in
     let kept =
     fresh_kept k ps i.held i.address i.live i.started i.at i.bits.items was ns mid fresh in
-    record { kept = kept; called_room = c.list_joined.ensures.room ∙ c.self.invariant.called_room ∙ sym c.self.invariant.kept.live_room ∙ kept.live_room }
+    record {
+      kept = kept;
+      called_room = c.list_joined.ensures.room ∙ c.self.invariant.called_room ∙ sym c.self.invariant.kept.live_room
+          ∙ kept.live_room;
+    }
 
 pub returns-then-some_slow : goal.returns-then-some_slow
 returns-then-some_slow c =
@@ -193,10 +186,15 @@ invariant_of-self-2 c =
     let kept =
     edge_kept k ps i.held now call.new.live call.new.started i.at told between Enter tt over _ c.as_slice-5.ensures.value
     new e.ensures.targets i.held
-    (enter_holds now.left now.value call.new.live.items call.new.started.items i.at ps (known_on ps told) over between.are.units (known_on ps new) entered
+    (enter_holds now.left now.value call.new.live.items call.new.started.items i.at ps (known_on ps told) over between.are.units
+    (known_on ps new) entered
     i.held between.are.clock
     (held_none nodes_fair k ps i.held i.address i.live i.started i.at bs was.are some)) in
-    record { kept = kept; called_room = c.list_joined.ensures.room ∙ c.self.invariant.called_room ∙ sym c.self.invariant.kept.live_room ∙ sym call.ensures.live_room ∙ kept.live_room }
+    record {
+      kept = kept;
+      called_room = c.list_joined.ensures.room ∙ c.self.invariant.called_room ∙ sym c.self.invariant.kept.live_room
+          ∙ sym call.ensures.live_room ∙ kept.live_room;
+    }
 
 pub returns : goal.returns
 returns c =
@@ -243,7 +241,8 @@ returns c =
     ∙ ap (λ (xs : List (Bit NodeState)). list_any (slow_at xs) ns)
     (fresh_known k ps i.held i.address i.live i.started i.at i.bits.items kept ns mid fresh))
     ∙ none_is_slow mid ns c.as_slice-3.result.now
-    (λ j. ap (λ ms. is_among ms j) c.as_slice-3.ensures.value ∙ c.list_joined.ensures.listed j ∙ ap (λ ms. is_among ms j && joined_at mid j) c.at.ensures)
+    (λ j. ap (λ ms. is_among ms j) c.as_slice-3.ensures.value ∙ c.list_joined.ensures.listed j
+    ∙ ap (λ ms. is_among ms j && joined_at mid j) c.at.ensures)
     none in
     let then_kept = (invariant_of-self-2 c).kept in
     let old = units_away ps i.address.left i.live.items i.started.items i.at bs kept.are.units in
@@ -261,5 +260,6 @@ returns c =
           ∙ acks_is nodes_fair k ps i.held i.address i.live i.started i.at bs kept.are byte low quick (known_on ps told) called
           ∙ ap (λ (v : TargetsView). some_one (would_ack byte) v.bits) c.self.view_is;
       after = seen_as k view c.add_nine.ensures
-          ∙ ap (λ (v : TargetsView). record v { bits = map (where_joined (address_in byte)) v.bits; counts = more_edges 9 v.counts }) c.self.view_is;
+          ∙ ap (λ (v : TargetsView). record v { bits = map (where_joined (address_in byte)) v.bits; counts = more_edges 9 v.counts })
+          c.self.view_is;
     }

@@ -1,12 +1,5 @@
-use Rattle.std.proofs.Common.{◌≡◌, ℕ, zero, suc, Bool, true, false, cond, List, [], ◌∷◌, map, refl, sym, ap, ◌∙◌}
-use Rattle.wire_spec.specs.Wires.{Site, Bit}
-use Rattle.wire_spec.specs.Sites.{NodeState}
-use Rattle.i2c_bits.specs.Wiring.{Rooted}
-use Rattle.bus_lines.specs.Aparts.{apart_of}
-use Rattle.bus_lines.specs.Away.{whole_on}
-use Rattle.bus_lines.specs.Known.{known_on}
-use Rattle.bus_lines.specs.LinesViews.{TargetsView}
-use Rattle.bus_lines.specs.Units.{shared}
+use Rattle.bus_lines.proofs.Cited.{◌≡◌, ℕ, zero, suc, Bool, true, false, cond, List, [], ◌∷◌, map, refl, sym, ap, ◌∙◌, Site, Bit, NodeState}
+use Rattle.bus_lines.proofs.Cited.{Rooted, apart_of, whole_on, known_on, TargetsView, shared}
 use Rattle.bus_lines.proofs.root_targets.RootTargets.apart.Goals as goal
 
 -- what has come of an address byte is nothing to the sites
@@ -19,7 +12,8 @@ shared_site zero v b = refl
 shared_site (suc n) v b = shared_either b.site.joined b _ refl
 
 shared_sites : (left v : ℕ) (bs : List (Bit NodeState))
-    → map {A = Bit NodeState} (λ (b : Bit NodeState). b.site) (map (shared left v) bs) ≡ map {A = Bit NodeState} (λ (b : Bit NodeState). b.site) bs
+    → map {A = Bit NodeState} (λ (b : Bit NodeState). b.site) (map (shared left v) bs) ≡ map {A = Bit NodeState}
+    (λ (b : Bit NodeState). b.site) bs
 shared_sites left v [] = refl
 shared_sites left v (b ∷ bs) = let head = shared_site left v b in let rest = shared_sites left v bs in cc
 

@@ -1,12 +1,5 @@
-use Rattle.std.proofs.Common.{List, map, sym, ap, ◌∙◌}
-use Rattle.wire_spec.specs.Wires.{Bit, fall}
-use Rattle.wire_spec.specs.Roots.{where_joined}
-use Rattle.wire_spec.specs.Sites.{NodeState}
-use Rattle.i2c_bits.specs.Wiring.{Rooted}
-use Rattle.bus_lines.specs.declared.edges.Edge.TheVariants.{Fall}
-use Rattle.bus_lines.specs.Away.{whole_on}
-use Rattle.bus_lines.specs.Known.{known_on}
-use Rattle.bus_lines.specs.LinesViews.{TargetsView, targets_of}
+use Rattle.bus_lines.proofs.Cited.{List, map, sym, ap, ◌∙◌, Bit, fall, where_joined, NodeState, Rooted, Fall, whole_on, known_on}
+use Rattle.bus_lines.proofs.Cited.{TargetsView, targets_of}
 use Rattle.bus_lines.proofs.InvariantLemmas.{falls_coming, none_comes, some_comes}
 use Rattle.bus_lines.proofs.KeptLemmas.{edge_told, edge_seen}
 use Rattle.bus_lines.proofs.root_targets.RootTargets.fall.Goals as goal

@@ -1,13 +1,5 @@
-use Rattle.std.proofs.Common.{map, sym, ap, ◌∙◌}
-use Rattle.wire_spec.specs.Roots.{where_joined, and_all}
-use Rattle.wire_spec.specs.Calls.{more_edges}
-use Rattle.i2c_bits.specs.Wiring.{Rooted}
-use Rattle.bus_lines.specs.declared.edges.Edge.TheVariants.{Get}
-use Rattle.bus_lines.specs.Away.{whole_on}
-use Rattle.bus_lines.specs.Edges.{seen, gives_get}
-use Rattle.bus_lines.specs.Known.{known_on}
-use Rattle.bus_lines.specs.LinesViews.{TargetsView}
-use Rattle.bus_lines.specs.Units.{and_by, given_by}
+use Rattle.bus_lines.proofs.Cited.{map, sym, ap, ◌∙◌, where_joined, and_all, more_edges, Rooted, Get, whole_on, seen, gives_get, known_on}
+use Rattle.bus_lines.proofs.Cited.{TargetsView, and_by, given_by}
 use Rattle.bus_lines.proofs.AwayLemmas.{units_away, whole_given}
 use Rattle.bus_lines.proofs.InvariantLemmas.{seen_as, none_comes, some_comes}
 use Rattle.bus_lines.proofs.KeptLemmas.{edge_known, edge_kept, edge_seen}
@@ -27,8 +19,10 @@ returns-then-is_coming-clause-after c =
     let i = c.self.inside in
     let k : Rooted = record { board = i.board.value; root = i.root } in
     let some = some_comes c.is_coming.result i.address.left c.is_coming.ensures c.if-is_coming.true in
-    seen_as k (gets_coming i.address.left i.address.value c.args.ack (whole_on i.board.value i.places.items (known_on i.places.items i.bits.items)) some) c.add_nine.ensures
-    ∙ ap (λ (v : TargetsView). record v { bits = map (where_joined (seen (Get c.args.ack))) v.bits; counts = more_edges 9 v.counts }) c.self.view_is
+    seen_as k (gets_coming i.address.left i.address.value c.args.ack (whole_on i.board.value i.places.items
+    (known_on i.places.items i.bits.items)) some) c.add_nine.ensures
+    ∙ ap (λ (v : TargetsView). record v { bits = map (where_joined (seen (Get c.args.ack))) v.bits; counts = more_edges 9 v.counts })
+    c.self.view_is
 
 pub invariant_of-self-2 : goal.invariant_of-self-2
 invariant_of-self-2 c =
@@ -73,4 +67,5 @@ returns-clause-after c =
     (none_comes c.is_coming.result i.address.left c.is_coming.ensures c.if-is_coming.false) _ c.as_slice.ensures.value
     given.new.targets.items given.ensures.targets i.held (invariant_of-self-2 c).kept)
     c.add_nine.ensures
-    ∙ ap (λ (v : TargetsView). record v { bits = map (where_joined (seen (Get c.args.ack))) v.bits; counts = more_edges 9 v.counts }) c.self.view_is
+    ∙ ap (λ (v : TargetsView). record v { bits = map (where_joined (seen (Get c.args.ack))) v.bits; counts = more_edges 9 v.counts })
+    c.self.view_is

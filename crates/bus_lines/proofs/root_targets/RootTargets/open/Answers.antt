@@ -1,16 +1,6 @@
-use Rattle.std.proofs.Common.{◌≡◌, ◌++◌, length, map, sym, ap, ◌∙◌, subst}
-use Rattle.std.specs.Prelude.{slice_get}
-use Rattle.i2c_base.specs.Board.{BoardView}
-use Rattle.i2c_board.specs.Layouts.{board_of}
-use Rattle.wire_spec.specs.Bus.{rejoin_from, rejoined}
-use Rattle.wire_spec.specs.Sites.{mask_of}
-use Rattle.i2c_bits.specs.Wiring.{Rooted}
-use Rattle.bus_lines.specs.Joins.{is_chip, kinds_of, joins_by, states_on, places_of, mux_place, device_place}
-use Rattle.bus_lines.specs.LinesViews.{targets_of}
-use Rattle.bus_lines.specs.Numbers.{NumbersView}
-use Rattle.bus_lines.specs.Opens.{bits_of, chip_bit}
-use Rattle.bus_lines.specs.Away.{kept_device, kept_bits, whole_on}
-use Rattle.bus_lines.specs.Units.{RegisterView, shared, IsIndex}
+use Rattle.bus_lines.proofs.Cited.{◌≡◌, ◌++◌, length, map, sym, ap, ◌∙◌, subst, slice_get, BoardView, board_of, rejoin_from, rejoined}
+use Rattle.bus_lines.proofs.Cited.{mask_of, Rooted, is_chip, kinds_of, joins_by, states_on, places_of, mux_place, device_place, targets_of}
+use Rattle.bus_lines.proofs.Cited.{NumbersView, bits_of, chip_bit, kept_device, kept_bits, whole_on, RegisterView, shared, IsIndex}
 use Rattle.bus_lines.proofs.AwayLemmas.{kept_whole, kept_kinds, whole_rejoined}
 use Rattle.bus_lines.proofs.FirstLemmas.{opened_loose}
 use Rattle.bus_lines.proofs.InvariantLemmas.{rejoined_are, seen_as}
@@ -28,7 +18,8 @@ invariant_of-result c =
     ∙ ap (λ ps. ps ++ map (device_place b r) b.devices)
     (c.in_ok-add_mux_places.ensures ∙ ap (λ ps. ps ++ map (mux_place b r) b.muxes) c.new-places.ensures.items) in
     let bits : bs ≡ kept_bits b r = c.in_ok-add_devices.ensures
-    ∙ ap (λ xs. xs ++ map (kept_device b r) b.devices) (c.in_ok-add_chips.ensures ∙ ap (λ xs. xs ++ map chip_bit b.muxes) c.new-bits.ensures.items) in
+    ∙ ap (λ xs. xs ++ map (kept_device b r) b.devices) (c.in_ok-add_chips.ensures
+    ∙ ap (λ xs. xs ++ map chip_bit b.muxes) c.new-bits.ensures.items) in
     let k : Rooted = record { board = c.of-2.result.value; root = r } in
     let slice = c.as_slice.ensures.value in
     let count = ap length slice in
@@ -64,7 +55,8 @@ returns c =
     ∙ ap (λ ps. ps ++ map (device_place b r) b.devices)
     (c.in_ok-add_mux_places.ensures ∙ ap (λ ps. ps ++ map (mux_place b r) b.muxes) c.new-places.ensures.items) in
     let bits : bs ≡ kept_bits b r = c.in_ok-add_devices.ensures
-    ∙ ap (λ xs. xs ++ map (kept_device b r) b.devices) (c.in_ok-add_chips.ensures ∙ ap (λ xs. xs ++ map chip_bit b.muxes) c.new-bits.ensures.items) in
+    ∙ ap (λ xs. xs ++ map (kept_device b r) b.devices) (c.in_ok-add_chips.ensures
+    ∙ ap (λ xs. xs ++ map chip_bit b.muxes) c.new-bits.ensures.items) in
     let k : Rooted = record { board = c.of-2.result.value; root = r } in
     let ps = c.add_device_places.new.places.items in
     let at_it = places ∙ ap (λ (x : BoardView). places_of x r) same in
@@ -74,8 +66,10 @@ returns c =
     ∙ whole_rejoined k ps at_it bs (ap (λ xs. map is_chip (states_on xs)) bits ∙ kept_kinds b r ∙ ap kinds_of same) c.none.result
     (ap (λ (x : RegisterView). x.left) c.none.ensures) c.rejoin-held.new.targets.items anew
     ∙ ap (λ xs. rejoined (mask_of c.of-2.result.value r) xs)
-    (ap (λ qs. whole_on c.of-2.result.value qs bs) at_it ∙ ap (whole_on c.of-2.result.value (places_of c.of-2.result.value r)) (bits ∙ ap (λ (x : BoardView). kept_bits x r) same)
+    (ap (λ qs. whole_on c.of-2.result.value qs bs) at_it ∙ ap (whole_on c.of-2.result.value (places_of c.of-2.result.value r))
+    (bits ∙ ap (λ (x : BoardView). kept_bits x r) same)
     ∙ kept_whole c.of-2.result.value r) in
     seen_as k view c.none-2.ensures
-    ∙ ap (λ (x : BoardView). targets_of (record { board = x; root = r }) (rejoined (mask_of x r) (bits_of x)) (record { edges = 0; flips = 0 }))
+    ∙ ap (λ (x : BoardView). targets_of (record { board = x; root = r }) (rejoined (mask_of x r) (bits_of x))
+    (record { edges = 0; flips = 0 }))
     c.of-2.ensures

@@ -1,13 +1,8 @@
-use Rattle.std.proofs.Common.{◌≡◌, false, List, sym, ap, ◌∙◌}
+use Rattle.bus_lines.proofs.Cited.{◌≡◌, false, List, sym, ap, ◌∙◌, list_any, Bit, some_one, pulls_line, NodeState, node_table, whole_on}
+use Rattle.bus_lines.proofs.Cited.{known_on, TargetsView}
 use Rattle.std.specs.Prelude.{◌&&◌}
-use Rattle.std.specs.List.{list_any}
-use Rattle.wire_spec.specs.Wires.{Bit, pulls}
-use Rattle.wire_spec.specs.Roots.{some_one, pulls_line}
-use Rattle.wire_spec.specs.Sites.{NodeState, node_table}
-use Rattle.bus_lines.specs.Away.{whole_on}
+use Rattle.wire_spec.specs.Wires.{pulls}
 use Rattle.bus_lines.specs.Edges.{pulls_at}
-use Rattle.bus_lines.specs.Known.{known_on}
-use Rattle.bus_lines.specs.LinesViews.{TargetsView}
 use Rattle.bus_lines.proofs.AwayLemmas.{units_away, whole_some}
 use Rattle.bus_lines.proofs.InvariantLemmas.{none_comes, some_comes, pulls_coming}
 use Rattle.bus_lines.proofs.KnownLemmas.{any_known}

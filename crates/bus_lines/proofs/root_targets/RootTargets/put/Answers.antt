@@ -1,13 +1,5 @@
-use Rattle.std.proofs.Common.{map, sym, ap, ◌∙◌}
-use Rattle.wire_spec.specs.Roots.{where_joined, some_one}
-use Rattle.wire_spec.specs.Calls.{more_edges}
-use Rattle.i2c_bits.specs.Wiring.{Rooted}
-use Rattle.bus_lines.specs.declared.edges.Edge.TheVariants.{Put}
-use Rattle.bus_lines.specs.Away.{whole_on}
-use Rattle.bus_lines.specs.Edges.{seen, acks_put}
-use Rattle.bus_lines.specs.Known.{known_on}
-use Rattle.bus_lines.specs.LinesViews.{TargetsView}
-use Rattle.bus_lines.specs.Units.{some_by, of_those}
+use Rattle.bus_lines.proofs.Cited.{map, sym, ap, ◌∙◌, where_joined, some_one, more_edges, Rooted, Put, whole_on, seen, acks_put, known_on}
+use Rattle.bus_lines.proofs.Cited.{TargetsView, some_by, of_those}
 use Rattle.bus_lines.proofs.AwayLemmas.{units_away, whole_some}
 use Rattle.bus_lines.proofs.InvariantLemmas.{seen_as, none_comes, some_comes}
 use Rattle.bus_lines.proofs.KeptLemmas.{edge_known, edge_kept, edge_seen}
@@ -19,7 +11,8 @@ pub returns-then-is_coming-clause-acked : goal.returns-then-is_coming-clause-ack
 returns-then-is_coming-clause-acked c =
     let i = c.self.inside in
     let some = some_comes c.is_coming.result i.address.left c.is_coming.ensures c.if-is_coming.true in
-    sym (acks_coming i.address.left i.address.value c.args.byte (whole_on i.board.value i.places.items (known_on i.places.items i.bits.items)) some)
+    sym (acks_coming i.address.left i.address.value c.args.byte (whole_on i.board.value i.places.items
+    (known_on i.places.items i.bits.items)) some)
     ∙ ap (λ (v : TargetsView). some_one (acks_put c.args.byte) v.bits) c.self.view_is
 
 pub returns-then-is_coming-clause-after : goal.returns-then-is_coming-clause-after
@@ -27,8 +20,10 @@ returns-then-is_coming-clause-after c =
     let i = c.self.inside in
     let k : Rooted = record { board = i.board.value; root = i.root } in
     let some = some_comes c.is_coming.result i.address.left c.is_coming.ensures c.if-is_coming.true in
-    seen_as k (puts_coming i.address.left i.address.value c.args.byte (whole_on i.board.value i.places.items (known_on i.places.items i.bits.items)) some) c.add_nine.ensures
-    ∙ ap (λ (v : TargetsView). record v { bits = map (where_joined (seen (Put c.args.byte))) v.bits; counts = more_edges 9 v.counts }) c.self.view_is
+    seen_as k (puts_coming i.address.left i.address.value c.args.byte (whole_on i.board.value i.places.items
+    (known_on i.places.items i.bits.items)) some) c.add_nine.ensures
+    ∙ ap (λ (v : TargetsView). record v { bits = map (where_joined (seen (Put c.args.byte))) v.bits; counts = more_edges 9 v.counts })
+    c.self.view_is
 
 pub invariant_of-self-2 : goal.invariant_of-self-2
 invariant_of-self-2 c =
@@ -72,4 +67,5 @@ returns-clause-after c =
     (none_comes c.is_coming.result i.address.left c.is_coming.ensures c.if-is_coming.false) _ c.as_slice.ensures.value
     c.put_all.new.targets.items c.put_all.ensures.targets i.held (invariant_of-self-2 c).kept)
     c.add_nine.ensures
-    ∙ ap (λ (v : TargetsView). record v { bits = map (where_joined (seen (Put c.args.byte))) v.bits; counts = more_edges 9 v.counts }) c.self.view_is
+    ∙ ap (λ (v : TargetsView). record v { bits = map (where_joined (seen (Put c.args.byte))) v.bits; counts = more_edges 9 v.counts })
+    c.self.view_is

@@ -1,17 +1,9 @@
-use Rattle.std.proofs.Common.{◌≡◌, ℕ, ◌<◌, ◌/◌, Some, None, [], get_or, map, sym, ap, ◌∙◌, arith}
-use Rattle.wire_spec.specs.Wires.{rise, shifted}
-use Rattle.wire_spec.specs.Roots.{where_joined, some_one}
-use Rattle.wire_spec.specs.Bus.{one_edge, holds_line}
-use Rattle.wire_spec.specs.Sites.{NO_ADDRESS, node_table}
-use Rattle.i2c_bits.specs.Wiring.{Rooted}
-use Rattle.bus_lines.specs.declared.edges.Edge.TheVariants.{Rise}
-use Rattle.bus_lines.specs.Away.{whole_on}
-use Rattle.bus_lines.specs.Joins.{joins_by, states_on}
-use Rattle.bus_lines.specs.Known.{known_of, known_on}
-use Rattle.bus_lines.specs.LinesViews.{TargetsView}
-use Rattle.bus_lines.specs.Units.{RegisterView, by_number}
+use Rattle.bus_lines.proofs.Cited.{◌≡◌, ℕ, ◌<◌, ◌/◌, Some, None, [], get_or, map, sym, ap, ◌∙◌, arith, rise, shifted, where_joined}
+use Rattle.bus_lines.proofs.Cited.{some_one, one_edge, holds_line, NO_ADDRESS, node_table, Rooted, Rise, whole_on, joins_by, states_on}
+use Rattle.bus_lines.proofs.Cited.{known_of, known_on, TargetsView, RegisterView, by_number}
 use Rattle.bus_lines.proofs.AwayLemmas.{units_away, whole_edge}
-use Rattle.bus_lines.proofs.InvariantLemmas.{seen_as, coming_are, rises_coming, called_are, called_view, none_comes, some_comes, last_comes, more_comes}
+use Rattle.bus_lines.proofs.InvariantLemmas.{seen_as, coming_are, rises_coming, called_are, called_view, none_comes, some_comes, last_comes}
+use Rattle.bus_lines.proofs.InvariantLemmas.{more_comes}
 use Rattle.bus_lines.proofs.KeptLemmas.{edge_known, edge_kept, edge_seen, fresh_kept, fresh_joined, call_known, call_kept, kept_with}
 use Rattle.bus_lines.proofs.RiseLemmas.{held_as, risen_holds}
 use Rattle.bus_lines.proofs.root_targets.RootTargets.rise.Goals as goal
@@ -52,7 +44,11 @@ returns-then-not-is_coming c =
     (none_comes c.is_coming.result i.address.left c.is_coming.ensures c.if-not-is_coming.true) _ c.as_slice.ensures.value
     c.tell.new.targets.items c.tell.ensures.targets i.held (invariant_of-self c).kept)
     c.add_edge.ensures
-    ∙ ap (λ (v : TargetsView). record v { bits = map (where_joined (λ b. rise node_table b c.args.level)) v.bits; counts = one_edge v.counts })
+    ∙ ap (λ (v : TargetsView). record v {
+      bits = map (where_joined (λ b. rise node_table b c.args.level)) v.bits;
+      counts =
+          one_edge v.counts;
+    })
     c.self.view_is
 
 pub call-requires-clause-index : goal.call-requires-clause-index
@@ -62,7 +58,8 @@ call-requires-clause-index c =
     let kept = fresh_kept k i.places.items i.held i.address i.live i.started i.at i.bits.items c.self.invariant.kept c.at.result.now
     c.list_joined.new.bits.items
     (c.list_joined.ensures.bits
-    ∙ ap (λ qs. by_number (known_of c.at.result.now (joins_by qs (states_on i.bits.items))) 0 i.bits.items) c.as_slice-in-Some.ensures.value) in
+    ∙ ap (λ qs. by_number (known_of c.at.result.now (joins_by qs (states_on i.bits.items))) 0 i.bits.items)
+    c.as_slice-in-Some.ensures.value) in
     kept.index
 
 pub call-requires-clause-live : goal.call-requires-clause-live
@@ -72,7 +69,8 @@ call-requires-clause-live c =
     let kept = fresh_kept k i.places.items i.held i.address i.live i.started i.at i.bits.items c.self.invariant.kept c.at.result.now
     c.list_joined.new.bits.items
     (c.list_joined.ensures.bits
-    ∙ ap (λ qs. by_number (known_of c.at.result.now (joins_by qs (states_on i.bits.items))) 0 i.bits.items) c.as_slice-in-Some.ensures.value) in
+    ∙ ap (λ qs. by_number (known_of c.at.result.now (joins_by qs (states_on i.bits.items))) 0 i.bits.items)
+    c.as_slice-in-Some.ensures.value) in
     kept.live_room
 
 pub call-requires-clause-started : goal.call-requires-clause-started
@@ -82,7 +80,8 @@ call-requires-clause-started c =
     let kept = fresh_kept k i.places.items i.held i.address i.live i.started i.at i.bits.items c.self.invariant.kept c.at.result.now
     c.list_joined.new.bits.items
     (c.list_joined.ensures.bits
-    ∙ ap (λ qs. by_number (known_of c.at.result.now (joins_by qs (states_on i.bits.items))) 0 i.bits.items) c.as_slice-in-Some.ensures.value) in
+    ∙ ap (λ qs. by_number (known_of c.at.result.now (joins_by qs (states_on i.bits.items))) 0 i.bits.items)
+    c.as_slice-in-Some.ensures.value) in
     kept.started_room
 
 pub invariant_of-self-in-Some : goal.invariant_of-self-in-Some
@@ -110,13 +109,19 @@ invariant_of-self-in-Some c =
     call.ensures.live call.ensures.started c.in-Some.byte new call.ensures.bits c.take.new.self
     (called_are k ps i.held i.address i.live i.started i.at (known_on ps i.bits.items) was.are last c.args.level c.in-Some.byte byte low
     c.take.new.self over call.new.live call.new.started (known_on ps new)
-    (fresh_joined k ps i.held i.address i.live i.started i.at i.bits.items was ns mid fresh i.live.items call.new.live.items call.ensures.live)
-    (fresh_joined k ps i.held i.address i.live i.started i.at i.bits.items was ns mid fresh i.started.items call.new.started.items call.ensures.started)
+    (fresh_joined k ps i.held i.address i.live i.started i.at i.bits.items was ns mid fresh i.live.items call.new.live.items
+    call.ensures.live)
+    (fresh_joined k ps i.held i.address i.live i.started i.at i.bits.items was ns mid fresh i.started.items call.new.started.items
+    call.ensures.started)
     (call_known k ps i.held i.address i.live i.started i.at i.bits.items was ns mid fresh call.new.live call.new.started
     call.ensures.live call.ensures.started c.in-Some.byte new call.ensures.bits)
     call.ensures.live_room call.ensures.started_room)
     call.ensures.live_room call.ensures.started_room in
-    record { kept = kept; called_room = c.list_joined.ensures.room ∙ c.self.invariant.called_room ∙ sym c.self.invariant.kept.live_room ∙ sym call.ensures.live_room ∙ kept.live_room }
+    record {
+      kept = kept;
+      called_room = c.list_joined.ensures.room ∙ c.self.invariant.called_room ∙ sym c.self.invariant.kept.live_room
+          ∙ sym call.ensures.live_room ∙ kept.live_room;
+    }
 
 pub returns-in-Some : goal.returns-in-Some
 returns-in-Some c =
@@ -143,15 +148,22 @@ returns-in-Some c =
     let old = units_away ps i.address.left i.live.items i.started.items i.at bs kept.are.units in
     let then_kept = (invariant_of-self-in-Some c).kept in
     let gone = units_away ps now.left call.new.live.items call.new.started.items i.at (known_on ps new) then_kept.are.units in
-    let view = whole_edge i.board.value ps (λ b. rise node_table b c.args.level) i.address.left i.address.value now.left now.value bs (known_on ps new) old gone
+    let view = whole_edge i.board.value ps (λ b. rise node_table b c.args.level) i.address.left i.address.value now.left now.value bs
+    (known_on ps new) old gone
     (called_view k ps i.held i.address i.live i.started i.at bs kept.are last c.args.level c.in-Some.byte byte low now over
     call.new.live call.new.started (known_on ps new)
-    (fresh_joined k ps i.held i.address i.live i.started i.at i.bits.items kept ns mid fresh i.live.items call.new.live.items call.ensures.live)
-    (fresh_joined k ps i.held i.address i.live i.started i.at i.bits.items kept ns mid fresh i.started.items call.new.started.items call.ensures.started)
+    (fresh_joined k ps i.held i.address i.live i.started i.at i.bits.items kept ns mid fresh i.live.items call.new.live.items
+    call.ensures.live)
+    (fresh_joined k ps i.held i.address i.live i.started i.at i.bits.items kept ns mid fresh i.started.items call.new.started.items
+    call.ensures.started)
     (call_known k ps i.held i.address i.live i.started i.at i.bits.items kept ns mid fresh call.new.live call.new.started
     call.ensures.live call.ensures.started c.in-Some.byte new call.ensures.bits)) in
     seen_as k view c.add_edge.ensures
-    ∙ ap (λ (v : TargetsView). record v { bits = map (where_joined (λ b. rise node_table b c.args.level)) v.bits; counts = one_edge v.counts })
+    ∙ ap (λ (v : TargetsView). record v {
+      bits = map (where_joined (λ b. rise node_table b c.args.level)) v.bits;
+      counts =
+          one_edge v.counts;
+    })
     c.self.view_is
 
 pub invariant_of-self-in_default : goal.invariant_of-self-in_default
@@ -176,8 +188,13 @@ returns-in_default c =
     let more = more_comes i.address.left some (λ last. c.in_default.not-Some _ (c.take.ensures.last last)) in
     let ps = i.places.items in
     seen_as k
-    (rises_coming more.0 i.address.value c.args.level i.address.left c.take.new.self (whole_on i.board.value ps (known_on ps i.bits.items)) more.1
+    (rises_coming more.0 i.address.value c.args.level i.address.left c.take.new.self (whole_on i.board.value ps
+    (known_on ps i.bits.items)) more.1
     c.take.ensures.value)
     c.add_edge.ensures
-    ∙ ap (λ (v : TargetsView). record v { bits = map (where_joined (λ b. rise node_table b c.args.level)) v.bits; counts = one_edge v.counts })
+    ∙ ap (λ (v : TargetsView). record v {
+      bits = map (where_joined (λ b. rise node_table b c.args.level)) v.bits;
+      counts =
+          one_edge v.counts;
+    })
     c.self.view_is

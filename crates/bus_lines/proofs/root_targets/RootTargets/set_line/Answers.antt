@@ -1,13 +1,5 @@
-use Rattle.std.proofs.Common.{◌≡◌, List, map, sym, ap, ◌∙◌, subst}
-use Rattle.wire_spec.specs.Wires.{Bit}
-use Rattle.wire_spec.specs.Bus.{rejoin_from, rejoined}
-use Rattle.wire_spec.specs.Sites.{NodeState, mask_of}
-use Rattle.i2c_bits.specs.Wiring.{Rooted, levelled_bits}
-use Rattle.bus_lines.specs.Away.{whole_on}
-use Rattle.bus_lines.specs.Joins.{joins_by, states_on}
-use Rattle.bus_lines.specs.Known.{known_on}
-use Rattle.bus_lines.specs.LinesViews.{AreTargets, TargetsView, targets_of}
-use Rattle.bus_lines.specs.Units.{shared}
+use Rattle.bus_lines.proofs.Cited.{◌≡◌, List, map, sym, ap, ◌∙◌, subst, Bit, rejoin_from, rejoined, NodeState, mask_of, Rooted}
+use Rattle.bus_lines.proofs.Cited.{levelled_bits, whole_on, joins_by, states_on, known_on, AreTargets, TargetsView, targets_of, shared}
 use Rattle.bus_lines.proofs.AwayLemmas.{units_away, whole_line, whole_rejoined}
 use Rattle.bus_lines.proofs.InvariantLemmas.{line_count, line_kinds, line_loose, line_seen, line_index, rejoined_are}
 use Rattle.bus_lines.proofs.KeptLemmas.{kept_anew}
@@ -43,7 +35,11 @@ invariant_of-self c =
     s.ensures.live s.ensures.started mid bs c.args.mux c.args.level s.ensures.bits c.set_level.ensures)
     j.result j.ensures.held)
     (anew_is_known ps bs j.new.targets.items anew) in
-    record { kept = kept; called_room = c.self.invariant.called_room ∙ sym c.self.invariant.kept.live_room ∙ sym s.ensures.live_room ∙ kept.live_room }
+    record {
+      kept = kept;
+      called_room = c.self.invariant.called_room ∙ sym c.self.invariant.kept.live_room ∙ sym s.ensures.live_room
+          ∙ kept.live_room;
+    }
 
 pub returns : goal.returns
 returns c =
@@ -62,7 +58,8 @@ returns c =
     let kinds = line_kinds k ps i.held i.address i.live i.started i.at all are s.new.live s.new.started
     s.ensures.live s.ensures.started mid bs c.args.mux c.args.level s.ensures.bits c.set_level.ensures in
     let old = units_away ps i.address.left i.live.items i.started.items i.at all are.units in
-    let view = ap (λ xs. map (shared s.new.address.left s.new.address.value) (whole_on i.board.value ps xs)) (anew_is_known ps bs j.new.targets.items anew)
+    let view = ap (λ xs. map (shared s.new.address.left s.new.address.value) (whole_on i.board.value ps xs))
+    (anew_is_known ps bs j.new.targets.items anew)
     ∙ whole_rejoined k ps kept.are.places bs kinds s.new.address s.ensures.address j.new.targets.items anew
     ∙ ap (λ (xs : List (Bit NodeState)). rejoined (mask_of i.board.value i.root) xs)
     (whole_line i.board.value ps c.args.mux c.args.level i.address.left i.address.value all bs old
@@ -71,5 +68,8 @@ returns c =
     ∙ ap (λ (xs : List (Bit NodeState)). rejoined (mask_of i.board.value i.root)
     (levelled_bits c.args.mux c.args.level (map (shared i.address.left i.address.value) (whole_on i.board.value ps xs)))) known in
     ap (λ (xs : List (Bit NodeState)). targets_of k xs i.counter) view
-    ∙ ap (λ (v : TargetsView). record v { bits = rejoined (mask_of v.rooted.board v.rooted.root) (levelled_bits c.args.mux c.args.level v.bits) })
+    ∙ ap (λ (v : TargetsView). record v {
+      bits = rejoined (mask_of v.rooted.board v.rooted.root)
+          (levelled_bits c.args.mux c.args.level v.bits);
+    })
     c.self.view_is

@@ -1,10 +1,4 @@
-use Rattle.std.proofs.Common.{false, map, refl, sym, ap, ◌∙◌}
-use Rattle.wire_spec.specs.Wires.{begin}
-use Rattle.wire_spec.specs.Roots.{where_joined}
-use Rattle.wire_spec.specs.Bus.{one_flip}
-use Rattle.i2c_bits.specs.Wiring.{Rooted}
-use Rattle.bus_lines.specs.LinesViews.{TargetsView}
-use Rattle.bus_lines.specs.Numbers.{NumbersView}
+use Rattle.bus_lines.proofs.Cited.{false, map, refl, sym, ap, ◌∙◌, begin, where_joined, one_flip, Rooted, TargetsView, NumbersView}
 use Rattle.bus_lines.proofs.InvariantLemmas.{seen_as}
 use Rattle.bus_lines.proofs.KeptLemmas.{begin_kept, begin_seen}
 use Rattle.bus_lines.proofs.root_targets.RootTargets.start_condition.Goals as goal
@@ -15,8 +9,13 @@ invariant_of-self c =
     let l = c.leave in
     let kept =
     begin_kept (record { board = i.board.value; root = i.root }) i.places.items i.held i.address i.live i.started i.at i.bits.items
-    c.self.invariant.kept l.new.bits.items l.new.live l.ensures.live l.ensures.bits c.whole-self-inside.result c.whole-self-inside.ensures false refl in
-    record { kept = kept; called_room = c.self.invariant.called_room ∙ sym c.self.invariant.kept.live_room ∙ sym (ap (λ (v : NumbersView). v.room) l.ensures.live) ∙ kept.live_room }
+    c.self.invariant.kept l.new.bits.items l.new.live l.ensures.live l.ensures.bits c.whole-self-inside.result c.whole-self-inside.ensures
+    false refl in
+    record {
+      kept = kept;
+      called_room = c.self.invariant.called_room ∙ sym c.self.invariant.kept.live_room
+          ∙ sym (ap (λ (v : NumbersView). v.room) l.ensures.live) ∙ kept.live_room;
+    }
 
 pub returns : goal.returns
 returns c =

@@ -1,13 +1,5 @@
-use Rattle.std.proofs.Common.{false, map, refl, sym, ap, ◌∙◌}
-use Rattle.wire_spec.specs.Wires.{finish}
-use Rattle.wire_spec.specs.Roots.{where_joined}
-use Rattle.wire_spec.specs.Bus.{one_flip, rejoin_from, rejoined}
-use Rattle.wire_spec.specs.Sites.{node_table, mask_of}
-use Rattle.i2c_bits.specs.Wiring.{Rooted}
-use Rattle.bus_lines.specs.Joins.{joins_by, states_on}
-use Rattle.bus_lines.specs.LinesViews.{TargetsView}
-use Rattle.bus_lines.specs.Numbers.{NumbersView}
-use Rattle.bus_lines.specs.Units.{RegisterView}
+use Rattle.bus_lines.proofs.Cited.{false, map, refl, sym, ap, ◌∙◌, finish, where_joined, one_flip, rejoin_from, rejoined, node_table}
+use Rattle.bus_lines.proofs.Cited.{mask_of, Rooted, joins_by, states_on, TargetsView, NumbersView, RegisterView}
 use Rattle.bus_lines.proofs.InvariantLemmas.{seen_as}
 use Rattle.bus_lines.proofs.KeptLemmas.{missed_kept, missed_seen, reached_kept, reached_seen}
 use Rattle.bus_lines.proofs.root_targets.RootTargets.stop_condition.Goals as goal
@@ -20,8 +12,13 @@ invariant_of-self c =
     let kept =
     reached_kept k i.places.items i.held i.address i.live i.started i.at i.bits.items c.self.invariant.kept
     s.new.live s.new.started s.ensures.live s.ensures.started s.new.bits.items s.ensures.bits
-    c.none-self-inside.result (ap (λ (r : RegisterView). r.left) c.none-self-inside.ensures) (sym s.ensures.result ∙ c.if-stop.true) false refl in
-    record { kept = kept; called_room = c.self.invariant.called_room ∙ sym c.self.invariant.kept.live_room ∙ sym (ap (λ (v : NumbersView). v.room) s.ensures.live) ∙ kept.live_room }
+    c.none-self-inside.result (ap (λ (r : RegisterView). r.left) c.none-self-inside.ensures)
+    (sym s.ensures.result ∙ c.if-stop.true) false refl in
+    record {
+      kept = kept;
+      called_room = c.self.invariant.called_room ∙ sym c.self.invariant.kept.live_room
+          ∙ sym (ap (λ (v : NumbersView). v.room) s.ensures.live) ∙ kept.live_room;
+    }
 
 pub invariant_of-self-else-stop : goal.invariant_of-self-else-stop
 invariant_of-self-else-stop c =
@@ -35,7 +32,11 @@ invariant_of-self-else-stop c =
     c.none-self-inside.result (ap (λ (r : RegisterView). r.left) c.none-self-inside.ensures) j.new.targets.items
     (j.ensures.targets ∙ ap (λ qs. rejoin_from (joins_by qs (states_on s.new.bits.items)) 0 s.new.bits.items) c.as_slice.ensures.value)
     j.result j.ensures.held in
-    record { kept = kept; called_room = c.self.invariant.called_room ∙ sym c.self.invariant.kept.live_room ∙ sym (ap (λ (v : NumbersView). v.room) s.ensures.live) ∙ kept.live_room }
+    record {
+      kept = kept;
+      called_room = c.self.invariant.called_room ∙ sym c.self.invariant.kept.live_room
+          ∙ sym (ap (λ (v : NumbersView). v.room) s.ensures.live) ∙ kept.live_room;
+    }
 
 pub returns-then-stop : goal.returns-then-stop
 returns-then-stop c =

@@ -1,8 +1,4 @@
-use Rattle.std.proofs.Common.{◌≡◌, ◌<◌, length, sym, ◌∙◌, ap, subst}
-use Rattle.std.specs.Prelude.{take, sum_by}
-use Rattle.i2c_base.specs.Transfer.{written_of}
-use Rattle.bus_message.specs.Sends.{call_message}
-use Rattle.bus_message.specs.Cursors.{CursorView}
+use Rattle.bus_message.proofs.Cited.{◌≡◌, ◌<◌, length, sym, ◌∙◌, ap, subst, take, sum_by, written_of, call_message, CursorView}
 use Rattle.bus_message.proofs.PartwayLemmas.{message_here}
 use Rattle.bus_message.proofs.cursor.TransferCursor.message.Goals as goal
 

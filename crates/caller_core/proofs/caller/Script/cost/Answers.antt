@@ -1,6 +1,4 @@
-use Rattle.std.proofs.Common.{ap, ◌∙◌}
-use Rattle.caller_core.specs.Scripts.{cost_of_script}
-use Rattle.caller_core.specs.View.{CallerView}
+use Rattle.caller_core.proofs.Cited.{ap, ◌∙◌, cost_of_script, CallerView}
 use Rattle.caller_core.proofs.caller.Script.cost.Goals as goal
 
 pub returns-clause-value : goal.returns-clause-value

@@ -1,16 +1,7 @@
-use Rattle.std.proofs.Common.{◌≡◌, ℕ, ◌+◌, List, [], ◌++◌, arith, ap, sym, subst, ◌∙◌}
+use Rattle.caller_core.proofs.Cited.{◌≡◌, ℕ, ◌+◌, List, [], ◌++◌, arith, ap, sym, subst, ◌∙◌, BoardView, cost_of, PackedView, ReplyHead}
+use Rattle.caller_core.proofs.Cited.{IsCaller, KeptReply, Reach, sum_of, quiet_front, IsAt, HasRoots, commands_in, HasReach, commands_of}
+use Rattle.caller_core.proofs.Cited.{commands_or_none, text_read, quiet_text, CommandView, ScriptView}
 use Rattle.std.specs.List.{sum_by}
-use Rattle.i2c_base.specs.Board.{BoardView}
-use Rattle.i2c_spec.specs.Cost.{cost_of}
-use Rattle.packed.specs.View.{PackedView}
-use Rattle.i2c_base.specs.declared.reply.ReplyHead.{ReplyHead}
-use Rattle.caller_core.specs.Kept.{IsCaller, KeptReply}
-use Rattle.caller_core.specs.declared.reach.Reach.{Reach}
-use Rattle.caller_core.specs.Turns.{sum_of, quiet_front, IsAt}
-use Rattle.caller_core.specs.Roots.{HasRoots}
-use Rattle.caller_core.specs.Reach.{commands_in, HasReach}
-use Rattle.caller_core.specs.Scripts.{commands_of, commands_or_none, text_read, quiet_text}
-use Rattle.caller_core.specs.View.{CommandView, ScriptView}
 use Rattle.caller_core.proofs.ScriptLemmas.{few_commands}
 use Rattle.caller_core.proofs.PlaceLemmas.{at_first}
 use Rattle.caller_core.proofs.caller.Script.open.Goals as goal

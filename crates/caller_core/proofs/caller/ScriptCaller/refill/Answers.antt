@@ -1,9 +1,5 @@
-use Rattle.std.proofs.Common.{◌≡◌, Some, sym, ap, ◌∙◌, arith}
-use Rattle.std.specs.Prelude.{slice_get}
-use Rattle.tools.specs.Replies.{replies_of}
-use Rattle.caller_core.specs.Turns.{progress, asked_at}
-use Rattle.caller_core.specs.Scripts.{asked_by}
-use Rattle.caller_core.specs.View.{CommandView, CallerView}
+use Rattle.caller_core.proofs.Cited.{◌≡◌, Some, sym, ap, ◌∙◌, arith, slice_get, replies_of, progress, asked_at, asked_by, CommandView}
+use Rattle.caller_core.proofs.Cited.{CallerView}
 use Rattle.caller_core.proofs.PlaceLemmas.{asks}
 use Rattle.caller_core.proofs.TakeLemmas.{at_place}
 use Rattle.caller_core.proofs.caller.ScriptCaller.refill.Goals as goal

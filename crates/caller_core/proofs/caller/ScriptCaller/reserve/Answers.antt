@@ -1,8 +1,5 @@
-use Rattle.std.proofs.Common.{◌≡◌, ℕ, ◌≤◌, true, List, [], drop, refl, sym, subst, ◌∙◌}
-use Rattle.std.specs.Prelude.{sum_by}
-use Rattle.caller_core.specs.Kept.{IsCaller, HasRoom, KeptReply}
-use Rattle.caller_core.specs.Scripts.{room_of}
-use Rattle.caller_core.specs.View.{ScriptView}
+use Rattle.caller_core.proofs.Cited.{◌≡◌, ℕ, ◌≤◌, true, List, [], drop, refl, sym, subst, ◌∙◌, sum_by, IsCaller, HasRoom, KeptReply}
+use Rattle.caller_core.proofs.Cited.{room_of, ScriptView}
 use Rattle.caller_core.proofs.TakeLemmas.{covered, room_at_first, within_some}
 use Rattle.caller_core.proofs.caller.ScriptCaller.reserve.Goals as goal
 use Rattle.caller_core.proofs.caller.ScriptCaller.reserve.Goals.{After-make_room}

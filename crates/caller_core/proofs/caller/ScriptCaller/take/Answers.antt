@@ -1,17 +1,10 @@
-use Rattle.std.proofs.Common.{◌≡◌, ℕ, ◌+◌, ◌<◌, ◌≤◌, true, false, sym, List, ◌++◌, length, drop, Some, arith, ap, refl, ◌∙◌}
-use Rattle.std.specs.Prelude.{slice_get, sum_by}
+use Rattle.caller_core.proofs.Cited.{◌≡◌, ℕ, ◌+◌, ◌<◌, ◌≤◌, true, false, sym, List, ◌++◌, length, drop, Some, arith, ap, refl, ◌∙◌}
+use Rattle.caller_core.proofs.Cited.{slice_get, sum_by, Reply, reply_by, AreReplies, next_place, replies_of, TextView, IsCaller, HasRoom}
+use Rattle.caller_core.proofs.Cited.{command_text, quiet_text, room_of, command_talk, quiet_front, CommandView, ScriptView}
 use Rattle.std.proofs.Math.Seq.{drop-drop}
-use Rattle.i2c_base.specs.declared.reply.Reply.{Reply}
-use Rattle.i2c_base.specs.Replies.{reply_by}
-use Rattle.tools.specs.Dialogues.{AreReplies, next_place}
-use Rattle.tools.specs.Replies.{replies_of}
-use Rattle.tools.specs.View.{TextView}
-use Rattle.caller_core.specs.Kept.{IsCaller, HasRoom}
-use Rattle.caller_core.specs.Scripts.{command_text, quiet_text, room_of}
-use Rattle.caller_core.specs.Turns.{command_talk, quiet_front}
-use Rattle.caller_core.specs.View.{CommandView, ScriptView}
 use Rattle.caller_core.proofs.QuietLemmas.{front_parts, sum_there}
-use Rattle.caller_core.proofs.TakeLemmas.{IsTaking, given_by, at_place, taking, ready_to_take, has_place, has_room, replies_so, stays_so, stays_room, goes_on, goes_room, covered}
+use Rattle.caller_core.proofs.TakeLemmas.{IsTaking, given_by, at_place, taking, ready_to_take, has_place, has_room, replies_so, stays_so}
+use Rattle.caller_core.proofs.TakeLemmas.{stays_room, goes_on, goes_room, covered}
 use Rattle.caller_core.proofs.caller.ScriptCaller.take.Goals as goal
 use Rattle.caller_core.proofs.caller.ScriptCaller.take.Goals.{After-get}
 
@@ -64,7 +57,8 @@ module _ (c : After-get) where
       command there c.args.head c.args.bytes.now c.push.new.self refl (given_by c.args.head c.args.bytes.now c.requires.few)
       c.push.ensures.items c.push.ensures.room c.push.ensures.room_bytes
 
-  over : (text : TextView) (next end to : ℕ) → next ≡ next_place (command_talk command) c.self.inside.place reply → (command_talk command).places ≤ next
+  over : (text : TextView) (next end to : ℕ) → next ≡ next_place (command_talk command) c.self.inside.place reply
+      → (command_talk command).places ≤ next
       → end ≡ length c.push.new.self.items
       → to ≡ c.self.inside.turn + 1 + quiet_front (drop (c.self.inside.turn + 1) c.self.inside.commands)
       → text.bytes ≡ (c.self.inside.printed.bytes

@@ -1,5 +1,4 @@
-use Rattle.std.proofs.lemmas.Grind.{common_steps}
-use Rattle.std.proofs.Common.{arith}
+use Rattle.caller_core.proofs.Cited.{common_steps, arith}
 use Rattle.caller_core.proofs.PlacedLemmas.{commands_push}
 use Rattle.caller_core.proofs.commands.Commands.push.Goals as goal
 

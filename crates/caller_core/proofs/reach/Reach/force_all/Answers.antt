@@ -1,5 +1,5 @@
-use Rattle.std.proofs.Common.{◌∙◌, ℕ, ◌≡◌, subst, sym, ◌==◌, true, slice_set}
-use Rattle.caller_core.specs.Reach.{AreMarked}
+use Rattle.caller_core.proofs.Cited.{◌∙◌, ℕ, ◌≡◌, subst, sym, true, slice_set, AreMarked}
+use Rattle.std.proofs.Common.{◌==◌}
 use Rattle.caller_core.proofs.ReachLemmas.{one_mark, marks_on, one_addr}
 use Rattle.caller_core.proofs.reach.Reach.force_all.Goals as goal
 
@@ -14,6 +14,7 @@ loop-message-preserved c =
     subst (λ (n : ℕ). AreMarked (λ i. addr == i) c.loop-message.self.forced (slice_set c.loop-message.self.forced n true)) (sym is)
     (one_mark addr c.loop-message.self.forced) in
     record {
-      forced = marks_on _ _ _ _ _ _ marks.forced one (one_addr messages at c.message-item.result c.loop-message-test.true c.message-item.is);
+      forced = marks_on _ _ _ _ _ _ marks.forced one (one_addr messages at c.message-item.result c.loop-message-test.true
+          c.message-item.is);
       written = marks.written;
     }

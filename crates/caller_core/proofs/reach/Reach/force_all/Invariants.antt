@@ -1,6 +1,5 @@
-use Rattle.std.proofs.Common.{◌≡◌, ◌==◌, take}
-use Rattle.std.specs.List.{list_any}
-use Rattle.caller_core.specs.Reach.{addrs_of, AreMarked}
+use Rattle.caller_core.proofs.Cited.{◌≡◌, take, list_any, addrs_of, AreMarked}
+use Rattle.std.proofs.Common.{◌==◌}
 use Rattle.caller_core.proofs.reach.Reach.force_all.Given as goal
 
 abbrev pub invariant-loop-message : goal.invariant-loop-message

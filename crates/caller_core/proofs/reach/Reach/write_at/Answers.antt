@@ -1,6 +1,4 @@
-use Rattle.std.proofs.Common.{◌∙◌, ap, sym, subst, ◌≤◌, List, length, get_or, ◌<◌, ◌≡◌, false, ◌&&◌, nat_lt}
-use Rattle.i2c_base.specs.Board.{DeviceView}
-use Rattle.caller_core.specs.Reach.{stands_at}
+use Rattle.caller_core.proofs.Cited.{◌∙◌, ap, sym, subst, ◌≤◌, List, length, get_or, ◌<◌, ◌≡◌, false, ◌&&◌, nat_lt, DeviceView, stands_at}
 use Rattle.caller_core.proofs.ReachLemmas.{one_mark, no_mark, marks_on, one_place, no_place, stands_there, stands_within, or_false}
 use Rattle.caller_core.proofs.reach.Reach.write_at.Goals.{then-is_at, else-is_at}
 use Rattle.caller_core.proofs.reach.Reach.write_at.Goals as goal
@@ -31,7 +29,8 @@ loop-number-preserved c =
 
 pub returns-clause-written : goal.returns-clause-written
 returns-clause-written c =
-    let past = subst (λ (xs : List DeviceView). length xs ≤ c.loop-number.number) c.devices-device-items.ensures.value c.loop-number-test.false in
+    let past = subst (λ (xs : List DeviceView). length xs ≤ c.loop-number.number) c.devices-device-items.ensures.value
+    c.loop-number-test.false in
     marks_on _ (λ i. false) _ _ _ _ c.loop-number.invariant.written (no_mark c.loop-number.self.written)
     (λ i. sym (or_false (nat_lt i c.loop-number.number && stands_at c.args.board.now c.args.bus c.args.addr i))
     ∙ stands_within c.args.board.now c.args.bus c.args.addr c.loop-number.number past i)

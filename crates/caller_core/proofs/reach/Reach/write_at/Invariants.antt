@@ -1,5 +1,4 @@
-use Rattle.std.proofs.Common.{◌≡◌, nat_lt, ◌&&◌}
-use Rattle.caller_core.specs.Reach.{stands_at, AreMarked}
+use Rattle.caller_core.proofs.Cited.{◌≡◌, nat_lt, ◌&&◌, stands_at, AreMarked}
 use Rattle.caller_core.proofs.reach.Reach.write_at.Given as goal
 
 abbrev pub invariant-loop-number : goal.invariant-loop-number

@@ -1,8 +1,5 @@
-use Rattle.std.proofs.Common.{List, ap, arith}
-use Rattle.std.proofs.lemmas.List.{with_items_is}
+use Rattle.flat_world.proofs.Cited.{List, ap, arith, with_items_is, to_current, TargetState}
 use Rattle.i2c_base.specs.declared.event.Event.TheVariants as event
-use Rattle.i2c_spec.specs.Flat.{to_current}
-use Rattle.i2c_spec.specs.Targets.{TargetState}
 use Rattle.flat_world.proofs.FeedLemmas.{states_told}
 use Rattle.flat_world.proofs.devices.Devices.get.Goals as goal
 

@@ -1,11 +1,7 @@
-use Rattle.std.proofs.Common.{ap, ◌∙◌, arith}
+use Rattle.flat_world.proofs.Cited.{ap, ◌∙◌, arith, with_items_is, feed, has_heard, state_table, answer_in, to_others}
 use Rattle.std.specs.Prelude.{None, if◌then◌else◌}
 use Rattle.std.specs.Vec.{with_items}
-use Rattle.std.proofs.lemmas.List.{with_items_is}
 use Rattle.i2c_base.specs.declared.event.Event.TheVariants as event
-use Rattle.i2c_spec.specs.World.{feed, has_heard}
-use Rattle.i2c_spec.specs.Targets.{state_table}
-use Rattle.flat_world.specs.Devices.{answer_in, to_others}
 use Rattle.flat_world.proofs.FeedLemmas.{states_started, states_answer, same_listener}
 use Rattle.flat_world.proofs.devices.Devices.start.Goals as goal
 

@@ -1,10 +1,5 @@
-use Rattle.std.proofs.Common.{List, [], None, ap, ◌∙◌, arith}
-use Rattle.std.proofs.lemmas.List.{with_items_is}
+use Rattle.flat_world.proofs.Cited.{List, [], None, ap, ◌∙◌, arith, with_items_is, TargetState, state_table, feed, to_named, to_others}
 use Rattle.i2c_base.specs.declared.event.Event.TheVariants as event
-use Rattle.i2c_spec.specs.Targets.{TargetState, state_table}
-use Rattle.i2c_spec.specs.World.{feed}
-use Rattle.i2c_spec.specs.Flat.{to_named}
-use Rattle.flat_world.specs.Devices.{to_others}
 use Rattle.flat_world.proofs.FeedLemmas.{states_told}
 use Rattle.flat_world.proofs.devices.Devices.stop.Goals as goal
 

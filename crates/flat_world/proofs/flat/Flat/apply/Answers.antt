@@ -1,5 +1,4 @@
-use Rattle.std.proofs.Common.{ap, ◌∙◌}
-use Rattle.i2c_spec.specs.Flat.{barred, idle}
+use Rattle.flat_world.proofs.Cited.{ap, ◌∙◌, barred, idle}
 use Rattle.flat_world.specs.Worlds.{FlatView}
 use Rattle.flat_world.proofs.FlatLemmas.{replied, same_site}
 use Rattle.flat_world.proofs.flat.Flat.apply.Goals as goal

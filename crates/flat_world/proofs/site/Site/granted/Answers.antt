@@ -1,5 +1,4 @@
-use Rattle.std.proofs.Common.{sym, subst, ◌∙◌}
-use Rattle.i2c_spec.specs.Plain.{IsPlainBoard}
+use Rattle.flat_world.proofs.Cited.{sym, subst, ◌∙◌, IsPlainBoard}
 use Rattle.flat_world.proofs.NamedLemmas.{granted_small}
 use Rattle.flat_world.proofs.site.Site.granted.Goals as goal
 

@@ -1,5 +1,4 @@
-use Rattle.std.proofs.Common.{arith}
-use Rattle.std.proofs.lemmas.Grind.{common_steps}
+use Rattle.i2c_board.proofs.Cited.{arith, common_steps}
 use Rattle.i2c_board.proofs.board.Board.is_below.Goals as goal
 
 pub returns : goal.returns

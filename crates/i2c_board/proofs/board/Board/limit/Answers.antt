@@ -1,5 +1,4 @@
-use Rattle.std.proofs.Common.{◌≡◌, arith, rules}
-use Rattle.i2c_spec.specs.Flat.{block_limit}
+use Rattle.i2c_board.proofs.Cited.{◌≡◌, arith, rules, block_limit}
 use Rattle.i2c_spec.proofs.BlockLemmas.{is_block_limit}
 use Rattle.i2c_board.proofs.board.Board.limit.Goals as goal
 

@@ -1,12 +1,15 @@
-use Rattle.std.proofs.Common.{◌≡◌, length, ap, ◌∙◌, arith}
-use Rattle.i2c_base.specs.Board.{BoardView}
-use Rattle.i2c_spec.specs.Tree.{buses, buses_of}
-use Rattle.i2c_spec.proofs.PlainLemmas.{buses_le}
+use Rattle.i2c_board.proofs.Cited.{◌≡◌, length, ap, ◌∙◌, arith, BoardView, buses, buses_of, buses_le}
 use Rattle.i2c_board.proofs.board.Board.new.Goals as goal
 
 pub hops_by_bus-requires-clause-few : goal.hops_by_bus-requires-clause-few
 hops_by_bus-requires-clause-few c =
-    let b : BoardView = record { version = c.args.version; roots = c.args.roots.items; muxes = c.args.muxes.items; devices = c.args.devices.items } in
+    let b : BoardView = record {
+      version = c.args.version;
+      roots = c.args.roots.items;
+      muxes = c.args.muxes.items;
+      devices =
+          c.args.devices.items;
+    } in
     let few = buses_le b c.requires in
     let roots : c.len.result ≡ length b.roots = omega arith in
     let same : buses_of c.len.result c.deref.result.now ≡ buses b =

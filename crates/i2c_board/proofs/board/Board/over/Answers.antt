@@ -1,6 +1,4 @@
-use Rattle.std.proofs.Common.{◌≡◌, Some, None, is_some, sym, ap, ◌∙◌, arith}
-use Rattle.std.proofs.lemmas.Option.{none-some}
-use Rattle.i2c_spec.specs.Tree.{Hop, over}
+use Rattle.i2c_board.proofs.Cited.{◌≡◌, Some, None, is_some, sym, ap, ◌∙◌, arith, none-some, Hop, over}
 use Rattle.i2c_board.proofs.OverLemmas.{over_none, over_root, over_channel}
 use Rattle.i2c_board.proofs.board.Board.over.Goals as goal
 use Rattle.i2c_board.proofs.board.Board.over.Goals.{In_ok-hop}

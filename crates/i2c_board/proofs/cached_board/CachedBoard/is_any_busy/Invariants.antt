@@ -1,6 +1,5 @@
-use Rattle.std.proofs.Common.{◌≡◌, false, take}
-use Rattle.std.specs.List.{list_any}
-use Rattle.i2c_spec.specs.Grant.{grant_of, is_busy}
+use Rattle.i2c_board.proofs.Cited.{◌≡◌, false, take, list_any, grant_of}
+use Rattle.i2c_spec.specs.Grant.{is_busy}
 use Rattle.i2c_board.proofs.cached_board.CachedBoard.is_any_busy.Given as goal
 
 abbrev pub invariant-loop-msg : goal.invariant-loop-msg

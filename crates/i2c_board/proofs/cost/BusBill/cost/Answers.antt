@@ -1,7 +1,5 @@
-use Rattle.std.proofs.Common.{◌≡◌, ap, ◌+◌, List, length, sum_by, ◌∙◌}
+use Rattle.i2c_board.proofs.Cited.{◌≡◌, ap, ◌+◌, List, length, sum_by, ◌∙◌, bytes_of, block_limit}
 use Rattle.i2c_base.specs.declared.transfer.Msg.{Msg}
-use Rattle.i2c_spec.specs.Cost.{bytes_of}
-use Rattle.i2c_spec.specs.Flat.{block_limit}
 use Rattle.i2c_board.proofs.BillLemmas.{cost_there}
 use Rattle.i2c_board.proofs.cost.BusBill.cost.Goals as goal
 

@@ -1,11 +1,10 @@
-use Rattle.std.proofs.Common.{◌≡◌, ℕ, ◌+◌, ◌*◌, ◌≤◌, Bool, true, false, cond, List, [], ◌∷◌, length, refl, sym, ap, ◌∙◌, arith}
+use Rattle.i2c_board.proofs.Cited.{◌≡◌, ℕ, ◌+◌, ◌≤◌, Bool, true, false, cond, List, [], ◌∷◌, length, refl, sym, ap, ◌∙◌, arith, BoardView}
+use Rattle.i2c_board.proofs.Cited.{board_of, Hop, hops, locks_few, inner_small}
+use Rattle.std.proofs.Common.{◌*◌}
 use Rattle.i2c_base.specs.declared.ids.LockId.{LockId}
 use Rattle.i2c_base.specs.declared.ids.LockId.TheVariants.{Mux}
-use Rattle.i2c_base.specs.Board.{BoardView}
-use Rattle.i2c_board.specs.Layouts.{board_of}
-use Rattle.i2c_spec.specs.Tree.{Hop, hops, locks_of}
+use Rattle.i2c_spec.specs.Tree.{locks_of}
 use Rattle.i2c_spec.specs.Cost.{inner_cost, inner_behind}
-use Rattle.i2c_spec.proofs.CostLemmas.{locks_few, inner_small}
 use Rattle.i2c_board.proofs.layout.Layout.+steps_at.Goals as goal
 
 -- a hop fewer lies over the bus that the mux stands on

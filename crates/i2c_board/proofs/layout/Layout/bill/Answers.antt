@@ -1,12 +1,7 @@
-use Rattle.std.proofs.Common.{◌≡◌, ◌<◌, ◌+◌, true, cond, Some, None, ap, sym, ◌∙◌, arith}
-use Rattle.std.specs.Prelude.{nat_lt}
-use Rattle.std.proofs.lemmas.Bool.Decides.{nat_tests}
-use Rattle.i2c_board.specs.Layouts.{board_of}
-use Rattle.i2c_spec.specs.Cost.{full_cost}
-use Rattle.i2c_spec.specs.Tree.{buses, hops, root_of}
+use Rattle.i2c_board.proofs.Cited.{◌≡◌, ◌<◌, ◌+◌, true, cond, Some, None, ap, sym, ◌∙◌, arith, nat_lt, nat_tests, board_of, full_cost}
+use Rattle.i2c_board.proofs.Cited.{buses, hops, root_of, buses_le}
 use Rattle.i2c_spec.proofs.AddressLemmas.{tree_of}
 use Rattle.i2c_spec.proofs.CostLemmas.{hops_few}
-use Rattle.i2c_spec.proofs.PlainLemmas.{buses_le}
 use Rattle.i2c_board.proofs.layout.Layout.bill.Goals as goal
 
 pub buses-requires : goal.buses-requires

@@ -1,7 +1,5 @@
-use Rattle.std.proofs.Common.{◌≡◌, true, refl, sym, ◌∙◌}
-use Rattle.i2c_board.specs.Layouts.{board_of}
+use Rattle.i2c_board.proofs.Cited.{◌≡◌, true, refl, sym, ◌∙◌, board_of, items, some_below, stands_outside, may_stay, breaks_idle}
 use Rattle.i2c_spec.specs.Tree.{is_left_open}
-use Rattle.i2c_spec.specs.Rules.{items, some_below, stands_outside, may_stay, breaks_idle}
 use Rattle.i2c_spec.proofs.IdleLemmas.{outside-is}
 use Rattle.i2c_board.proofs.layout.Layout.breaks_idle.Goals as goal
 

@@ -1,6 +1,4 @@
-use Rattle.std.proofs.Common.{◌≡◌, ◌+◌, length, arith}
-use Rattle.i2c_board.specs.Layouts.{board_of}
-use Rattle.i2c_spec.specs.Tree.{buses}
+use Rattle.i2c_board.proofs.Cited.{◌≡◌, ◌+◌, length, arith, board_of, buses}
 use Rattle.i2c_board.proofs.WayLemmas.{length-kept}
 use Rattle.i2c_board.proofs.layout.Layout.buses.Goals as goal
 use Rattle.i2c_board.specs.declared.layout.Layout.{Layout}

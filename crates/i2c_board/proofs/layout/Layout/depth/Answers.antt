@@ -1,6 +1,4 @@
-use Rattle.std.proofs.Common.{◌≡◌, ◌+◌, arith}
-use Rattle.i2c_board.specs.Layouts.{board_of}
-use Rattle.i2c_spec.specs.Tree.{depth}
+use Rattle.i2c_board.proofs.Cited.{◌≡◌, ◌+◌, arith, board_of, depth}
 use Rattle.i2c_board.proofs.WayLemmas.{hops_le}
 use Rattle.i2c_board.proofs.layout.Layout.depth.Goals as goal
 

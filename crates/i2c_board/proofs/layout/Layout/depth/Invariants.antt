@@ -1,6 +1,4 @@
-use Rattle.std.proofs.Common.{◌≡◌, ◌+◌}
-use Rattle.i2c_board.specs.Layouts.{board_of}
-use Rattle.i2c_spec.specs.Tree.{depth}
+use Rattle.i2c_board.proofs.Cited.{◌≡◌, ◌+◌, board_of, depth}
 use Rattle.i2c_board.proofs.layout.Layout.depth.Given as goal
 
 -- the muxes that were counted, and those above

@@ -1,7 +1,4 @@
-use Rattle.std.proofs.Common.{◌≡◌, ◌==◌, take, sym, ap, ◌∙◌}
-use Rattle.i2c_base.specs.Board.{DeviceView}
-use Rattle.i2c_board.specs.Layouts.{board_of}
-use Rattle.i2c_board.specs.Passes.{device_grant, grant_by, joined}
+use Rattle.i2c_board.proofs.Cited.{◌≡◌, ◌==◌, take, sym, ap, ◌∙◌, DeviceView, board_of, device_grant, grant_by, joined}
 use Rattle.i2c_board.proofs.GrantLemmas.{device_grant-more, joined_same, joined_other}
 use Rattle.i2c_board.proofs.layout.Layout.device_grant.Goals as goal
 use Rattle.i2c_board.proofs.layout.Layout.device_grant.Goals.{then-eq, else-eq}

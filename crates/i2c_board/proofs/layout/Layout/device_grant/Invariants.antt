@@ -1,6 +1,4 @@
-use Rattle.std.proofs.Common.{◌≡◌, take}
-use Rattle.i2c_board.specs.Layouts.{board_of}
-use Rattle.i2c_board.specs.Passes.{device_grant}
+use Rattle.i2c_board.proofs.Cited.{◌≡◌, take, board_of, device_grant}
 use Rattle.i2c_board.proofs.layout.Layout.device_grant.Given as goal
 
 -- what the devices that were looked at say

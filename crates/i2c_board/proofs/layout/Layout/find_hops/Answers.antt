@@ -1,7 +1,4 @@
-use Rattle.std.proofs.Common.{◌≡◌, ◌++◌, length, ap, arith}
-use Rattle.std.proofs.lemmas.List.{length-append}
-use Rattle.i2c_board.specs.Layouts.{board_of}
-use Rattle.i2c_spec.specs.Tree.{hops}
+use Rattle.i2c_board.proofs.Cited.{◌≡◌, ◌++◌, length, ap, arith, length-append, board_of, hops}
 use Rattle.i2c_board.proofs.WayLemmas.{hops_le}
 use Rattle.i2c_board.proofs.layout.Layout.find_hops.Goals as goal
 

@@ -1,6 +1,4 @@
-use Rattle.std.proofs.Common.{◌≡◌, ◌++◌}
-use Rattle.i2c_board.specs.Layouts.{board_of}
-use Rattle.i2c_spec.specs.Tree.{hops}
+use Rattle.i2c_board.proofs.Cited.{◌≡◌, ◌++◌, board_of, hops}
 use Rattle.i2c_board.proofs.layout.Layout.find_hops.Given as goal
 
 -- the hops found, and those above

@@ -1,6 +1,5 @@
-use Rattle.std.proofs.Common.{sym, ◌∙◌}
+use Rattle.i2c_board.proofs.Cited.{sym, ◌∙◌, board_of}
 use Rattle.i2c_board.proofs.RuleLemmas.{TellsBroken_third}
-use Rattle.i2c_board.specs.Layouts.{board_of}
 use Rattle.i2c_board.proofs.layout.Layout.first_broken.Goals as goal
 
 pub returns-in-Some-first_mux-2-clause-broken : goal.returns-in-Some-first_mux-2-clause-broken

@@ -1,4 +1,4 @@
-use borrow.Author.Count.{below_more}
+use Rattle.i2c_board.proofs.Cited.{below_more}
 use Rattle.i2c_board.proofs.layout.Layout.first_clash.Goals as goal
 
 pub loop-one-preserved : goal.loop-one-preserved

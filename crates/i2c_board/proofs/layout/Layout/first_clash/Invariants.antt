@@ -1,7 +1,4 @@
-use Rattle.std.proofs.Common.{ℕ, ◌<◌}
-use Rattle.i2c_board.specs.Layouts.{board_of}
-use Rattle.i2c_spec.specs.Rules.{clashes, items}
-use Rattle.i2c_board.specs.Searches.{NoneAfter}
+use Rattle.i2c_board.proofs.Cited.{ℕ, ◌<◌, board_of, clashes, items, NoneAfter}
 use Rattle.i2c_board.proofs.layout.Layout.first_clash.Given as goal
 
 abbrev pub invariant-loop-one : goal.invariant-loop-one

@@ -1,8 +1,6 @@
-use Rattle.std.proofs.Common.{◌≡◌, ℕ, Bool, Option, Some, sym, ◌∙◌, ap, subst}
+use Rattle.i2c_board.proofs.Cited.{◌≡◌, ℕ, Bool, Option, Some, sym, ◌∙◌, ap, subst, board_of, addr_at, clashes, items, is_at, NoneAfter}
 use Rattle.std.specs.Prelude.{IfNone, IfSome}
-use Rattle.i2c_board.specs.Layouts.{board_of}
-use Rattle.i2c_spec.specs.Rules.{addr_at, clashes, items}
-use Rattle.i2c_board.specs.Searches.{is_at, NoneAfter, IsFirstAfter}
+use Rattle.i2c_board.specs.Searches.{IsFirstAfter}
 use Rattle.i2c_board.proofs.layout.Layout.first_clash_with.Goals as goal
 
 pub returns-in-None : goal.returns-in-None

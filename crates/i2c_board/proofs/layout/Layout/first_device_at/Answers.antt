@@ -1,6 +1,4 @@
-use Rattle.std.proofs.Common.{length, Some, sym, ◌+◌, ◌∙◌, arith}
-use Rattle.i2c_board.specs.Layouts.{board_of}
-use Rattle.i2c_board.specs.Searches.{is_at}
+use Rattle.i2c_board.proofs.Cited.{length, Some, sym, ◌+◌, ◌∙◌, arith, board_of, is_at}
 use Rattle.i2c_board.proofs.RuleLemmas.{NoneAfter_more}
 use Rattle.i2c_board.proofs.layout.Layout.first_device_at.Goals as goal
 

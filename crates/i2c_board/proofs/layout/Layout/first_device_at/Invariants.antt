@@ -1,6 +1,4 @@
-use Rattle.std.proofs.Common.{◌+◌, ◌<◌, length, Some}
-use Rattle.i2c_board.specs.Layouts.{board_of}
-use Rattle.i2c_board.specs.Searches.{is_at, NoneAfter}
+use Rattle.i2c_board.proofs.Cited.{◌+◌, ◌<◌, length, Some, board_of, is_at, NoneAfter}
 use Rattle.i2c_board.proofs.layout.Layout.first_device_at.Given as goal
 
 abbrev pub invariant-loop-device : goal.invariant-loop-device

@@ -1,5 +1,4 @@
-use Rattle.std.proofs.Common.{◌≡◌, ℕ, ◌<◌, false}
-use Rattle.i2c_board.specs.Layouts.{board_of}
+use Rattle.i2c_board.proofs.Cited.{◌≡◌, ℕ, ◌<◌, false, board_of}
 use Rattle.i2c_board.specs.Searches.{breaks}
 use Rattle.i2c_board.proofs.layout.Layout.first_mux.Given as goal
 

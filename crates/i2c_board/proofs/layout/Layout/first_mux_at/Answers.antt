@@ -1,4 +1,4 @@
-use Rattle.std.proofs.Common.{sym, ◌∙◌}
+use Rattle.i2c_board.proofs.Cited.{sym, ◌∙◌}
 use Rattle.i2c_board.proofs.RuleLemmas.{NoneAfter_more}
 use Rattle.i2c_board.proofs.layout.Layout.first_mux_at.Goals as goal
 

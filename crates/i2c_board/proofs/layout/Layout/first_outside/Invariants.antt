@@ -1,6 +1,4 @@
-use Rattle.std.proofs.Common.{◌≡◌, ℕ, ◌<◌, false}
-use Rattle.i2c_board.specs.Layouts.{board_of}
-use Rattle.i2c_spec.specs.Rules.{stands_outside}
+use Rattle.i2c_board.proofs.Cited.{◌≡◌, ℕ, ◌<◌, false, board_of, stands_outside}
 use Rattle.i2c_board.proofs.layout.Layout.first_outside.Given as goal
 
 abbrev pub invariant-loop-one : goal.invariant-loop-one

@@ -1,7 +1,4 @@
-use Rattle.std.proofs.Common.{arith}
-use Rattle.i2c_board.specs.Layouts.{board_of}
-use Rattle.i2c_spec.specs.Tree.{hops}
-use Rattle.i2c_spec.proofs.CostLemmas.{inner_small, locks_few}
+use Rattle.i2c_board.proofs.Cited.{arith, board_of, hops, inner_small, locks_few}
 use Rattle.i2c_board.proofs.layout.Layout.full_cost.Goals as goal
 
 pub overflow_mul-result : goal.overflow_mul-result

@@ -1,7 +1,4 @@
-use Rattle.std.proofs.Common.{sym, ap, ◌∙◌, cond}
-use Rattle.i2c_base.specs.declared.tree.Grant.TheVariants.{Busy}
-use Rattle.i2c_board.specs.Layouts.{board_of}
-use Rattle.i2c_board.specs.Passes.{device_grant}
+use Rattle.i2c_board.proofs.Cited.{sym, ap, ◌∙◌, cond, Busy, board_of, device_grant}
 use Rattle.i2c_board.proofs.GrantLemmas.{grant-parts}
 use Rattle.i2c_board.proofs.layout.Layout.grant.Goals as goal
 

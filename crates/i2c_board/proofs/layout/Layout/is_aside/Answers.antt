@@ -1,6 +1,4 @@
-use Rattle.std.proofs.Common.{sym, ◌∙◌, ◌≡◌, false}
-use Rattle.i2c_board.specs.Layouts.{board_of}
-use Rattle.i2c_spec.specs.Tree.{stays_in}
+use Rattle.i2c_board.proofs.Cited.{sym, ◌∙◌, ◌≡◌, false, board_of, stays_in}
 use Rattle.i2c_board.proofs.AsideLemmas.{none_aside}
 use Rattle.i2c_board.proofs.layout.Layout.is_aside.Goals as goal
 

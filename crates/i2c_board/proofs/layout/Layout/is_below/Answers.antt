@@ -1,5 +1,4 @@
-use Rattle.std.proofs.Common.{sym, ◌∙◌, arith}
-use Rattle.i2c_board.specs.Layouts.{board_of}
+use Rattle.i2c_board.proofs.Cited.{sym, ◌∙◌, arith, board_of}
 use Rattle.i2c_board.proofs.WayLemmas.{above_no}
 use Rattle.i2c_board.proofs.layout.Layout.is_below.Goals as goal
 

@@ -1,6 +1,4 @@
-use Rattle.std.proofs.Common.{◌≡◌}
-use Rattle.i2c_board.specs.Layouts.{board_of}
-use Rattle.i2c_spec.specs.Tree.{is_below}
+use Rattle.i2c_board.proofs.Cited.{◌≡◌, board_of, is_below}
 use Rattle.i2c_board.proofs.layout.Layout.is_below.Given as goal
 
 -- what lies above decides

@@ -1,7 +1,4 @@
-use Rattle.std.proofs.Common.{◌≡◌}
-use Rattle.std.specs.List.{list_any}
-use Rattle.i2c_board.specs.Layouts.{board_of}
-use Rattle.i2c_spec.specs.Tree.{hops, is_kept_hop}
+use Rattle.i2c_board.proofs.Cited.{◌≡◌, list_any, board_of, hops, is_kept_hop}
 use Rattle.i2c_board.proofs.layout.Layout.is_below_kept.Given as goal
 
 -- what lies above decides

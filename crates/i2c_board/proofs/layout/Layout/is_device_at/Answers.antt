@@ -1,7 +1,5 @@
-use Rattle.std.proofs.Common.{◌+◌, ◌&&◌, Bool, ℕ, Option, length, Some, sym, ◌∙◌, ap}
-use Rattle.std.proofs.lemmas.Option.{slice_get-get_or}
-use Rattle.i2c_board.specs.Layouts.{board_of}
-use Rattle.i2c_spec.specs.Rules.{home_at, is_same_address}
+use Rattle.i2c_board.proofs.Cited.{◌+◌, ◌&&◌, Bool, ℕ, Option, length, Some, sym, ◌∙◌, ap, slice_get-get_or, board_of, home_at}
+use Rattle.i2c_spec.specs.Rules.{is_same_address}
 use Rattle.i2c_spec.specs.Tree.{is_along}
 use Rattle.i2c_board.proofs.RuleLemmas.{device_item}
 use Rattle.i2c_board.proofs.layout.Layout.is_device_at.Goals as goal

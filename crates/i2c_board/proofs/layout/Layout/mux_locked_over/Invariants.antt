@@ -1,6 +1,4 @@
-use Rattle.std.proofs.Common.{◌≡◌, not, take}
-use Rattle.std.specs.List.{filter}
-use Rattle.i2c_spec.specs.Rules.{last_mux}
+use Rattle.i2c_board.proofs.Cited.{◌≡◌, not, take, filter, last_mux}
 use Rattle.i2c_board.proofs.layout.Layout.mux_locked_over.Given as goal
 
 abbrev pub invariant-loop-hop : goal.invariant-loop-hop

@@ -1,7 +1,5 @@
-use Rattle.std.proofs.Common.{◌≡◌, ◌-◌, length, slice_get, sym, ap, ◌∙◌, arith}
-use Rattle.i2c_board.specs.Layouts.{board_of}
+use Rattle.i2c_board.proofs.Cited.{◌≡◌, ◌-◌, length, slice_get, sym, ap, ◌∙◌, arith, board_of, slice_get-get_or}
 use Rattle.i2c_board.proofs.WayLemmas.{over_root, length-kept, kept_over}
-use Rattle.std.proofs.lemmas.Option.{slice_get-get_or}
 use Rattle.i2c_board.proofs.layout.Layout.over.Goals as goal
 
 pub returns-in_err-place : goal.returns-in_err-place

@@ -1,7 +1,4 @@
-use Rattle.std.proofs.Common.{◌≡◌, ◌-◌, ◌<◌, get_or, rules, length, Some, sym, ap, ◌∙◌, arith}
-use Rattle.std.proofs.lemmas.Option.{slice_get-get_or}
-use Rattle.i2c_board.specs.Layouts.{board_of}
-use Rattle.i2c_spec.specs.Tree.{buses}
+use Rattle.i2c_board.proofs.Cited.{◌≡◌, ◌-◌, ◌<◌, get_or, rules, length, Some, sym, ap, ◌∙◌, arith, slice_get-get_or, board_of, buses}
 use Rattle.i2c_board.proofs.WayLemmas.{hop_of_channel, over_beyond}
 use Rattle.i2c_board.proofs.layout.Layout.over_none.Goals as goal
 

@@ -1,4 +1,5 @@
-use Rattle.std.proofs.Common.{◌≡◌, ◌∷◌, map, take}
+use Rattle.i2c_board.proofs.Cited.{◌≡◌, ◌∷◌, take}
+use Rattle.std.proofs.Common.{map}
 use Rattle.i2c_board.proofs.layout.Layout.path.Given as goal
 
 abbrev pub invariant-loop-hop : goal.invariant-loop-hop

@@ -1,6 +1,4 @@
-use Rattle.std.proofs.Common.{◌≡◌}
-use Rattle.i2c_board.specs.Layouts.{board_of}
-use Rattle.i2c_spec.specs.Tree.{root_of}
+use Rattle.i2c_board.proofs.Cited.{◌≡◌, board_of, root_of}
 use Rattle.i2c_board.proofs.layout.Layout.root.Given as goal
 
 abbrev pub invariant-loop-hop : goal.invariant-loop-hop

@@ -1,6 +1,4 @@
-use Rattle.std.proofs.Common.{◌<◌, sym, ◌∙◌, arith}
-use Rattle.i2c_board.specs.Layouts.{board_of}
-use Rattle.i2c_spec.specs.Rules.{items, is_shared}
+use Rattle.i2c_board.proofs.Cited.{◌<◌, sym, ◌∙◌, arith, board_of, items, is_shared}
 use Rattle.i2c_spec.proofs.IdleLemmas.{one_below}
 use Rattle.i2c_board.proofs.layout.Layout.stands_outside.Goals as goal
 

@@ -1,6 +1,4 @@
-use Rattle.std.proofs.Common.{◌≡◌, false}
-use Rattle.i2c_board.specs.Layouts.{board_of}
-use Rattle.i2c_spec.specs.Rules.{some_below, is_shared}
+use Rattle.i2c_board.proofs.Cited.{◌≡◌, false, board_of, some_below, is_shared}
 use Rattle.i2c_board.proofs.layout.Layout.stands_outside.Given as goal
 
 abbrev pub invariant-loop-other : goal.invariant-loop-other

@@ -1,5 +1,4 @@
-use Rattle.std.proofs.Common.{sym, ◌∙◌}
-use Rattle.i2c_board.specs.Layouts.{board_of}
+use Rattle.i2c_board.proofs.Cited.{sym, ◌∙◌, board_of}
 use Rattle.i2c_board.proofs.WayLemmas.{way_ends, way_first, first_falls}
 use Rattle.i2c_board.proofs.layout.Layout.up.Goals as goal
 

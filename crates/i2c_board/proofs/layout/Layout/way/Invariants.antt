@@ -1,5 +1,4 @@
-use Rattle.std.proofs.Common.{◌≡◌, ◌≤◌, length, take, reverse}
-use Rattle.i2c_board.specs.Layouts.{board_of}
+use Rattle.i2c_board.proofs.Cited.{◌≡◌, ◌≤◌, length, take, reverse, board_of}
 use Rattle.i2c_spec.specs.Grant.{way_through}
 use Rattle.i2c_board.proofs.layout.Layout.way.Given as goal
 

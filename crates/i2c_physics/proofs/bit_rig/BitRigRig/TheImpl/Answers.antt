@@ -1,12 +1,5 @@
-use Rattle.std.proofs.Common.{◌≡◌, [], length, map, vec_len, Vec, Result, refl, arith, rules}
-use Rattle.std.specs.Prelude.{All, IfOk}
-use Rattle.std.specs.List.{range_with_len}
-use Rattle.std.proofs.lemmas.Result.{IfOk-weaker}
-use Rattle.i2c_base.specs.declared.port.Phase.{Phase}
-use Rattle.i2c_base.specs.Board.{BoardView}
-use Rattle.i2c_spec.specs.World.{openings}
-use Rattle.i2c_bits.specs.PortViews.{BitPortView}
-use Rattle.i2c_physics.specs.BitRigs.{opening_wired, wired}
+use Rattle.i2c_physics.proofs.Cited.{◌≡◌, [], length, map, vec_len, Vec, Result, refl, arith, rules, All, IfOk, range_with_len, IfOk-weaker}
+use Rattle.i2c_physics.proofs.Cited.{Phase, BoardView, openings, BitPortView, opening_wired, wired}
 use Rattle.i2c_physics.proofs.WireLemmas.{wired_count, wired_all, wired_worlds}
 use Rattle.i2c_physics.proofs.bit_rig.BitRigRig.TheImpl.Goals as goal
 

@@ -1,4 +1,4 @@
-use Rattle.std.proofs.Common.{◌≡◌, refl}
+use Rattle.i2c_physics.proofs.Cited.{◌≡◌, refl}
 use Rattle.i2c_physics.proofs.WireLemmas.{wired_all}
 use Rattle.i2c_physics.proofs.bit_rig.BitRigRig.plug.Goals as goal
 

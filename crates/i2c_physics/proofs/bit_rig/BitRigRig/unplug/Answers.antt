@@ -1,9 +1,6 @@
-use Rattle.std.proofs.Common.{◌≡◌, List, map, Some, sym, ap, ◌∙◌, subst}
-use Rattle.std.specs.Prelude.{unwrap_or}
-use Rattle.i2c_base.specs.Board.{BoardView}
-use Rattle.i2c_spec.specs.World.{World, AreWorldsOf, devices_of}
-use Rattle.i2c_physics.specs.BitRigs.{BitRigView, parted}
-use Rattle.i2c_physics.specs.SimPorts.{PortView}
+use Rattle.i2c_physics.proofs.Cited.{◌≡◌, List, map, Some, sym, ap, ◌∙◌, subst, unwrap_or, BoardView, World, AreWorldsOf, devices_of}
+use Rattle.i2c_physics.proofs.Cited.{parted, PortView}
+use Rattle.i2c_physics.specs.BitRigs.{BitRigView}
 use Rattle.i2c_physics.specs.SimRigs.{no_board}
 use Rattle.i2c_physics.proofs.WireLemmas.{none_counted, parted_worlds, room_enough}
 use Rattle.i2c_physics.proofs.bit_rig.BitRigRig.unplug.Goals as goal
@@ -19,15 +16,19 @@ same_board : (c : goal.After-take_devices) → unwrap_or c.args.self.now.sim.roo
 same_board c = ap (λ (r : BitRigView). unwrap_or r.sim.room no_board) (sym c.self.view_is)
 
 -- all ports are taken apart
-all_parted : (c : goal.After-take_devices) → AreWorldsOf (unwrap_or c.args.self.now.sim.room no_board) (map (λ p. p.world) c.args.ports.items)
+all_parted : (c : goal.After-take_devices) → AreWorldsOf (unwrap_or c.args.self.now.sim.room no_board)
+    (map (λ p. p.world) c.args.ports.items)
     → c.fill-parted.result.ports.items ≡ map parted c.args.ports.items
-all_parted c of = c.fill-parted.ensures.ports (room_enough c.in-Some.buffer c.args.ports.items (subst (λ (b : BoardView). AreWorldsOf b (map (λ p. p.world) c.args.ports.items)) (board_is c) of))
+all_parted c of = c.fill-parted.ensures.ports (room_enough c.in-Some.buffer c.args.ports.items
+    (subst (λ (b : BoardView). AreWorldsOf b (map (λ p. p.world) c.args.ports.items)) (board_is c) of))
 
-worlds_are : (c : goal.After-take_devices) → AreWorldsOf (unwrap_or c.args.self.now.sim.room no_board) (map (λ p. p.world) c.args.ports.items)
+worlds_are : (c : goal.After-take_devices) → AreWorldsOf (unwrap_or c.args.self.now.sim.room no_board)
+    (map (λ p. p.world) c.args.ports.items)
     → map (λ (p : PortView). p.world) c.fill-parted.result.ports.items ≡ map (λ p. p.world) c.args.ports.items
 worlds_are c of = ap (map (λ (p : PortView). p.world)) (all_parted c of) ∙ parted_worlds c.args.ports.items
 
-are_those : (c : goal.After-take_devices) → AreWorldsOf (unwrap_or c.args.self.now.sim.room no_board) (map (λ p. p.world) c.args.ports.items)
+are_those : (c : goal.After-take_devices) → AreWorldsOf (unwrap_or c.args.self.now.sim.room no_board)
+    (map (λ p. p.world) c.args.ports.items)
     → AreWorldsOf (unwrap_or c.self.inside.sim.room no_board) (map (λ (p : PortView). p.world) c.fill-parted.result.ports.items)
 are_those c of =
     subst (λ (b : BoardView). AreWorldsOf b (map (λ (p : PortView). p.world) c.fill-parted.result.ports.items)) (same_board c)

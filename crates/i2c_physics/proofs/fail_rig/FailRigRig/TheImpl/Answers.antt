@@ -1,11 +1,6 @@
-use Rattle.std.proofs.Common.{◌≡◌, ℕ, [], length, map, vec_len, Vec, Result, refl, arith, rules}
-use Rattle.std.specs.Prelude.{All, IfOk}
-use Rattle.std.specs.List.{range_with_len}
-use Rattle.std.proofs.lemmas.Result.{IfOk-weaker}
-use Rattle.i2c_base.specs.declared.port.Phase.{Phase}
-use Rattle.i2c_base.specs.Board.{BoardView}
-use Rattle.i2c_spec.specs.World.{openings}
-use Rattle.i2c_physics.specs.FailPorts.{FailView, failed_calls_in, opening_fails}
+use Rattle.i2c_physics.proofs.Cited.{◌≡◌, ℕ, [], length, map, vec_len, Vec, Result, refl, arith, rules, All, IfOk, range_with_len}
+use Rattle.i2c_physics.proofs.Cited.{IfOk-weaker, Phase, BoardView, openings, opening_fails}
+use Rattle.i2c_physics.specs.FailPorts.{FailView, failed_calls_in}
 use Rattle.i2c_physics.proofs.PlugLemmas.{opened-count, opened-all, opened-worlds}
 use Rattle.i2c_physics.proofs.fail_rig.FailRigRig.TheImpl.Goals as goal
 

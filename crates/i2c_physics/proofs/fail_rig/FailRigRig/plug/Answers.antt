@@ -1,4 +1,5 @@
-use Rattle.std.proofs.Common.{Err, ap, ◌∙◌, arith}
+use Rattle.i2c_physics.proofs.Cited.{ap, ◌∙◌, arith}
+use Rattle.std.proofs.Common.{Err}
 use Rattle.ports.specs.Causes.{counted}
 use Rattle.i2c_physics.proofs.fail_rig.FailRigRig.plug.Goals as goal
 

@@ -1,5 +1,4 @@
-use Rattle.std.proofs.Common.{arith}
-use Rattle.std.proofs.lemmas.Simd.{splat_is_map}
+use Rattle.i2c_physics.proofs.Cited.{arith, splat_is_map}
 use Rattle.i2c_physics.proofs.hold_rig.HoldRigRig.unplug.Goals as goal
 
 pub returns-clause-counts : goal.returns-clause-counts

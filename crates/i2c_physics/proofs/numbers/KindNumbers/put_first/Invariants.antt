@@ -1,4 +1,4 @@
-use Rattle.std.proofs.Common.{◌≡◌, ◌+◌, ◌≤◌, ◌∷◌, length, take}
+use Rattle.i2c_physics.proofs.Cited.{◌≡◌, ◌+◌, ◌≤◌, ◌∷◌, length, take}
 use Rattle.i2c_physics.proofs.numbers.KindNumbers.put_first.Given as goal
 
 abbrev pub invariant-loop-other : goal.invariant-loop-other

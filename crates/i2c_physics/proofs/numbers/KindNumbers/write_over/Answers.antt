@@ -1,5 +1,4 @@
-use Rattle.std.proofs.Common.{[], ◌∷◌, ◌++◌, length, get_or, ap, sym, ◌∙◌, arith}
-use Rattle.std.proofs.lemmas.List.{length-append, take_all, take_more}
+use Rattle.i2c_physics.proofs.Cited.{[], ◌∷◌, ◌++◌, length, get_or, ap, sym, ◌∙◌, arith, length-append, take_all, take_more}
 use Rattle.i2c_physics.proofs.numbers.KindNumbers.write_over.Goals as goal
 
 pub loop-number-preserved : goal.loop-number-preserved

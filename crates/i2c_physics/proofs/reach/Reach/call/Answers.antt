@@ -1,6 +1,4 @@
-use Rattle.std.proofs.Common.{length, ap, ◌∙◌}
-use Rattle.std.specs.List.{filter, range_with_len}
-use Rattle.i2c_physics.specs.Reach.{joins_at, has_at}
+use Rattle.i2c_physics.proofs.Cited.{length, ap, ◌∙◌, filter, range_with_len, joins_at, has_at}
 use Rattle.i2c_physics.proofs.NumberLemmas.{filter_both}
 use Rattle.i2c_physics.proofs.reach.Reach.call.Goals as goal
 

@@ -1,6 +1,4 @@
-use Rattle.std.proofs.Common.{ap, ◌∙◌, arith}
-use Rattle.std.proofs.lemmas.Simd.{splat_is_map}
-use Rattle.i2c_physics.specs.SimRigs.{none_of}
+use Rattle.i2c_physics.proofs.Cited.{ap, ◌∙◌, arith, splat_is_map, none_of}
 use Rattle.i2c_physics.proofs.sim_rig.SimRigRig.unplug.Goals as goal
 
 pub returns-clause-counts : goal.returns-clause-counts

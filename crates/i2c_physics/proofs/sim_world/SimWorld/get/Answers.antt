@@ -1,7 +1,5 @@
-use Rattle.std.proofs.Common.{◌<◌, bit_and, ap, ◌∙◌}
+use Rattle.i2c_physics.proofs.Cited.{◌<◌, bit_and, ap, ◌∙◌, WiredAnd, chips_say, devices_say}
 use Rattle.i2c_base.specs.declared.event.Event.TheVariants as event
-use Rattle.i2c_physics.specs.declared.wired_and.WiredAnd.{WiredAnd}
-use Rattle.i2c_physics.specs.Answering.{chips_say, devices_say}
 use Rattle.i2c_physics.proofs.WorldLemmas.{gives_told}
 use Rattle.i2c_physics.proofs.sim_world.SimWorld.get.Goals as goal
 

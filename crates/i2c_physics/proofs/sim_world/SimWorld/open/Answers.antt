@@ -1,13 +1,5 @@
-use Rattle.std.proofs.Common.{◌≡◌, length, map, ap, sym, subst, ◌∙◌, arith}
-use Rattle.std.proofs.lemmas.List.{length-map}
-use Rattle.i2c_base.specs.Board.{BoardView}
-use Rattle.i2c_spec.specs.Chips.{chip_table, chip_opening}
-use Rattle.i2c_board.specs.Layouts.{board_of}
-use Rattle.i2c_spec.specs.Plain.{IsPlainBoard}
-use Rattle.i2c_spec.specs.Targets.{state_table}
-use Rattle.i2c_spec.specs.World.{opening_world}
-use Rattle.i2c_physics.specs.Places.{mux_place, device_place}
-use Rattle.i2c_physics.specs.SimWorlds.{opened_on}
+use Rattle.i2c_physics.proofs.Cited.{◌≡◌, length, map, ap, sym, subst, ◌∙◌, arith, length-map, BoardView, chip_table, chip_opening}
+use Rattle.i2c_physics.proofs.Cited.{board_of, IsPlainBoard, state_table, opening_world, mux_place, device_place, opened_on}
 use Rattle.i2c_physics.proofs.LineLemmas.{opened-reach, opened-is}
 use Rattle.i2c_physics.proofs.OwnLemmas.{opened-own, opened-quiet}
 use Rattle.i2c_physics.proofs.sim_world.SimWorld.open.Goals as goal

@@ -1,9 +1,5 @@
-use Rattle.std.proofs.Common.{ap, ◌∙◌, refl, arith}
-use Rattle.std.proofs.lemmas.List.{with_items_is}
-use Rattle.i2c_spec.specs.Chips.{chip_table}
-use Rattle.i2c_spec.specs.World.{sent_on}
-use Rattle.i2c_spec.specs.Targets.{state_table}
-use Rattle.i2c_physics.specs.Answering.{wired_and_of, chips_say, devices_say}
+use Rattle.i2c_physics.proofs.Cited.{ap, ◌∙◌, refl, arith, with_items_is, chip_table, sent_on, state_table, wired_and_of, chips_say}
+use Rattle.i2c_physics.proofs.Cited.{devices_say}
 use Rattle.i2c_physics.proofs.FeedLemmas.{fed-on, said-on, chips-answer, devices-answer, sent-kept, sent-is}
 use Rattle.i2c_physics.proofs.sim_world.SimWorld.send.Goals as goal
 

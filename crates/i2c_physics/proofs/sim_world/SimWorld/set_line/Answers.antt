@@ -1,4 +1,4 @@
-use Rattle.std.proofs.Common.{length, ap, ◌∙◌}
+use Rattle.i2c_physics.proofs.Cited.{length, ap, ◌∙◌}
 use Rattle.i2c_physics.proofs.LineLemmas.{level-kept, level-count}
 use Rattle.i2c_physics.proofs.sim_world.SimWorld.set_line.Goals as goal
 

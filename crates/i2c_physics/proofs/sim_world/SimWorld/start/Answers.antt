@@ -1,15 +1,9 @@
-use Rattle.std.proofs.Common.{length, ap, ◌∙◌, arith}
-use Rattle.std.specs.Vec.{with_items}
-use Rattle.std.proofs.lemmas.List.{with_items_is}
+use Rattle.i2c_physics.proofs.Cited.{length, ap, ◌∙◌, arith, with_items, with_items_is, chip_table, after, answer, state_table}
+use Rattle.i2c_physics.proofs.Cited.{wired_and_of, numbers_of, addressed, others}
 use Rattle.i2c_base.specs.declared.event.Event.TheVariants as event
 use Rattle.i2c_base.specs.declared.port.PortCall.TheVariants as call
-use Rattle.i2c_spec.specs.Chips.{chip_table}
-use Rattle.i2c_spec.specs.World.{after, answer}
-use Rattle.i2c_spec.specs.Targets.{state_table}
-use Rattle.i2c_physics.specs.Answering.{wired_and_of}
-use Rattle.i2c_physics.specs.Heard.{numbers_of}
-use Rattle.i2c_physics.specs.Reach.{addressed, others}
-use Rattle.i2c_physics.proofs.FeedLemmas.{AreBegun, begun-on, said-on, either-on, start-by, calls-chips, calls-devices, other-chips, other-devices, started-kept, started-is, started-answer}
+use Rattle.i2c_physics.proofs.FeedLemmas.{AreBegun, begun-on, said-on, either-on, start-by, calls-chips, calls-devices, other-chips}
+use Rattle.i2c_physics.proofs.FeedLemmas.{other-devices, started-kept, started-is, started-answer}
 use Rattle.i2c_physics.proofs.sim_world.SimWorld.start.Goals as goal
 
 pub begin-chips-requires-clause-told : goal.begin-chips-requires-clause-told

@@ -1,14 +1,6 @@
-use Rattle.std.proofs.Common.{ap, ◌∙◌, arith}
-use Rattle.std.specs.Prelude.{not}
-use Rattle.std.specs.List.{filter}
-use Rattle.std.specs.Vec.{with_items}
-use Rattle.std.proofs.lemmas.List.{with_items_is}
+use Rattle.i2c_physics.proofs.Cited.{ap, ◌∙◌, arith, not, filter, with_items, with_items_is, chip_table, after, state_table, joins_at}
 use Rattle.i2c_base.specs.declared.event.Event.TheVariants as event
 use Rattle.i2c_base.specs.declared.port.PortCall.TheVariants as call
-use Rattle.i2c_spec.specs.Chips.{chip_table}
-use Rattle.i2c_spec.specs.World.{after}
-use Rattle.i2c_spec.specs.Targets.{state_table}
-use Rattle.i2c_physics.specs.Reach.{joins_at}
 use Rattle.i2c_physics.proofs.FeedLemmas.{AreParted, fed-on, stopped-kept, stopped-is}
 use Rattle.i2c_physics.proofs.NumberLemmas.{rising-filter}
 use Rattle.i2c_physics.proofs.sim_world.SimWorld.stop.Goals as goal

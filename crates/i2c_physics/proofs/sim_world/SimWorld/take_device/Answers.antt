@@ -1,11 +1,7 @@
-use Rattle.std.proofs.Common.{◌≡◌, ◌<◌, Bool, true, false, Some, None, length, set, refl, sym, ◌∙◌, ap, arith}
-use Rattle.std.specs.Prelude.{if◌then◌else◌, slice_get, slice_set}
-use Rattle.std.proofs.lemmas.List.{length-set}
-use Rattle.i2c_spec.specs.World.{World}
-use Rattle.i2c_spec.specs.Targets.{Silent, state_table}
+use Rattle.i2c_physics.proofs.Cited.{◌≡◌, ◌<◌, Bool, true, false, Some, None, length, set, refl, sym, ◌∙◌, ap, arith, if◌then◌else◌}
+use Rattle.i2c_physics.proofs.Cited.{slice_get, length-set, World, Silent, state_table, wired_at, is_own, own_device, owns, without}
+use Rattle.std.specs.Prelude.{slice_set}
 use Rattle.i2c_physics.proofs.LineLemmas.{quiet-in-place}
-use Rattle.i2c_physics.specs.Reach.{wired_at}
-use Rattle.bus_lines.specs.Owned.{is_own, own_device, owns, without}
 use Rattle.i2c_physics.proofs.FeedLemmas.{world_of}
 use Rattle.i2c_physics.proofs.OwnLemmas.{wired-own, own-low}
 use Rattle.i2c_physics.proofs.TakeLemmas.{own-is, without-is}

@@ -1,5 +1,4 @@
-use Rattle.std.proofs.Common.{◌<◌, length, get_or, ap, ◌∙◌, arith}
-use Rattle.i2c_physics.specs.Sites.{numbers_at}
+use Rattle.i2c_physics.proofs.Cited.{◌<◌, length, get_or, ap, ◌∙◌, arith, numbers_at}
 use Rattle.i2c_physics.proofs.SiteLemmas.{length-at, listed-at}
 use Rattle.i2c_physics.proofs.sites.Sites.at.Goals as goal
 

@@ -1,6 +1,4 @@
-use Rattle.std.proofs.Common.{ap, map, ◌∙◌}
-use Rattle.std.specs.List.{range_with_len}
-use Rattle.i2c_physics.specs.Sites.{numbers_at}
+use Rattle.i2c_physics.proofs.Cited.{ap, map, ◌∙◌, range_with_len, numbers_at}
 use Rattle.i2c_physics.proofs.sites.Sites.of.Goals as goal
 
 pub invariant_of-result : goal.invariant_of-result

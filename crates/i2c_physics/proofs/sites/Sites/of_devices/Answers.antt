@@ -1,8 +1,4 @@
-use Rattle.std.proofs.Common.{◌∙◌, ap, arith}
-use Rattle.i2c_base.specs.Board.{DeviceView}
-use Rattle.i2c_board.specs.Layouts.{board_of}
-use Rattle.i2c_physics.specs.Places.{device_place}
-use Rattle.i2c_base.proofs.ListLemmas.{few-made, one-made}
+use Rattle.i2c_physics.proofs.Cited.{◌∙◌, ap, arith, DeviceView, board_of, device_place, few-made, one-made}
 use Rattle.i2c_physics.proofs.sites.Sites.of_devices.Goals as goal
 
 pub push_reserved-requires : goal.push_reserved-requires

@@ -1,7 +1,4 @@
-use Rattle.std.proofs.Common.{vec_capacity, vec_len}
-use Rattle.i2c_board.specs.Layouts.{board_of}
-use Rattle.i2c_physics.specs.Places.{device_place}
-use Rattle.i2c_base.proofs.ListLemmas.{AreMade}
+use Rattle.i2c_physics.proofs.Cited.{vec_capacity, vec_len, board_of, device_place, AreMade}
 use Rattle.i2c_physics.proofs.sites.Sites.of_devices.Given as goal
 
 abbrev pub invariant-loop-device : goal.invariant-loop-device

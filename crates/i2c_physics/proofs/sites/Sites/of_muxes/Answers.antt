@@ -1,10 +1,7 @@
-use Rattle.std.proofs.Common.{◌∙◌, ap, arith, ◌≡◌}
-use Rattle.std.proofs.Common.{Bool}
+use Rattle.i2c_physics.proofs.Cited.{◌∙◌, ap, arith, ◌≡◌, Bool, not, is_some, board_of, few-made, one-made}
 use Rattle.std.proofs.lemmas.Grind.{common_steps}
-use Rattle.std.specs.Prelude.{not, ◌&&◌, is_some}
-use Rattle.i2c_board.specs.Layouts.{board_of}
+use Rattle.std.specs.Prelude.{◌&&◌}
 use Rattle.i2c_physics.specs.Places.{place_on}
-use Rattle.i2c_base.proofs.ListLemmas.{few-made, one-made}
 use Rattle.i2c_physics.proofs.sites.Sites.of_muxes.Goals as goal
 use Rattle.i2c_physics.proofs.sites.Sites.of_muxes.Goals.{then-not-mux, else-not-mux}
 

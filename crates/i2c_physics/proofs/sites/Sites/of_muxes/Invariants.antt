@@ -1,7 +1,4 @@
-use Rattle.std.proofs.Common.{vec_capacity, vec_len}
-use Rattle.i2c_board.specs.Layouts.{board_of}
-use Rattle.i2c_physics.specs.Places.{mux_place}
-use Rattle.i2c_base.proofs.ListLemmas.{AreMade}
+use Rattle.i2c_physics.proofs.Cited.{vec_capacity, vec_len, board_of, mux_place, AreMade}
 use Rattle.i2c_physics.proofs.sites.Sites.of_muxes.Given as goal
 
 abbrev pub invariant-loop-mux : goal.invariant-loop-mux

@@ -1,9 +1,6 @@
-use Rattle.std.proofs.Common.{◌≡◌, length, map, ◌∙◌, ap, arith, sym}
-use Rattle.std.proofs.lemmas.List.{length-map}
-use Rattle.i2c_spec.specs.World.{AreWorldsOf}
+use Rattle.i2c_physics.proofs.Cited.{◌≡◌, length, map, ◌∙◌, ap, arith, sym, length-map, AreWorldsOf, nil_by_length}
 use Rattle.i2c_physics.proofs.RigLemmas.{count_of_worlds, devices-kept}
 use Rattle.i2c_physics.proofs.unplug.UnplugBuffer.keep.Goals as goal
-use Rattle.i2c_base.proofs.ListLemmas.{nil_by_length}
 
 pub returns-clause-states : goal.returns-clause-states
 returns-clause-states g c of =

@@ -1,8 +1,6 @@
-use Rattle.std.proofs.Common.{map, arith}
-use Rattle.i2c_spec.specs.World.{AreWorldsOf}
+use Rattle.i2c_physics.proofs.Cited.{map, arith, AreWorldsOf, nil_by_length}
 use Rattle.i2c_physics.proofs.RigLemmas.{devices-kept}
 use Rattle.i2c_physics.proofs.unplug.UnplugBuffer.keep_devices.Goals as goal
-use Rattle.i2c_base.proofs.ListLemmas.{nil_by_length}
 
 pub returns : goal.returns
 returns g c = record {

@@ -1,6 +1,5 @@
-use Rattle.std.proofs.Common.{◌<◌, length, refl, subst, sym}
+use Rattle.i2c_top.proofs.Cited.{◌<◌, length, refl, subst, sym, MOST_CALLS}
 use Rattle.i2c_base.specs.declared.port.PortCall.TheVariants as call
-use Rattle.i2c_base.specs.Limits.{MOST_CALLS}
 use Rattle.i2c_top.proofs.FaultLemmas.{call-counted}
 use Rattle.i2c_top.proofs.counted_port.CountedPortPort.put.Goals as goal
 

@@ -1,13 +1,6 @@
-use Rattle.std.proofs.Common.{◌≡◌, ◌<◌, ◌≤◌, ◌∙◌, List, ℕ, All, length, map, sym, ap, subst, arith}
-use Rattle.std.specs.Prelude.{IfOk}
-use Rattle.std.proofs.lemmas.List.{length-map}
-use Rattle.caller_core.specs.View.{CallerView}
-use Rattle.i2c_base.specs.Board.{BoardView}
-use Rattle.addr_atr.specs.Callers.{AtrCallerView}
-use Rattle.addr_atr.specs.Lowering.{lowered}
-use Rattle.i2c_top.specs.forms.Atrs.{behind_of, HasAtrRun}
-use Rattle.i2c_top.specs.Callers.{left_in, scripts_in, AreReady, HasRunOfAny}
-use Rattle.i2c_top.specs.Runs.{AreOpened, cost_of_texts, texts_of}
+use Rattle.i2c_top.proofs.Cited.{◌≡◌, ◌<◌, ◌≤◌, ◌∙◌, List, ℕ, All, length, map, sym, ap, subst, arith, IfOk, length-map, CallerView}
+use Rattle.i2c_top.proofs.Cited.{BoardView, AtrCallerView, lowered, behind_of, HasAtrRun, left_in, scripts_in, AreReady, HasRunOfAny}
+use Rattle.i2c_top.proofs.Cited.{AreOpened, cost_of_texts, texts_of}
 use Rattle.i2c_top.proofs.AtrRun.{atr_row, behind-covered, behind-ready, behind-run, section_by}
 use Rattle.i2c_top.proofs.AtrLemmas.{atr_done, atr_failed}
 use Rattle.i2c_top.proofs.CoreLemmas.{if-ok}
@@ -43,7 +36,8 @@ run_callers-requires-clause-covered g c κs within =
     let cost : c.limit_of-limit.result ≡ cost_of_texts f.map.board (texts_of f.scripts.items) =
     c.limit_of-limit.ensures ∙ ap (λ (ss : List CallerView). cost_of_texts f.board (texts_of ss)) c.as_slice.ensures.value
     ∙ ap (λ (b : BoardView). cost_of_texts b (texts_of f.scripts.items)) (sym c.in_ok-board.ensures.board) in
-    subst (λ (cs : List AtrCallerView). left_in atr_row cs ≤ c.limit_of-limit.result) (sym c.in_ok-callers.ensures) (omega (arith, below, cost))
+    subst (λ (cs : List AtrCallerView). left_in atr_row cs ≤ c.limit_of-limit.result) (sym c.in_ok-callers.ensures)
+    (omega (arith, below, cost))
 
 pub returns-clause-done : goal.returns-clause-done
 returns-clause-done g c =
@@ -56,16 +50,19 @@ returns-clause-done g c =
     let counts = g.R.Rig.port_faults rig in
     let opened = subst (λ (b : BoardView). AreOpened b f.scripts.items) (sym read.board) read.opened in
     let callers = map (behind_of f.map) f.scripts.items in
-    atr_done _ _ _ _ _ f.board f.map (texts_of f.scripts.items) f.words.items read.some read.read read.cheap c.read_files.ensures.kept run.plugs run.unplugged
+    atr_done _ _ _ _ _ f.board f.map (texts_of f.scripts.items) f.words.items read.some read.read read.cheap c.read_files.ensures.kept
+    run.plugs run.unplugged
     c.run_callers.result (λ v. v) run.unplugs
     (λ tells ports. if-ok
-    (λ text. HasRunOfAny atr_row.asked section_by (lowered f.map.board f.map.translators) (scripts_in atr_row callers) f.words.items text logs states counts)
+    (λ text. HasRunOfAny atr_row.asked section_by (lowered f.map.board f.map.translators)
+    (scripts_in atr_row callers) f.words.items text logs states counts)
     (λ text. HasAtrRun f.map (texts_of f.scripts.items) f.words.items text logs states counts)
     (λ text h. behind-run f.map f.scripts.items opened f.words.items text logs states counts h) c.run_callers.result
     (subst (λ (ws : List ℕ). IfOk c.run_callers.result (λ text. HasRunOfAny atr_row.asked section_by (lowered f.map.board f.map.translators)
     (scripts_in atr_row callers) ws text logs states counts)) c.as_slice-2.ensures.value
     (subst (λ (cs : List AtrCallerView). IfOk c.run_callers.result (λ text. HasRunOfAny atr_row.asked section_by
-    (lowered f.map.board f.map.translators) (scripts_in atr_row cs) c.as_slice-2.result.now text logs states counts)) c.in_ok-callers.ensures
+    (lowered f.map.board f.map.translators) (scripts_in atr_row cs) c.as_slice-2.result.now text logs states counts))
+    c.in_ok-callers.ensures
     (subst (λ (b : BoardView). IfOk c.run_callers.result (λ text. HasRunOfAny atr_row.asked section_by b
     (scripts_in atr_row c.in_ok-callers.callers.items) c.as_slice-2.result.now text logs states counts)) c.lowered.ensures.value
     (run.run tells ports)))))
@@ -75,5 +72,6 @@ returns-clause-refused g c =
     let f = c.in_ok-board.field-0 in
     let read = c.in_ok-board.ensures in
     let run = c.run_callers.ensures in
-    atr_failed _ _ _ _ _ f.board f.map (texts_of f.scripts.items) f.words.items read.some read.read read.cheap c.read_files.ensures.kept run.plugs run.unplugged
+    atr_failed _ _ _ _ _ f.board f.map (texts_of f.scripts.items) f.words.items read.some read.read read.cheap c.read_files.ensures.kept
+    run.plugs run.unplugged
     c.run_callers.result run.none run.once run.rig run.failed

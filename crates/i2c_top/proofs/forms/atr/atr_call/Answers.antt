@@ -1,4 +1,4 @@
-use Rattle.i2c_top.specs.forms.Atrs.{atr_form, atr_told}
+use Rattle.i2c_top.proofs.Cited.{atr_form, atr_told}
 use Rattle.i2c_top.proofs.AtrCauses.{atr_decides}
 use Rattle.i2c_top.proofs.AtrLemmas.{ended_translated}
 use Rattle.i2c_top.proofs.EndingLemmas.{ended_by, ended_same}

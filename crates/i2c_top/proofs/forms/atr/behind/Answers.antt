@@ -1,8 +1,5 @@
-use Rattle.std.proofs.Common.{◌≡◌, ◌<◌, ◌∷◌, [], ◌++◌, length, map, ◌∙◌, ap, arith}
-use Rattle.std.specs.Prelude.{vec_len, vec_capacity}
-use Rattle.std.proofs.lemmas.List.{length-map}
-use Rattle.addr_atr.specs.Callers.{AtrCallerView}
-use Rattle.i2c_top.specs.forms.Atrs.{behind_of}
+use Rattle.i2c_top.proofs.Cited.{◌≡◌, ◌<◌, ◌∷◌, [], ◌++◌, length, map, ◌∙◌, ap, arith, vec_len, vec_capacity, length-map, AtrCallerView}
+use Rattle.i2c_top.proofs.Cited.{behind_of}
 use Rattle.i2c_top.proofs.Numbering.{map-push, over-next, room-next}
 use Rattle.i2c_top.proofs.forms.atr.behind.Goals as goal
 

@@ -1,7 +1,4 @@
-use Rattle.std.proofs.Common.{map}
-use Rattle.std.specs.Prelude.{vec_capacity}
-use Rattle.std.specs.Vec.Iter.{into_iter_items, into_iter_len}
-use Rattle.i2c_top.specs.forms.Atrs.{behind_of}
+use Rattle.i2c_top.proofs.Cited.{map, vec_capacity, into_iter_items, into_iter_len, behind_of}
 use Rattle.i2c_top.proofs.Numbering.{GoesOver}
 use Rattle.i2c_top.proofs.forms.atr.behind.Given as goal
 

@@ -1,4 +1,4 @@
-use Rattle.std.proofs.Common.{rules}
+use Rattle.i2c_top.proofs.Cited.{rules}
 use Rattle.i2c_top.proofs.forms.atr.names_in.Goals as goal
 
 pub returns-clause-placed : goal.returns-clause-placed

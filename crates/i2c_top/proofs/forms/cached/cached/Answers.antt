@@ -1,19 +1,11 @@
-use Rattle.std.proofs.Common.{◌≡◌, ◌<◌, ◌∙◌, List, [], ℕ, All, length, sym, ap, subst, arith}
-use Rattle.std.specs.Prelude.{IfOk, unwrap_or}
-use Rattle.std.specs.Option.{option_map}
-use Rattle.std.proofs.lemmas.List.{length-map}
-use Rattle.caller_core.specs.View.{CallerView}
-use Rattle.caller_core.proofs.FairLemmas.{scripts_fair}
-use Rattle.reg_cache.specs.Cached.{CachedScript, cached_asked}
-use Rattle.i2c_top.specs.Callers.{HasRunOfAny}
-use Rattle.i2c_top.specs.Runs.{cost_of_texts, texts_of}
-use Rattle.i2c_top.specs.forms.Caches.{cached_scripts, HasCachedRun, IsCachedAnswer}
+use Rattle.i2c_top.proofs.Cited.{◌≡◌, ◌<◌, ◌∙◌, List, [], ℕ, All, length, sym, ap, subst, arith, IfOk, unwrap_or, option_map, length-map}
+use Rattle.i2c_top.proofs.Cited.{CallerView, scripts_fair, CachedScript, cached_asked, HasRunOfAny, cost_of_texts, texts_of, cached_scripts}
+use Rattle.i2c_top.proofs.Cited.{HasCachedRun, IsCachedAnswer, names_told}
 use Rattle.i2c_top.proofs.CachedLemmas.{cached_done}
 use Rattle.i2c_top.proofs.CachedRun.{cached-ready, cached-run, cached_section, count-cached, left-cached}
 use Rattle.i2c_top.proofs.CoreLemmas.{if-ok}
 use Rattle.i2c_top.proofs.ReplayLemmas.{files_refused, named_all, run_failed}
 use Rattle.i2c_top.proofs.FileLemmas.{passed_on}
-use Rattle.i2c_top.specs.forms.Replays.{names_told}
 use Rattle.i2c_top.proofs.forms.cached.cached.Goals as goal
 use Rattle.i2c_top.proofs.forms.cached.cached.Goals.{In_ok-callers}
 
@@ -28,7 +20,8 @@ module _ (g : _) (c : In_ok-callers g) where
 pub run_callers-requires-clause-ready : goal.run_callers-requires-clause-ready
 run_callers-requires-clause-ready g c κs within =
     let f = c.in_ok-board.field-0 in
-    cached-ready f.board (texts_of f.scripts.items) c.in_ok-callers.callers.items c.in_ok-callers.ensures.scripts c.in_ok-callers.ensures.untaken
+    cached-ready f.board (texts_of f.scripts.items) c.in_ok-callers.callers.items c.in_ok-callers.ensures.scripts
+    c.in_ok-callers.ensures.untaken
 
 pub run_callers-requires-clause-few : goal.run_callers-requires-clause-few
 run_callers-requires-clause-few g c κs within =
@@ -41,7 +34,8 @@ run_callers-requires-clause-named g c κs within =
     let f = c.in_ok-board.field-0 in
     let many = count g (goal.at.run_callers-requires-clause-named g c).In_ok-callers in
     let words = option_map (λ v. v.items) f.schedule in
-    subst (λ (ws : List ℕ). All (λ n. n < length c.in_ok-callers.callers.items) ws) (sym (c.as_slice-2.ensures.value ∙ c.listed-words.ensures))
+    subst (λ (ws : List ℕ). All (λ n. n < length c.in_ok-callers.callers.items) ws)
+    (sym (c.as_slice-2.ensures.value ∙ c.listed-words.ensures))
     (subst (λ (k : ℕ). All (λ n. n < k) (unwrap_or words [])) (sym many)
     (named_all (length f.scripts.items) words c.in_ok-board.ensures.named))
 
@@ -71,7 +65,8 @@ returns-clause-done g c =
     (λ text. HasRunOfAny cached_asked cached_section f.board (cached_scripts f.board texts) words text logs states counts)
     (λ text. HasCachedRun f.board texts words text logs states counts)
     (λ text h. cached-run f.board texts words text logs states counts h) c.run_callers.result
-    (subst (λ (ws : List ℕ). IfOk c.run_callers.result (λ text. HasRunOfAny cached_asked cached_section f.board (cached_scripts f.board texts)
+    (subst (λ (ws : List ℕ). IfOk c.run_callers.result (λ text. HasRunOfAny cached_asked cached_section f.board
+    (cached_scripts f.board texts)
     ws text logs states counts)) listed
     (subst (λ (ss : List CachedScript). IfOk c.run_callers.result (λ text. HasRunOfAny cached_asked cached_section f.board ss
     c.as_slice-2.result.now text logs states counts)) c.in_ok-callers.ensures.scripts (run.run tells ports))))

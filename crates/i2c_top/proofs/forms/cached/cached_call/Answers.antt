@@ -1,5 +1,4 @@
-use Rattle.i2c_top.specs.forms.Caches.{cached_form}
-use Rattle.i2c_top.specs.forms.Replays.{names_told}
+use Rattle.i2c_top.proofs.Cited.{cached_form, names_told}
 use Rattle.i2c_top.proofs.CachedLemmas.{ended_cached}
 use Rattle.i2c_top.proofs.EndingLemmas.{ended_by, ended_same}
 use Rattle.i2c_top.proofs.ReplayCauses.{replay_decides}

@@ -1,16 +1,6 @@
-use Rattle.std.proofs.Common.{◌≡◌, ◌<◌, ℕ, List, [], All, length, map, sym, ◌∙◌, ap, subst, arith}
-use Rattle.std.specs.Prelude.{vec_len, vec_capacity}
-use Rattle.std.specs.List.{AllZip}
-use Rattle.std.proofs.lemmas.Grind.{common_steps}
-use Rattle.std.proofs.lemmas.List.{length-map}
-use Rattle.std.proofs.lemmas.List.Elements.{All-push}
-use Rattle.caller_core.specs.Callers.{IsOpened}
-use Rattle.caller_core.specs.Reach.{IsReachOf}
-use Rattle.caller_core.specs.View.{CallerView}
-use Rattle.caller_core.specs.declared.reach.Reach.{Reach}
-use Rattle.reg_cache.specs.Cached.{CachedView}
-use Rattle.reg_cache.specs.Cacheable.{cacheable_devices, AreReaches}
-use Rattle.i2c_top.specs.Runs.{texts_of}
+use Rattle.i2c_top.proofs.Cited.{◌≡◌, ◌<◌, ℕ, List, [], All, length, map, sym, ◌∙◌, ap, subst, arith, vec_len, vec_capacity, AllZip}
+use Rattle.i2c_top.proofs.Cited.{common_steps, length-map, All-push, IsOpened, IsReachOf, CallerView, Reach, CachedView, cacheable_devices}
+use Rattle.i2c_top.proofs.Cited.{AreReaches, texts_of}
 use Rattle.i2c_top.proofs.CachedRun.{all_cached, cached-next, cached-texts, kept-there, length-all_cached, reaches-by-texts}
 use Rattle.i2c_top.proofs.Numbering.{below-next, map-push, next-holds, over-next, room-next, so-many}
 use Rattle.i2c_top.proofs.forms.cached.cached_callers.Goals as goal

@@ -1,7 +1,4 @@
-use Rattle.std.proofs.Common.{◌≡◌, [], All, map}
-use Rattle.std.specs.Prelude.{vec_capacity}
-use Rattle.std.specs.Vec.Iter.{into_iter_items, into_iter_len}
-use Rattle.i2c_top.specs.Runs.{texts_of}
+use Rattle.i2c_top.proofs.Cited.{◌≡◌, [], All, map, vec_capacity, into_iter_items, into_iter_len, texts_of}
 use Rattle.i2c_top.proofs.CachedRun.{all_cached}
 use Rattle.i2c_top.proofs.Numbering.{GoesOver}
 use Rattle.i2c_top.proofs.forms.cached.cached_callers.Given as goal

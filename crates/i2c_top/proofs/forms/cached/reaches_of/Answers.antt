@@ -1,10 +1,5 @@
-use Rattle.std.proofs.Common.{◌+◌, ◌++◌, [], ◌∷◌, List, take, get_or, subst, sym, arith}
-use Rattle.std.specs.List.{AllZip}
-use Rattle.std.proofs.lemmas.List.{take_more, take_all, length-take}
-use Rattle.bus_groups.proofs.ShareLemmas.{zip-more, zip-length}
-use Rattle.caller_core.specs.Reach.{IsReachOf}
-use Rattle.caller_core.specs.View.{CallerView}
-use Rattle.caller_core.specs.declared.reach.Reach.{Reach}
+use Rattle.i2c_top.proofs.Cited.{◌+◌, ◌++◌, [], ◌∷◌, List, take, get_or, subst, sym, arith, AllZip, take_more, take_all, length-take}
+use Rattle.i2c_top.proofs.Cited.{zip-more, zip-length, IsReachOf, CallerView, Reach}
 use Rattle.i2c_top.proofs.forms.cached.reaches_of.Goals as goal
 
 abbrev Reaches : CallerView → Reach → Type 0
@@ -17,7 +12,8 @@ returns c =
 
 pub push-requires : goal.push-requires
 push-requires c =
-    let same = zip-length Reaches (take c.loop-script.script-index c.args.scripts.now) c.loop-script.reaches.items c.loop-script.invariant in
+    let same = zip-length Reaches (take c.loop-script.script-index c.args.scripts.now) c.loop-script.reaches.items
+    c.loop-script.invariant in
     let took = length-take c.loop-script.script-index c.args.scripts.now in
     let test = c.loop-script-test.true in
     let few = c.requires in

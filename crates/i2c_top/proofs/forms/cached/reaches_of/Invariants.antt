@@ -1,6 +1,4 @@
-use Rattle.std.proofs.Common.{take}
-use Rattle.std.specs.List.{AllZip}
-use Rattle.caller_core.specs.Reach.{IsReachOf}
+use Rattle.i2c_top.proofs.Cited.{take, AllZip, IsReachOf}
 use Rattle.i2c_top.proofs.forms.cached.reaches_of.Given as goal
 
 abbrev pub invariant-loop-script : goal.invariant-loop-script

@@ -1,5 +1,4 @@
-use Rattle.std.proofs.Common.{ap, ◌∙◌}
-use Rattle.i2c_top.specs.forms.Checks.{accepted_text}
+use Rattle.i2c_top.proofs.Cited.{ap, ◌∙◌, accepted_text}
 use Rattle.i2c_top.proofs.CheckLemmas.{check_done, check_refused}
 use Rattle.i2c_top.proofs.FileLemmas.{passed_on}
 use Rattle.i2c_top.proofs.forms.check.check_board.Goals as goal

@@ -1,4 +1,4 @@
-use Rattle.i2c_top.specs.forms.Checks.{check_form}
+use Rattle.i2c_top.proofs.Cited.{check_form}
 use Rattle.i2c_top.proofs.CheckLemmas.{check_decides, ended_checked, no_rig}
 use Rattle.i2c_top.proofs.EndingLemmas.{ended_by, ended_same, for_ok, for_err}
 use Rattle.i2c_top.proofs.forms.check.check_call.Goals as goal

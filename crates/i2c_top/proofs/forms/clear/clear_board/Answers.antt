@@ -1,4 +1,4 @@
-use Rattle.std.proofs.Common.{◌∙◌}
+use Rattle.i2c_top.proofs.Cited.{◌∙◌}
 use Rattle.i2c_top.proofs.ClearLemmas.{clear_done, clear_refused, no_root_refused, lines_told}
 use Rattle.i2c_top.proofs.FileLemmas.{passed_on}
 use Rattle.i2c_top.proofs.forms.clear.clear_board.Goals as goal

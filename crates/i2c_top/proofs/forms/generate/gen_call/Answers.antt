@@ -1,5 +1,4 @@
-use Rattle.std.proofs.Common.{[], refl}
-use Rattle.i2c_top.specs.forms.Generations.{gen_form}
+use Rattle.i2c_top.proofs.Cited.{[], refl, gen_form}
 use Rattle.i2c_top.specs.Traces.{around}
 use Rattle.i2c_top.proofs.EndingLemmas.{ended_by, for_ok, for_err}
 use Rattle.i2c_top.proofs.GenerationLemmas.{gen_decides, gen_refusal, ended_generated, no_shelf}

@@ -1,7 +1,4 @@
-use Rattle.std.proofs.Common.{ℕ, List, Some, subst}
-use Rattle.std.specs.Prelude.{IfOk}
-use Rattle.i2c_top.specs.Runs.{texts_of, HasRunTold}
-use Rattle.i2c_top.specs.forms.Generations.{summary_of}
+use Rattle.i2c_top.proofs.Cited.{ℕ, List, Some, subst, IfOk, texts_of, HasRunTold, summary_of}
 use Rattle.i2c_top.proofs.EndingLemmas.{each_ok, each_err}
 use Rattle.i2c_top.proofs.GenerationLemmas.{gen_done, gen_failed, made_summary}
 use Rattle.i2c_top.proofs.forms.generate.generate.Goals as goal

@@ -1,11 +1,7 @@
-use Rattle.std.proofs.Common.{◌<◌, ◌∙◌, List, ℕ, All, Some, length, sym, subst}
-use Rattle.std.specs.Prelude.{IfOk}
-use Rattle.std.specs.Option.{option_map}
-use Rattle.i2c_top.specs.forms.Replays.{IsReplayAnswer}
+use Rattle.i2c_top.proofs.Cited.{◌<◌, ◌∙◌, List, ℕ, All, Some, length, sym, subst, IfOk, option_map, IsReplayAnswer, names_told, texts_of}
+use Rattle.i2c_top.proofs.Cited.{HasRun}
 use Rattle.i2c_top.proofs.ReplayLemmas.{files_refused, scheduled_run_done, run_failed, named_all}
-use Rattle.i2c_top.specs.Runs.{texts_of, HasRun}
 use Rattle.i2c_top.proofs.FileLemmas.{passed_on}
-use Rattle.i2c_top.specs.forms.Replays.{names_told}
 use Rattle.i2c_top.proofs.forms.replay.replay.Goals as goal
 
 pub run_scripts-requires-clause-named : goal.run_scripts-requires-clause-named

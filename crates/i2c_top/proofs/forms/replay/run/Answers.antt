@@ -1,7 +1,6 @@
-use Rattle.i2c_top.specs.forms.Replays.{IsReplayAnswer}
+use Rattle.i2c_top.proofs.Cited.{IsReplayAnswer, names_told}
 use Rattle.i2c_top.proofs.ReplayLemmas.{files_refused, free_run_done, run_failed}
 use Rattle.i2c_top.proofs.FileLemmas.{passed_on}
-use Rattle.i2c_top.specs.forms.Replays.{names_told}
 use Rattle.i2c_top.proofs.forms.replay.run.Goals as goal
 
 pub returns-clause-done : goal.returns-clause-done

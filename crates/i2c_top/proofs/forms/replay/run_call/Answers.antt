@@ -1,4 +1,4 @@
-use Rattle.i2c_top.specs.forms.Replays.{names_told, replay_form}
+use Rattle.i2c_top.proofs.Cited.{names_told, replay_form}
 use Rattle.i2c_top.proofs.EndingLemmas.{ended_by, ended_same}
 use Rattle.i2c_top.proofs.ReplayCauses.{replay_decides}
 use Rattle.i2c_top.proofs.ReplayLemmas.{ended_replayed}

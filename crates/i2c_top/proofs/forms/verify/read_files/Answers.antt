@@ -1,11 +1,5 @@
-use Rattle.i2c_top.specs.Traces.{shelf_view}
-use Rattle.std.proofs.Common.{◌≡◌, IsTrue, ◌+◌, ◌<◌, ◌≤◌, length, sym, subst, ◌∙◌, arith}
-use Rattle.std.specs.Prelude.{string_bytes}
-use Rattle.std.proofs.lemmas.List.{length-map}
-use Rattle.i2c_top.specs.Readings.{IsTooDear}
-use Rattle.i2c_top.specs.Runs.{cost_of_texts, texts_of}
-use Rattle.i2c_top.specs.forms.Replays.{IsPlaceIn}
-use Rattle.i2c_top.specs.forms.Verifies.{as_replayed, verify_told}
+use Rattle.i2c_top.proofs.Cited.{shelf_view, ◌≡◌, IsTrue, ◌+◌, ◌<◌, ◌≤◌, length, sym, subst, ◌∙◌, arith, string_bytes, length-map}
+use Rattle.i2c_top.proofs.Cited.{IsTooDear, cost_of_texts, texts_of, IsPlaceIn, as_replayed, verify_told}
 use Rattle.i2c_top.proofs.FileLemmas.{all_scripts, kept_then, passed_on}
 use Rattle.i2c_top.proofs.SomeFiles.{some-journal}
 use Rattle.i2c_top.proofs.VerifyLemmas.{board_told, cost_told, journal_read, journal_told, script_told, some_kept}
@@ -29,7 +23,8 @@ returns-in_err-scripts-clause-kept g c =
     let many = length-map c.args.names.now.scripts.now string_bytes in
     let kept = kept_then (λ p. p ≡ 1) (λ p. (3 ≤ p) × (p < 3 + length c.args.names.now.scripts.now)) (IsPlaceIn (as_replayed names)) _ _ _
     (λ p e. record { first = omega (arith, e); last = omega (arith, e) })
-    (λ p h. record { first = omega (arith, h.0); last = omega (arith, h.1, many) }) c.read_accepted.ensures.kept c.scripts_in.ensures.kept in
+    (λ p h. record { first = omega (arith, h.0); last = omega (arith, h.1, many) }) c.read_accepted.ensures.kept
+    c.scripts_in.ensures.kept in
     kept
 
 pub returns-in_err-scripts-clause-refused : goal.returns-in_err-scripts-clause-refused
@@ -38,9 +33,11 @@ returns-in_err-scripts-clause-refused g c =
     let many = length-map c.args.names.now.scripts.now string_bytes in
     let kept = kept_then (λ p. p ≡ 1) (λ p. (3 ≤ p) × (p < 3 + length c.args.names.now.scripts.now)) (IsPlaceIn (as_replayed names)) _ _ _
     (λ p e. record { first = omega (arith, e); last = omega (arith, e) })
-    (λ p h. record { first = omega (arith, h.0); last = omega (arith, h.1, many) }) c.read_accepted.ensures.kept c.scripts_in.ensures.kept in
+    (λ p h. record { first = omega (arith, h.0); last = omega (arith, h.1, many) }) c.read_accepted.ensures.kept
+    c.scripts_in.ensures.kept in
     passed_on c.from_residual-in_err-scripts.result c.in_err-scripts.field-0.0 _ c.from_residual-in_err-scripts.ensures.1
-    (λ rig. script_told names _ _ rig kept c.in_ok-board.board (shelf_view g.S.Shelf c.read_accepted.new.shelf) c.in_err-scripts.field-0.0 c.read_accepted.ensures.kept.files
+    (λ rig. script_told names _ _ rig kept c.in_ok-board.board (shelf_view g.S.Shelf c.read_accepted.new.shelf) c.in_err-scripts.field-0.0
+    c.read_accepted.ensures.kept.files
     c.read_accepted.ensures.kept.others
     (λ place no. c.scripts_in.ensures.kept.others place (λ h. no (h.0, omega (arith, h.1, many))))
     c.in_ok-board.ensures.board c.in_err-scripts.ensures.refused)
@@ -51,7 +48,8 @@ returns-in_err-journal-clause-kept g c =
     let many = length-map c.args.names.now.scripts.now string_bytes in
     let kept = kept_then (λ p. p ≡ 1) (λ p. (3 ≤ p) × (p < 3 + length c.args.names.now.scripts.now)) (IsPlaceIn (as_replayed names)) _ _ _
     (λ p e. record { first = omega (arith, e); last = omega (arith, e) })
-    (λ p h. record { first = omega (arith, h.0); last = omega (arith, h.1, many) }) c.read_accepted.ensures.kept c.scripts_in.ensures.kept in
+    (λ p h. record { first = omega (arith, h.0); last = omega (arith, h.1, many) }) c.read_accepted.ensures.kept
+    c.scripts_in.ensures.kept in
     let all = kept_then (IsPlaceIn (as_replayed names)) (λ p. p ≡ 2) (IsPlaceIn (as_replayed names)) _ _ _ (λ p h. h)
     (λ p e. record { first = omega (arith, e); last = omega (arith, e) }) kept c.bytes_at.ensures.kept in
     all
@@ -62,15 +60,18 @@ returns-in_err-journal-clause-refused g c =
     let many = length-map c.args.names.now.scripts.now string_bytes in
     let kept = kept_then (λ p. p ≡ 1) (λ p. (3 ≤ p) × (p < 3 + length c.args.names.now.scripts.now)) (IsPlaceIn (as_replayed names)) _ _ _
     (λ p e. record { first = omega (arith, e); last = omega (arith, e) })
-    (λ p h. record { first = omega (arith, h.0); last = omega (arith, h.1, many) }) c.read_accepted.ensures.kept c.scripts_in.ensures.kept in
+    (λ p h. record { first = omega (arith, h.0); last = omega (arith, h.1, many) }) c.read_accepted.ensures.kept
+    c.scripts_in.ensures.kept in
     let all = kept_then (IsPlaceIn (as_replayed names)) (λ p. p ≡ 2) (IsPlaceIn (as_replayed names)) _ _ _ (λ p h. h)
     (λ p e. record { first = omega (arith, e); last = omega (arith, e) }) kept c.bytes_at.ensures.kept in
     let count = c.in_ok-scripts.ensures.count ∙ sym many in
     passed_on c.from_residual-in_err-journal.result c.in_err-journal.field-0.0 _ c.from_residual-in_err-journal.ensures.1
     (λ rig. journal_told names _ _ rig all c.in_ok-board.board c.in_err-journal.field-0.0 _
-    (c.scripts_in.ensures.kept.others 2 (λ h. absurd (omega (arith, h.0))) ∙ c.read_accepted.ensures.kept.others 2 (λ e. absurd (omega (arith, e))))
+    (c.scripts_in.ensures.kept.others 2 (λ h. absurd (omega (arith, h.0))) ∙ c.read_accepted.ensures.kept.others 2
+    (λ e. absurd (omega (arith, e))))
     c.in_ok-board.ensures.board
-    (all_scripts g.S.Shelf.tells (g.S.Shelf.file c.args.shelf.now) (g.S.Shelf.file c.read_accepted.new.shelf) names.scripts c.in_ok-board.board
+    (all_scripts g.S.Shelf.tells (g.S.Shelf.file c.args.shelf.now)
+    (g.S.Shelf.file c.read_accepted.new.shelf) names.scripts c.in_ok-board.board
     c.in_ok-scripts.scripts.items c.read_accepted.ensures.kept.files count c.in_ok-scripts.ensures.scripts)
     c.in_err-journal.ensures.refused)
 
@@ -80,7 +81,8 @@ returns-in_err-check_cost-clause-kept g c =
     let many = length-map c.args.names.now.scripts.now string_bytes in
     let kept = kept_then (λ p. p ≡ 1) (λ p. (3 ≤ p) × (p < 3 + length c.args.names.now.scripts.now)) (IsPlaceIn (as_replayed names)) _ _ _
     (λ p e. record { first = omega (arith, e); last = omega (arith, e) })
-    (λ p h. record { first = omega (arith, h.0); last = omega (arith, h.1, many) }) c.read_accepted.ensures.kept c.scripts_in.ensures.kept in
+    (λ p h. record { first = omega (arith, h.0); last = omega (arith, h.1, many) }) c.read_accepted.ensures.kept
+    c.scripts_in.ensures.kept in
     let all = kept_then (IsPlaceIn (as_replayed names)) (λ p. p ≡ 2) (IsPlaceIn (as_replayed names)) _ _ _ (λ p h. h)
     (λ p e. record { first = omega (arith, e); last = omega (arith, e) }) kept c.bytes_at.ensures.kept in
     all
@@ -91,12 +93,15 @@ returns-in_err-check_cost-clause-refused g c =
     let many = length-map c.args.names.now.scripts.now string_bytes in
     let kept = kept_then (λ p. p ≡ 1) (λ p. (3 ≤ p) × (p < 3 + length c.args.names.now.scripts.now)) (IsPlaceIn (as_replayed names)) _ _ _
     (λ p e. record { first = omega (arith, e); last = omega (arith, e) })
-    (λ p h. record { first = omega (arith, h.0); last = omega (arith, h.1, many) }) c.read_accepted.ensures.kept c.scripts_in.ensures.kept in
+    (λ p h. record { first = omega (arith, h.0); last = omega (arith, h.1, many) }) c.read_accepted.ensures.kept
+    c.scripts_in.ensures.kept in
     let all = kept_then (IsPlaceIn (as_replayed names)) (λ p. p ≡ 2) (IsPlaceIn (as_replayed names)) _ _ _ (λ p h. h)
     (λ p e. record { first = omega (arith, e); last = omega (arith, e) }) kept c.bytes_at.ensures.kept in
     let count = c.in_ok-scripts.ensures.count ∙ sym many in
-    let read = λ (t : IsTrue g.S.Shelf.tells). journal_read _ _ _ names g.S.Shelf.tells c.in_ok-board.board c.in_ok-scripts.scripts.items c.in_ok-journal.journal.items
-    c.read_accepted.ensures.kept.files c.scripts_in.ensures.kept.files t (c.in_ok-board.ensures.board t) count c.in_ok-scripts.ensures.scripts
+    let read = λ (t : IsTrue g.S.Shelf.tells). journal_read _ _ _ names g.S.Shelf.tells c.in_ok-board.board c.in_ok-scripts.scripts.items
+    c.in_ok-journal.journal.items
+    c.read_accepted.ensures.kept.files c.scripts_in.ensures.kept.files t
+    (c.in_ok-board.ensures.board t) count c.in_ok-scripts.ensures.scripts
     (c.in_ok-journal.ensures.bytes t) in
     passed_on c.from_residual-in_err-check_cost.result c.in_err-check_cost.field-0.0 _ c.from_residual-in_err-check_cost.ensures.1
     (λ rig. cost_told names _ _ rig all c.in_ok-board.board (texts_of c.in_ok-scripts.scripts.items) c.in_ok-journal.journal.items
@@ -110,7 +115,8 @@ returns-clause-kept g c =
     let many = length-map c.args.names.now.scripts.now string_bytes in
     let kept = kept_then (λ p. p ≡ 1) (λ p. (3 ≤ p) × (p < 3 + length c.args.names.now.scripts.now)) (IsPlaceIn (as_replayed names)) _ _ _
     (λ p e. record { first = omega (arith, e); last = omega (arith, e) })
-    (λ p h. record { first = omega (arith, h.0); last = omega (arith, h.1, many) }) c.read_accepted.ensures.kept c.scripts_in.ensures.kept in
+    (λ p h. record { first = omega (arith, h.0); last = omega (arith, h.1, many) }) c.read_accepted.ensures.kept
+    c.scripts_in.ensures.kept in
     let all = kept_then (IsPlaceIn (as_replayed names)) (λ p. p ≡ 2) (IsPlaceIn (as_replayed names)) _ _ _ (λ p h. h)
     (λ p e. record { first = omega (arith, e); last = omega (arith, e) }) kept c.bytes_at.ensures.kept in
     all
@@ -121,10 +127,13 @@ returns-clause-read g c =
     let many = length-map c.args.names.now.scripts.now string_bytes in
     let kept = kept_then (λ p. p ≡ 1) (λ p. (3 ≤ p) × (p < 3 + length c.args.names.now.scripts.now)) (IsPlaceIn (as_replayed names)) _ _ _
     (λ p e. record { first = omega (arith, e); last = omega (arith, e) })
-    (λ p h. record { first = omega (arith, h.0); last = omega (arith, h.1, many) }) c.read_accepted.ensures.kept c.scripts_in.ensures.kept in
+    (λ p h. record { first = omega (arith, h.0); last = omega (arith, h.1, many) }) c.read_accepted.ensures.kept
+    c.scripts_in.ensures.kept in
     let count = c.in_ok-scripts.ensures.count ∙ sym many in
-    let read = λ (t : IsTrue g.S.Shelf.tells). journal_read _ _ _ names g.S.Shelf.tells c.in_ok-board.board c.in_ok-scripts.scripts.items c.in_ok-journal.journal.items
-    c.read_accepted.ensures.kept.files c.scripts_in.ensures.kept.files t (c.in_ok-board.ensures.board t) count c.in_ok-scripts.ensures.scripts
+    let read = λ (t : IsTrue g.S.Shelf.tells). journal_read _ _ _ names g.S.Shelf.tells c.in_ok-board.board c.in_ok-scripts.scripts.items
+    c.in_ok-journal.journal.items
+    c.read_accepted.ensures.kept.files c.scripts_in.ensures.kept.files t
+    (c.in_ok-board.ensures.board t) count c.in_ok-scripts.ensures.scripts
     (c.in_ok-journal.ensures.bytes t) in
     read
 

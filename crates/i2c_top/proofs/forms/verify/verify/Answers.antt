@@ -1,10 +1,6 @@
-use Rattle.std.proofs.Common.{◌≡◌, ℕ, ◌⊎◌, List, sym, subst}
-use Rattle.journal_check.specs.Faults.{IsFaultIn, IsVerified}
+use Rattle.i2c_top.proofs.Cited.{◌≡◌, ℕ, ◌⊎◌, List, sym, subst, IsFaultIn, IsVerified, checked_on, CameToRefusal, texts_of, verify_form}
+use Rattle.i2c_top.proofs.Cited.{verify_told}
 use Rattle.journal_check.specs.declared.fault.CheckFault.TheVariants as fault
-use Rattle.i2c_top.specs.Checked.{checked_on}
-use Rattle.i2c_top.specs.Endings.{CameToRefusal}
-use Rattle.i2c_top.specs.Runs.{texts_of}
-use Rattle.i2c_top.specs.forms.Verifies.{verify_form, verify_told}
 use Rattle.i2c_top.proofs.VerifyLemmas.{fault_told, verify_done}
 use Rattle.i2c_top.proofs.forms.verify.verify.Goals as goal
 
@@ -24,6 +20,7 @@ returns-clause-refused g c =
     let read = c.in_ok-board.ensures in
     let names = verify_told c.args.names.now in
     λ rig. subst (CameToRefusal (verify_form names) _ _ rig rig) (sym c.refusal_of.ensures)
-    (fault_told names _ _ rig c.read_files.ensures.kept f.board (texts_of f.scripts.items) f.journal.items read.read read.cheap read.plain c.in-Err.fault
+    (fault_told names _ _ rig c.read_files.ensures.kept f.board (texts_of f.scripts.items) f.journal.items read.read read.cheap read.plain
+    c.in-Err.fault
     (subst (λ (t : List ℕ). (c.in-Err.fault ≡ fault.Memory) ⊎ IsFaultIn (checked_on f.board (texts_of f.scripts.items)) t c.in-Err.fault)
     c.as_slice.ensures.value c.in-Err.ensures.fault))

@@ -1,4 +1,4 @@
-use Rattle.i2c_top.specs.forms.Verifies.{verify_form, verify_told}
+use Rattle.i2c_top.proofs.Cited.{verify_form, verify_told}
 use Rattle.i2c_top.proofs.CheckLemmas.{no_rig}
 use Rattle.i2c_top.proofs.EndingLemmas.{ended_by, ended_same, for_ok, for_err}
 use Rattle.i2c_top.proofs.VerifyLemmas.{verify_decides, ended_verified}

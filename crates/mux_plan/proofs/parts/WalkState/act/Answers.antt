@@ -1,8 +1,4 @@
-use Rattle.std.proofs.Common.{◌∙◌, ap}
-use Rattle.bus_spec.specs.Walk.{WalkTree}
-use Rattle.bus_spec.specs.Grammar.{rest_of}
-use Rattle.mux_plan.specs.declared.task.Task.TheVariants.{Lock, Rest}
-use Rattle.mux_plan.specs.Plans.{came_of, outcome_of}
+use Rattle.mux_plan.proofs.Cited.{◌∙◌, ap, WalkTree, rest_of, Lock, Rest, came_of, outcome_of}
 use Rattle.mux_plan.proofs.Rooms.{top-tree}
 use Rattle.mux_plan.proofs.parts.WalkState.act.Goals as goal
 

@@ -1,6 +1,4 @@
-use Rattle.std.proofs.Common.{refl, sym, ◌∙◌, ap}
-use Rattle.bus_spec.specs.Grammar.{keeps}
-use Rattle.mux_plan.specs.Plans.{RouteView, hop_at, mark_on, kept_of}
+use Rattle.mux_plan.proofs.Cited.{refl, sym, ◌∙◌, ap, keeps, RouteView, hop_at, mark_on, kept_of}
 use Rattle.mux_plan.proofs.Openings.{enters-lock, enters-next, tree_of-bus}
 use Rattle.mux_plan.proofs.Rooms.{planned-next}
 use Rattle.mux_plan.proofs.parts.WalkState.enter.Goals as goal

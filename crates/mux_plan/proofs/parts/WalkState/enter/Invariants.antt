@@ -1,9 +1,4 @@
-use Rattle.std.proofs.Common.{◌≡◌, ◌-◌, ◌∷◌, length}
-use Rattle.bus_spec.specs.Walk.{JobOutcome}
-use Rattle.bus_spec.specs.Grammar.{seen}
-use Rattle.mux_plan.specs.declared.task.Task.TheVariants.{Enter}
-use Rattle.mux_plan.specs.Plans.{tree_of, slots_of}
-use Rattle.mux_plan.specs.Rooms.{IsPlanned}
+use Rattle.mux_plan.proofs.Cited.{◌≡◌, ◌-◌, ◌∷◌, length, JobOutcome, seen, Enter, tree_of, slots_of, IsPlanned}
 use Rattle.mux_plan.proofs.parts.WalkState.enter.Given as goal
 
 -- the tree after its looks stays the same

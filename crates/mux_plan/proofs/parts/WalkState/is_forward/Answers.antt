@@ -1,7 +1,5 @@
-use Rattle.std.proofs.Common.{not, reverse, sym, ◌∙◌, ap}
-use Rattle.std.specs.List.{list_any}
+use Rattle.mux_plan.proofs.Cited.{not, reverse, sym, ◌∙◌, ap, list_any, is_deselect}
 use Rattle.std.proofs.lemmas.List.Sorted.{list_any-IsPermutation, IsPermutation-reverse}
-use Rattle.mux_plan.specs.Plans.{is_deselect}
 use Rattle.mux_plan.proofs.Openings.{note_of-forward}
 use Rattle.mux_plan.proofs.parts.WalkState.is_forward.Goals as goal
 

@@ -1,8 +1,5 @@
-use Rattle.std.proofs.Common.{◌+◌, true, false, List, ◌∷◌, sym, ◌∙◌, ap}
-use Rattle.mux_plan.specs.declared.task.Task.{Task}
+use Rattle.mux_plan.proofs.Cited.{◌+◌, true, false, List, ◌∷◌, sym, ◌∙◌, ap, Task, Enter, Lock, Free, tree_of}
 use Rattle.i2c_base.specs.declared.ids.LockId.{LockId}
-use Rattle.mux_plan.specs.declared.task.Task.TheVariants.{Enter, Lock, Free}
-use Rattle.mux_plan.specs.Plans.{tree_of}
 use Rattle.mux_plan.proofs.Openings.{tree_of-locked}
 use Rattle.mux_plan.proofs.parts.WalkState.lock.Goals as goal
 

@@ -1,9 +1,5 @@
-use Rattle.std.proofs.Common.{List, ◌∷◌, drop, sym, ◌∙◌, ap, subst, rules}
-use Rattle.bus_spec.specs.Grammar.{seen}
-use Rattle.mux_plan.specs.declared.task.Task.{Task}
-use Rattle.mux_plan.specs.declared.task.Task.TheVariants.{Pass}
-use Rattle.mux_plan.specs.Plans.{SeenView, tree_of, slots_of}
-use Rattle.mux_plan.specs.Rooms.{IsReady, IsStep}
+use Rattle.mux_plan.proofs.Cited.{List, ◌∷◌, drop, sym, ◌∙◌, ap, subst, seen, Task, Pass, SeenView, tree_of, slots_of, IsReady, IsStep}
+use Rattle.std.proofs.Common.{rules}
 use Rattle.mux_plan.proofs.Openings.{seen-step, ready-step}
 use Rattle.mux_plan.proofs.parts.WalkState.look.Goals as goal
 

@@ -1,7 +1,4 @@
-use Rattle.std.proofs.Common.{false, List, ◌∷◌, ◌+◌, sym, ◌∙◌, ap}
-use Rattle.bus_spec.specs.Grammar.{seen}
-use Rattle.mux_plan.specs.declared.task.Task.{Task}
-use Rattle.mux_plan.specs.Plans.{RouteView, hop_at, tree_of, slots_of, part_task}
+use Rattle.mux_plan.proofs.Cited.{false, List, ◌∷◌, ◌+◌, sym, ◌∙◌, ap, seen, Task, RouteView, hop_at, tree_of, slots_of, part_task}
 use Rattle.mux_plan.proofs.Openings.{passes-by, seen-step}
 use Rattle.mux_plan.proofs.parts.WalkState.pass.Goals as goal
 

@@ -1,6 +1,4 @@
-use Rattle.std.proofs.Common.{List, sym, subst}
-use Rattle.mux_plan.specs.declared.task.Task.{Task}
-use Rattle.mux_plan.specs.Rooms.{IsPlanned}
+use Rattle.mux_plan.proofs.Cited.{List, sym, subst, Task, IsPlanned}
 use Rattle.mux_plan.proofs.parts.WalkState.reach.Goals as goal
 
 pub returns-clause-planned : goal.returns-clause-planned

@@ -1,6 +1,4 @@
-use Rattle.std.proofs.Common.{◌≡◌, length}
-use Rattle.mux_plan.specs.Plans.{tree_of, came_of}
-use Rattle.mux_plan.specs.Rooms.{IsPlanned}
+use Rattle.mux_plan.proofs.Cited.{◌≡◌, length, tree_of, came_of, IsPlanned}
 use Rattle.mux_plan.proofs.parts.WalkState.resume.Given as goal
 
 -- the tree stays the same

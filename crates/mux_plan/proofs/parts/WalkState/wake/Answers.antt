@@ -1,6 +1,4 @@
-use Rattle.std.proofs.Common.{◌∙◌}
-use Rattle.mux_plan.specs.declared.task.Task.TheVariants.{AwaitClose}
-use Rattle.mux_plan.specs.Plans.{came_of}
+use Rattle.mux_plan.proofs.Cited.{◌∙◌, AwaitClose, came_of}
 use Rattle.mux_plan.proofs.Rooms.{top-tree}
 use Rattle.mux_plan.proofs.parts.WalkState.wake.Goals as goal
 

@@ -1,12 +1,6 @@
-use Rattle.std.proofs.Common.{◌≡◌, ◌≤◌, List, length, sym, ◌∙◌, ap, subst}
-use Rattle.std.specs.List.{All}
-use Rattle.i2c_base.specs.Board.{BoardView}
+use Rattle.mux_plan.proofs.Cited.{◌≡◌, ◌≤◌, List, length, sym, ◌∙◌, ap, subst, All, BoardView, Hop, hops, IsPlainBoard, RouteView, IsNarrow}
 use Rattle.i2c_base.specs.Limits.{MOST_DEPTH}
-use Rattle.i2c_spec.specs.Tree.{Hop, hops}
 use Rattle.i2c_board.specs.Layouts.{board_of}
-use Rattle.i2c_spec.specs.Plain.{IsPlainBoard}
-use Rattle.mux_plan.specs.Plans.{RouteView}
-use Rattle.mux_plan.specs.Rooms.{IsNarrow}
 use Rattle.i2c_spec.proofs.CostLemmas.{hops_few}
 use Rattle.mux_plan.proofs.OpensFit.{path_narrow}
 use Rattle.mux_plan.proofs.route.Route.set_route.Goals as goal

@@ -1,7 +1,4 @@
-use Rattle.std.proofs.Common.{length, sym, ◌∙◌, ap}
-use Rattle.i2c_base.specs.Transfer.{TransferView}
-use Rattle.i2c_spec.specs.Messages.{messages_of}
-use Rattle.i2c_spec.proofs.MessageLemmas.{length-messages}
+use Rattle.mux_plan.proofs.Cited.{length, sym, ◌∙◌, ap, TransferView, messages_of, length-messages}
 use Rattle.mux_plan.proofs.route.Route.set_transfer.Goals as goal
 
 pub invariant_of-self : goal.invariant_of-self

@@ -1,4 +1,4 @@
-use Rattle.std.proofs.Common.{reverse, drop, ap, ◌∙◌}
+use Rattle.mux_plan.proofs.Cited.{reverse, drop, ap, ◌∙◌}
 use Rattle.mux_plan.proofs.StackLemmas.{reverse_front}
 use Rattle.mux_plan.proofs.stack.Stack.drop_top.Goals as goal
 

@@ -1,9 +1,5 @@
-use Rattle.std.proofs.Common.{List, sym, ◌∙◌, ap, subst}
-use Rattle.bus_spec.specs.Grammar.{seen}
-use Rattle.mux_plan.specs.declared.task.Task.{Task}
+use Rattle.mux_plan.proofs.Cited.{List, sym, ◌∙◌, ap, subst, seen, Task, came_of, tree_of, IsStep}
 use Rattle.mux_plan.specs.declared.task.Work.TheVariants as work
-use Rattle.mux_plan.specs.Plans.{came_of, tree_of}
-use Rattle.mux_plan.specs.Rooms.{IsStep}
 use Rattle.mux_plan.proofs.Openings.{seen-step}
 use Rattle.mux_plan.proofs.walk.Walk.begin.Goals as goal
 

@@ -1,6 +1,5 @@
-use Rattle.std.proofs.Common.{◌∙◌, ap}
-use Rattle.bus_spec.specs.Grammar.{is_over}
-use Rattle.mux_plan.specs.Plans.{WalkView, walk_of, came_of}
+use Rattle.mux_plan.proofs.Cited.{◌∙◌, ap, is_over, WalkView, came_of}
+use Rattle.mux_plan.specs.Plans.{walk_of}
 use Rattle.mux_plan.proofs.StepsLeft.{is_over-empty, both-over}
 use Rattle.mux_plan.proofs.walk.Walk.is_over.Goals as goal
 

@@ -1,8 +1,5 @@
-use Rattle.std.proofs.Common.{List, drop, sym, ◌∙◌, ap, subst}
-use Rattle.bus_spec.specs.Grammar.{first_act}
-use Rattle.mux_plan.specs.declared.task.Task.{Task}
-use Rattle.mux_plan.specs.Plans.{WalkView, tree_of, came_of, action_of, looked_of}
-use Rattle.mux_plan.specs.Rooms.{IsStep}
+use Rattle.mux_plan.proofs.Cited.{List, drop, sym, ◌∙◌, ap, subst, first_act, Task, WalkView, tree_of, came_of, looked_of, IsStep}
+use Rattle.mux_plan.specs.Plans.{action_of}
 use Rattle.mux_plan.proofs.Openings.{first_of-task}
 use Rattle.mux_plan.proofs.walk.Walk.next.Goals as goal
 

@@ -1,8 +1,5 @@
-use Rattle.std.proofs.Common.{reverse, sym, ◌∙◌, ap, subst}
-use Rattle.bus_spec.specs.Grammar.{first_act, first_note}
-use Rattle.mux_plan.specs.Marks.{updates_after}
-use Rattle.mux_plan.specs.Plans.{WalkView, came_of, outcome_of, looked_of}
-use Rattle.mux_plan.specs.Rooms.{IsStep}
+use Rattle.mux_plan.proofs.Cited.{reverse, sym, ◌∙◌, ap, subst, first_act, first_note, updates_after, WalkView, came_of, outcome_of}
+use Rattle.mux_plan.proofs.Cited.{looked_of, IsStep}
 use Rattle.mux_plan.proofs.MarksTold.{no-updates}
 use Rattle.mux_plan.proofs.walk.Walk.updates.Goals as goal
 

@@ -1,6 +1,5 @@
-use Rattle.std.proofs.Common.{◌≡◌, ◌≤◌, map, take, length}
+use Rattle.reg_cache.proofs.Cited.{◌≡◌, ◌≤◌, map, take, length, unknown}
 use Rattle.std.specs.Prelude.{vec_capacity}
-use Rattle.cache_laws.specs.Cache.{unknown}
 use Rattle.reg_cache.proofs.caller.CachedCaller.open.Given as goal
 
 abbrev pub invariant-loop-device : goal.invariant-loop-device

@@ -1,7 +1,4 @@
-use Rattle.std.proofs.Common.{◌∙◌, sym, ap, List}
-use Rattle.i2c_base.specs.declared.reply.Reply.{Reply}
-use Rattle.caller_core.specs.Scripts.{asked_by}
-use Rattle.reg_cache.specs.Cached.{CachedView, cached_asked}
+use Rattle.reg_cache.proofs.Cited.{◌∙◌, sym, ap, List, Reply, asked_by, CachedView, cached_asked}
 use Rattle.reg_cache.proofs.caller.CachedCallerCaller.refill.Goals as goal
 
 pub returns-clause-some : goal.returns-clause-some

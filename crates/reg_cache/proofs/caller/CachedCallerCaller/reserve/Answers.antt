@@ -1,11 +1,5 @@
-use Rattle.std.proofs.Common.{◌≡◌, ◌∙◌, sym, ap, subst, List}
-use Rattle.i2c_base.specs.Need.{Covers}
-use Rattle.i2c_base.specs.declared.reply.Reply.{Reply}
+use Rattle.reg_cache.proofs.Cited.{◌≡◌, ◌∙◌, sym, ap, subst, List, Covers, Reply, owed_by, ScriptView, answered, cached, taken_of}
 use Rattle.std.specs.Result.{OnOk}
-use Rattle.caller_core.specs.Callers.{owed_by}
-use Rattle.caller_core.specs.View.{ScriptView}
-use Rattle.cache_laws.specs.Cache.{answered}
-use Rattle.reg_cache.specs.Cached.{cached, taken_of}
 use Rattle.reg_cache.proofs.caller.CachedCallerCaller.reserve.Goals as goal
 
 pub returns-clause-ok : goal.returns-clause-ok
@@ -14,6 +8,10 @@ returns-clause-ok c =
     (sym (subst (λ (s : ScriptView). answered (cached (record { script = s; devices = c.self.inside.devices.value.items }))
     (taken_of (record { script = s; devices = c.self.inside.devices.value.items }) c.reserve.new.self.taken) ≡ c.reserve.new.self.taken)
     (sym c.reserve.ensures.script)
-    (ap (λ (l : List Reply). answered (cached (record { script = c.self.inside.script.script; devices = c.self.inside.devices.value.items }))
+    (ap (λ (l : List Reply). answered (cached (record {
+      script = c.self.inside.script.script;
+      devices =
+          c.self.inside.devices.value.items;
+    }))
     (taken_of (record { script = c.self.inside.script.script; devices = c.self.inside.devices.value.items }) l)) c.reserve.ensures.taken
     ∙ c.self.invariant.0.whole ∙ sym c.reserve.ensures.taken))) c.reserve.ensures.ok

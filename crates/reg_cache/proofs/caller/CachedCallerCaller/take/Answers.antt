@@ -1,13 +1,5 @@
-use Rattle.std.proofs.Common.{◌≡◌, ◌++◌, List, [], ◌∷◌, Some, sym, ◌∙◌, ap, subst}
-use Rattle.i2c_base.specs.Need.{Covers}
-use Rattle.i2c_base.specs.Replies.{reply_by}
-use Rattle.i2c_base.specs.declared.reply.Reply.{Reply}
-use Rattle.caller_core.specs.Callers.{owed_by}
-use Rattle.caller_core.specs.Scripts.{asked_by}
-use Rattle.caller_core.specs.View.{ScriptView}
-use Rattle.cache_laws.specs.declared.registers.Kept.{Kept}
-use Rattle.cache_laws.specs.Cache.{known, answered}
-use Rattle.reg_cache.specs.Cached.{CachedScript, CachedView, cached, taken_of, HasAnsweredAll, IsCached}
+use Rattle.reg_cache.proofs.Cited.{◌≡◌, ◌++◌, List, [], ◌∷◌, Some, sym, ◌∙◌, ap, subst, Covers, reply_by, Reply, owed_by, asked_by}
+use Rattle.reg_cache.proofs.Cited.{ScriptView, Kept, known, answered, CachedScript, CachedView, cached, taken_of, HasAnsweredAll, IsCached}
 use Rattle.reg_cache.proofs.CacheLemmas.{IsTaken, take-all, learned-held, cached-asks, cached-room}
 use Rattle.reg_cache.proofs.caller.CachedCallerCaller.take.Goals as goal
 use Rattle.reg_cache.proofs.caller.CachedCallerCaller.take.Goals.{After-answer_hits}
@@ -24,7 +16,8 @@ take-requires-clause-fits c = (
 pub take-requires-clause-room : goal.take-requires-clause-room
 take-requires-clause-room c =
     cached-room (record { script = c.self.inside.script.script; devices = c.self.inside.devices.value.items })
-    c.self.inside.script.taken c.self.inside.kept.items c.self.inside.script.spare c.args.self.now c.self.invariant.0 c.self.view_is c.requires.room
+    c.self.inside.script.taken c.self.inside.kept.items c.self.inside.script.spare c.args.self.now c.self.invariant.0 c.self.view_is
+    c.requires.room
 
 module _ (c : After-answer_hits) where
   abbrev opened : CachedScript
@@ -44,8 +37,10 @@ module _ (c : After-answer_hits) where
       take-all c.scripts_are_fair.ensures opened c.self.inside.script.taken c.answer_hits.new.script.taken answer c.self.inside.kept.items
       c.learn_of.new.kept.items c.answer_hits.new.kept.items c.requires.fits.0 c.self.invariant.0 asked
       (c.learn_of.ensures
-      ∙ learned-held c.self.inside.kept.items c.self.inside.transfer c.requires.fits.0 answer (λ some. c.self.invariant.1 some c.requires.fits.0 asked))
-      (subst (λ (s : ScriptView). (ks : List Kept) → c.learn_of.new.kept.items ≡ known (asked_by s) ks (c.self.inside.script.taken ++ answer ∷ [])
+      ∙ learned-held c.self.inside.kept.items c.self.inside.transfer c.requires.fits.0 answer
+      (λ some. c.self.invariant.1 some c.requires.fits.0 asked))
+      (subst (λ (s : ScriptView). (ks : List Kept) → c.learn_of.new.kept.items ≡ known (asked_by s) ks
+      (c.self.inside.script.taken ++ answer ∷ [])
       → HasAnsweredAll s ks (c.self.inside.script.taken ++ answer ∷ []) c.answer_hits.new.script.taken c.answer_hits.new.kept.items)
       c.take.ensures.script
       (subst (λ (l : List Reply). (ks : List Kept) → c.learn_of.new.kept.items ≡ known (asked_by c.take.new.self.script) ks l
@@ -61,7 +56,8 @@ invariant_of-self c = (
 
 pub returns-clause-taken : goal.returns-clause-taken
 returns-clause-taken c =
-    ap (λ (s : ScriptView). taken_of (record { script = s; devices = c.self.inside.devices.value.items }) c.answer_hits.new.script.taken) (same c)
+    ap (λ (s : ScriptView). taken_of (record { script = s; devices = c.self.inside.devices.value.items }) c.answer_hits.new.script.taken)
+    (same c)
     ∙ (taken c).taken
     ∙ ap (λ (z : CachedView). z.taken ++ reply_by c.args.head c.args.bytes.now ∷ []) c.self.view_is
 
@@ -69,5 +65,6 @@ pub returns-clause-room : goal.returns-clause-room
 returns-clause-room c =
     subst (λ (l : List Reply). Covers c.answer_hits.new.script.spare (owed_by c.answer_hits.new.script.script l))
     (sym (subst (λ (s : ScriptView). answered (cached (record { script = s; devices = c.self.inside.devices.value.items }))
-    (taken_of (record { script = s; devices = c.self.inside.devices.value.items }) c.answer_hits.new.script.taken) ≡ c.answer_hits.new.script.taken)
+    (taken_of (record { script = s; devices = c.self.inside.devices.value.items }) c.answer_hits.new.script.taken)
+    ≡ c.answer_hits.new.script.taken)
     (sym (same c)) (taken c).cached.whole)) c.answer_hits.ensures.room

@@ -1,6 +1,4 @@
-use Rattle.std.proofs.Common.{◌≡◌, ℕ, List, [], ◌∷◌, ◌++◌, sym, ap, subst, ◌∙◌}
-use Rattle.bus_journal.specs.Reports.{IsLine}
-use Rattle.tools.specs.Detects.{bus_line}
+use Rattle.tools.proofs.Cited.{◌≡◌, ℕ, List, [], ◌∷◌, ◌++◌, sym, ap, subst, ◌∙◌, IsLine, bus_line}
 use Rattle.tools.proofs.DetectLemmas.{is_line, lines_next}
 use Rattle.tools.proofs.command.detect.bus_lines.Goals as goal
 

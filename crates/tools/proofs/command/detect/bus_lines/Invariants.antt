@@ -1,6 +1,4 @@
-use Rattle.std.proofs.Common.{◌≡◌, map}
-use Rattle.std.specs.List.{range_with_len}
-use Rattle.tools.specs.Detects.{bus_line}
+use Rattle.tools.proofs.Cited.{◌≡◌, map, range_with_len, bus_line}
 use Rattle.tools.proofs.command.detect.bus_lines.Given as goal
 
 abbrev pub invariant-loop-bus : goal.invariant-loop-bus

@@ -1,5 +1,4 @@
-use Rattle.std.proofs.Common.{arith}
-use Rattle.std.proofs.lemmas.Grind.{common_steps}
+use Rattle.tools.proofs.Cited.{arith, common_steps}
 use Rattle.tools.proofs.command.get.len_of.Goals as goal
 
 pub returns : goal.returns

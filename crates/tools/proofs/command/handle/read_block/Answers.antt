@@ -1,11 +1,5 @@
-use Rattle.std.proofs.Common.{◌≡◌, ℕ, List, [], Ok, sym, subst, arith}
-use Rattle.tools.specs.ByteLists.{some_bytes}
-use Rattle.tools.specs.Grammars.{read_at}
+use Rattle.tools.proofs.Cited.{◌≡◌, ℕ, List, [], Ok, sym, subst, arith, some_bytes, read_at, texts, FaultIs, block_room, Cmd, Handle}
 use Rattle.tools.specs.HandleLines.{bproc_bytes}
-use Rattle.tools.specs.Readers.{texts, FaultIs}
-use Rattle.tools.specs.Sets.{block_room}
-use Rattle.tools.specs.declared.command.Cmd.{Cmd}
-use Rattle.tools.specs.declared.command.Cmd.TheVariants.{Handle}
 use Rattle.tools.specs.declared.command.handle.HandleCmd.TheVariants.{Bproc}
 use Rattle.tools.proofs.ByteListLemmas.{bytes_read, bytes_refused}
 use Rattle.tools.proofs.command.handle.read_block.Goals as goal

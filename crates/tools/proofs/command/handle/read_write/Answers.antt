@@ -1,7 +1,5 @@
-use Rattle.std.proofs.Common.{◌≡◌, Ok}
-use Rattle.tools.specs.HandleLines.{handle_number, write_words}
-use Rattle.tools.specs.Readers.{texts, one_at}
-use Rattle.tools.specs.declared.command.Cmd.TheVariants.{Handle}
+use Rattle.tools.proofs.Cited.{◌≡◌, Ok, handle_number, texts, one_at, Handle}
+use Rattle.tools.specs.HandleLines.{write_words}
 use Rattle.tools.specs.declared.command.handle.HandleCmd.TheVariants.{Write}
 use Rattle.tools.proofs.ByteListLemmas.{line_read, line_refused}
 use Rattle.tools.proofs.command.handle.read_write.Goals as goal

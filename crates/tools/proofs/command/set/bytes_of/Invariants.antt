@@ -1,4 +1,4 @@
-use Rattle.std.proofs.Common.{◌≡◌, take}
+use Rattle.tools.proofs.Cited.{◌≡◌, take}
 use Rattle.tools.proofs.command.set.bytes_of.Given as goal
 
 abbrev pub invariant-loop-value : goal.invariant-loop-value

@@ -1,6 +1,4 @@
-use Rattle.std.proofs.Common.{◌≡◌, ◌++◌, ◌∷◌, [], rules, arith, Ok, Err}
-use Rattle.tools.specs.Readers.{texts, one_at}
-use Rattle.tools.specs.Sets.{block_piece, block_mode, is_short}
+use Rattle.tools.proofs.Cited.{◌≡◌, ◌++◌, ◌∷◌, [], rules, arith, Ok, Err, texts, one_at, block_piece, block_mode, is_short}
 use Rattle.tools.specs.declared.command.set.SetPiece.TheVariants as piece
 use Rattle.tools.proofs.SetLemmas.{piece_refused, named_here, value_here, mode_refused, mode_here}
 use Rattle.tools.proofs.command.set.read_block.Goals as goal

@@ -1,6 +1,4 @@
-use Rattle.std.proofs.Common.{◌≡◌, ◌+◌, ◌-◌}
-use Rattle.tools.specs.Grammars.{read_at}
-use Rattle.tools.specs.Readers.{texts}
+use Rattle.tools.proofs.Cited.{◌≡◌, ◌+◌, ◌-◌, read_at, texts}
 use Rattle.tools.specs.Sets.{set_block}
 use Rattle.tools.proofs.command.set.read_block.Given as goal
 

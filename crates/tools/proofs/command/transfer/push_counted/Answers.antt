@@ -1,5 +1,4 @@
-use Rattle.std.proofs.Common.{◌≡◌, ◌+◌, ◌-◌, ◌%◌, ◌++◌, ◌∷◌, [], sym, ap, ◌∙◌, append_assoc, append-nil, rules}
-use Rattle.tools.specs.Combined.{counted}
+use Rattle.tools.proofs.Cited.{◌≡◌, ◌+◌, ◌-◌, ◌%◌, ◌++◌, ◌∷◌, [], sym, ap, ◌∙◌, append_assoc, append-nil, rules, counted}
 use Rattle.tools.proofs.CombinedLemmas.{counted_none, counted_more}
 use Rattle.tools.proofs.command.transfer.push_counted.Goals as goal
 

@@ -1,5 +1,4 @@
-use Rattle.std.proofs.Common.{◌≡◌, ◌++◌, ◌-◌}
-use Rattle.tools.specs.Combined.{counted}
+use Rattle.tools.proofs.Cited.{◌≡◌, ◌++◌, ◌-◌, counted}
 use Rattle.tools.proofs.command.transfer.push_counted.Given as goal
 
 abbrev pub invariant-loop : goal.invariant-loop

@@ -1,7 +1,6 @@
-use Rattle.std.proofs.Common.{◌≡◌, Ok}
-use Rattle.tools.specs.Combined.{combined, combined_bus}
+use Rattle.tools.proofs.Cited.{◌≡◌, Ok, combined, texts, one_at}
+use Rattle.tools.specs.Combined.{combined_bus}
 use Rattle.tools.specs.Options.{bus_number}
-use Rattle.tools.specs.Readers.{texts, one_at}
 use Rattle.tools.proofs.CombinedLemmas.{messages_read, messages_refused}
 use Rattle.tools.proofs.command.transfer.read_bus.Goals as goal
 

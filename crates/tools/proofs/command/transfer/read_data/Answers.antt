@@ -1,6 +1,5 @@
-use Rattle.std.proofs.Common.{◌≡◌, ◌-◌, ◌==◌, ◌++◌, ◌∷◌, [], rules, arith, Ok, Err}
-use Rattle.tools.specs.Combined.{datum_word, counted}
-use Rattle.tools.specs.Readers.{texts, one_at}
+use Rattle.tools.proofs.Cited.{◌≡◌, ◌-◌, ◌++◌, ◌∷◌, [], rules, arith, Ok, Err, datum_word, counted, texts, one_at}
+use Rattle.std.proofs.Common.{◌==◌}
 use Rattle.tools.specs.declared.command.transfer.Datum.TheVariants as datum
 use Rattle.tools.proofs.CombinedLemmas.{datum_refused, one_here, series_here, data_over}
 use Rattle.tools.proofs.command.transfer.read_data.Goals as goal

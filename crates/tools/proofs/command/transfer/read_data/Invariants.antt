@@ -1,6 +1,5 @@
-use Rattle.std.proofs.Common.{◌≡◌, ◌+◌, ◌-◌, []}
+use Rattle.tools.proofs.Cited.{◌≡◌, ◌+◌, ◌-◌, [], texts}
 use Rattle.tools.specs.Combined.{data_at}
-use Rattle.tools.specs.Readers.{texts}
 use Rattle.tools.proofs.command.transfer.read_data.Given as goal
 
 abbrev pub invariant-loop-more : goal.invariant-loop-more

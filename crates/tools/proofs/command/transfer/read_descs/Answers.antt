@@ -1,6 +1,4 @@
-use Rattle.std.proofs.Common.{◌≡◌, false, sym, ◌∙◌, arith, Ok}
-use Rattle.tools.specs.Combined.{message_at}
-use Rattle.tools.specs.Readers.{texts, is_past}
+use Rattle.tools.proofs.Cited.{◌≡◌, false, sym, ◌∙◌, arith, Ok, message_at, texts, is_past}
 use Rattle.tools.proofs.CombinedLemmas.{message_faulty, line_over, line_on, too_many}
 use Rattle.tools.proofs.command.transfer.read_descs.Goals as goal
 

@@ -1,8 +1,5 @@
-use Rattle.std.proofs.Common.{◌≡◌, ◌≤◌, ◌<◌, ◌+◌, ◌-◌, [], false}
-use Rattle.std.specs.Prelude.{IfSome}
-use Rattle.i2c_base.specs.Addr.{IsTargetAddress}
-use Rattle.tools.specs.Combined.{descs_at, first_place}
-use Rattle.tools.specs.Readers.{texts, is_past}
+use Rattle.tools.proofs.Cited.{◌≡◌, ◌≤◌, ◌<◌, ◌+◌, ◌-◌, [], false, IfSome, IsTargetAddress, first_place, texts, is_past}
+use Rattle.tools.specs.Combined.{descs_at}
 use Rattle.tools.proofs.command.transfer.read_descs.Given as goal
 
 abbrev pub invariant-loop : goal.invariant-loop

@@ -1,14 +1,6 @@
-use Rattle.std.proofs.Common.{◌≡◌, Some, sym, ap, subst, ◌∙◌}
-use Rattle.std.specs.Prelude.{slice_get}
-use Rattle.i2c_base.specs.Fitting.{Fits}
-use Rattle.i2c_base.specs.Replies.{reply_by}
+use Rattle.tools.proofs.Cited.{◌≡◌, Some, sym, ap, subst, ◌∙◌, slice_get, Fits, reply_by, messages_of_call, SmbCall, SmbOp, call_to}
+use Rattle.tools.proofs.Cited.{dump_call, Callee}
 use Rattle.i2c_base.specs.declared.reply.Reply.TheVariants.{Read}
-use Rattle.smb_emul.specs.Calls.{messages_of_call}
-use Rattle.smb_emul.specs.declared.call.SmbCall.{SmbCall}
-use Rattle.smb_emul.specs.declared.call.SmbOp.{SmbOp}
-use Rattle.tools.specs.Calls.{call_to}
-use Rattle.tools.specs.DumpTables.{dump_call}
-use Rattle.tools.specs.declared.run.call.Callee.{Callee}
 use Rattle.tools.proofs.DumpLemmas.{place_fits}
 use Rattle.tools.proofs.run.dump.outcome_at.Goals as goal
 

@@ -1,8 +1,6 @@
-use Rattle.std.proofs.Common.{◌≡◌, List, ℕ, ◌++◌, ◌∷◌, [], take, sym, ap, ◌∙◌, append_assoc, arith}
+use Rattle.tools.proofs.Cited.{◌≡◌, List, ℕ, ◌++◌, ◌∷◌, [], take, sym, ap, ◌∙◌, append_assoc, arith, take-length, dump_cell, dump_sign}
+use Rattle.tools.proofs.Cited.{parts, in_row}
 use Rattle.std.proofs.lemmas.List.{length-set, take_more_set}
-use Rattle.std.proofs.Math.Seq.{take-length}
-use Rattle.tools.specs.DumpTables.{dump_cell, dump_sign}
-use Rattle.tools.specs.Tables.{parts, in_row}
 use Rattle.tools.proofs.TableLemmas.{parts_more}
 use Rattle.tools.proofs.run.dump.push_byte_cells.Goals as goal
 

@@ -1,6 +1,4 @@
-use Rattle.std.proofs.Common.{◌≡◌, ◌≤◌, ◌+◌, ◌*◌, ◌++◌, length, take}
-use Rattle.tools.specs.DumpTables.{dump_cell, dump_sign}
-use Rattle.tools.specs.Tables.{parts, in_row}
+use Rattle.tools.proofs.Cited.{◌≡◌, ◌≤◌, ◌+◌, ◌*◌, ◌++◌, length, take, dump_cell, dump_sign, parts, in_row}
 use Rattle.tools.proofs.run.dump.push_byte_cells.Given as goal
 
 abbrev pub invariant-loop-column : goal.invariant-loop-column

@@ -1,6 +1,4 @@
-use Rattle.std.proofs.Common.{◌≡◌, List, ℕ, ◌++◌, codes, ap, ◌∙◌, append_assoc}
-use Rattle.tools.specs.DumpTables.{dump_cell, dump_sign}
-use Rattle.tools.specs.Tables.{parts, in_row}
+use Rattle.tools.proofs.Cited.{◌≡◌, List, ℕ, ◌++◌, codes, ap, ◌∙◌, append_assoc, dump_cell, dump_sign, parts, in_row}
 use Rattle.tools.proofs.TableLemmas.{row_ended}
 use Rattle.tools.proofs.run.dump.push_byte_row.Goals as goal
 

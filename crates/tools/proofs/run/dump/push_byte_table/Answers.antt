@@ -1,6 +1,4 @@
-use Rattle.std.proofs.Common.{◌++◌, codes, sym, ap, ◌∙◌, refl, arith}
-use Rattle.tools.specs.DumpTables.{byte_line}
-use Rattle.tools.specs.Tables.{heading}
+use Rattle.tools.proofs.Cited.{◌++◌, codes, sym, ap, ◌∙◌, refl, arith, byte_line, heading}
 use Rattle.tools.proofs.TableLemmas.{lines_none, line_next}
 use Rattle.tools.proofs.run.dump.push_byte_table.Goals as goal
 

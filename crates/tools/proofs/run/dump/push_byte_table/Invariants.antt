@@ -1,8 +1,4 @@
-use Rattle.std.proofs.Common.{◌≡◌, ◌≤◌, ◌+◌, ◌*◌, ◌++◌, ◌∷◌, codes}
-use Rattle.std.specs.List.{flat_map}
-use Rattle.bus_journal.specs.Reports.{line_ended}
-use Rattle.tools.specs.DumpTables.{byte_line}
-use Rattle.tools.specs.Tables.{parts, heading}
+use Rattle.tools.proofs.Cited.{◌≡◌, ◌≤◌, ◌+◌, ◌*◌, ◌++◌, ◌∷◌, codes, flat_map, line_ended, byte_line, parts, heading}
 use Rattle.tools.proofs.run.dump.push_byte_table.Given as goal
 
 abbrev pub invariant-loop-row : goal.invariant-loop-row

@@ -1,6 +1,4 @@
-use Rattle.std.proofs.Common.{◌≡◌, ◌≤◌, ◌+◌, ◌*◌, ◌++◌}
-use Rattle.tools.specs.DumpTables.{dump_word}
-use Rattle.tools.specs.Tables.{parts, in_row}
+use Rattle.tools.proofs.Cited.{◌≡◌, ◌≤◌, ◌+◌, ◌*◌, ◌++◌, dump_word, parts, in_row}
 use Rattle.tools.proofs.run.dump.push_word_cells.Given as goal
 
 abbrev pub invariant-loop-column : goal.invariant-loop-column

@@ -1,5 +1,4 @@
-use Rattle.std.proofs.Common.{sym, refl, append-nil, arith}
-use Rattle.tools.specs.DumpTables.{word_line}
+use Rattle.tools.proofs.Cited.{sym, refl, append-nil, arith, word_line}
 use Rattle.tools.proofs.TableLemmas.{parts_none, rows_next}
 use Rattle.tools.proofs.run.dump.push_word_table.Goals as goal
 

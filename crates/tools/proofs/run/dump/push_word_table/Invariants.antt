@@ -1,8 +1,4 @@
-use Rattle.std.proofs.Common.{◌≡◌, ◌≤◌, ◌+◌, ◌*◌, ◌++◌}
-use Rattle.std.specs.List.{flat_map}
-use Rattle.bus_journal.specs.Reports.{line_ended}
-use Rattle.tools.specs.DumpTables.{word_line}
-use Rattle.tools.specs.Tables.{parts}
+use Rattle.tools.proofs.Cited.{◌≡◌, ◌≤◌, ◌+◌, ◌*◌, ◌++◌, flat_map, line_ended, word_line, parts}
 use Rattle.tools.proofs.run.dump.push_word_table.Given as goal
 
 abbrev pub invariant-loop-row : goal.invariant-loop-row

@@ -1,10 +1,6 @@
-use Rattle.std.proofs.Common.{◌≡◌, ◌+◌, ◌*◌, ◌≤◌, ◌++◌, drop, map}
-use Rattle.std.specs.Prelude.{All}
-use Rattle.std.specs.List.{flat_map, sum_by}
-use Rattle.bus_journal.specs.Reports.{line_ended}
+use Rattle.tools.proofs.Cited.{◌≡◌, ◌+◌, ◌*◌, ◌≤◌, ◌++◌, drop, map, All, flat_map, sum_by, line_ended, IsDescInRange, desc_message}
+use Rattle.tools.proofs.Cited.{count_read_by, own_lines}
 use Rattle.i2c_base.specs.Fitting.{FitsReads}
-use Rattle.tools.specs.Combined.{IsDescInRange}
-use Rattle.tools.specs.Transfers.{desc_message, count_read_by, own_lines}
 use Rattle.tools.proofs.run.messages.push_lines.Given as goal
 
 abbrev pub invariant-loop-message : goal.invariant-loop-message

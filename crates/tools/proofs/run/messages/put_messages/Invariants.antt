@@ -1,8 +1,4 @@
-use Rattle.std.proofs.Common.{◌≡◌, ◌+◌, ◌≤◌, drop, length}
-use Rattle.std.specs.Prelude.{All}
-use Rattle.std.specs.List.{sum_by}
-use Rattle.i2c_base.specs.Transfer.{size_of}
-use Rattle.tools.specs.Combined.{IsDescInRange, bytes_of}
+use Rattle.tools.proofs.Cited.{◌≡◌, ◌+◌, ◌≤◌, drop, length, All, sum_by, size_of, IsDescInRange, bytes_of}
 use Rattle.tools.specs.Transfers.{with_messages}
 use Rattle.tools.proofs.run.messages.put_messages.Given as goal
 

@@ -1,9 +1,4 @@
-use Rattle.std.proofs.Common.{◌≡◌, ◌+◌, ◌∙◌, ap, drop, true, false, sym}
-use Rattle.std.specs.Prelude.{◌||◌}
-use Rattle.std.specs.List.{list_any}
-use Rattle.i2c_base.specs.Replies.{reply_by}
-use Rattle.i2c_base.specs.declared.reply.Reply.{Reply}
-use Rattle.tools.specs.Scans.{is_no_bus}
+use Rattle.tools.proofs.Cited.{◌≡◌, ◌+◌, ◌∙◌, ap, drop, true, false, sym, ◌||◌, list_any, reply_by, Reply, is_no_bus}
 use Rattle.tools.proofs.ScanLemmas.{any_none, any_some}
 use Rattle.tools.proofs.run.scan.any_absent.Goals as goal
 

@@ -1,6 +1,4 @@
-use Rattle.std.proofs.Common.{◌≡◌, drop}
-use Rattle.std.specs.List.{list_any}
-use Rattle.tools.specs.Scans.{is_no_bus}
+use Rattle.tools.proofs.Cited.{◌≡◌, drop, list_any, is_no_bus}
 use Rattle.tools.proofs.run.scan.any_absent.Given as goal
 
 abbrev pub invariant-loop-place : goal.invariant-loop-place

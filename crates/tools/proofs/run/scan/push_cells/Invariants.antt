@@ -1,6 +1,4 @@
-use Rattle.std.proofs.Common.{◌≡◌, ◌≤◌, ◌+◌, ◌*◌, ◌++◌}
-use Rattle.tools.specs.Scans.{scan_cell}
-use Rattle.tools.specs.Tables.{parts, in_row}
+use Rattle.tools.proofs.Cited.{◌≡◌, ◌≤◌, ◌+◌, ◌*◌, ◌++◌, scan_cell, parts, in_row}
 use Rattle.tools.proofs.run.scan.push_cells.Given as goal
 
 abbrev pub invariant-loop-column : goal.invariant-loop-column

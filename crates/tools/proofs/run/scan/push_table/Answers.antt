@@ -1,6 +1,4 @@
-use Rattle.std.proofs.Common.{◌++◌, sym, ap, ◌∙◌, refl, arith}
-use Rattle.tools.specs.Scans.{scan_line}
-use Rattle.tools.specs.Tables.{heading}
+use Rattle.tools.proofs.Cited.{◌++◌, sym, ap, ◌∙◌, refl, arith, scan_line, heading}
 use Rattle.tools.proofs.TableLemmas.{lines_none, line_next}
 use Rattle.tools.proofs.run.scan.push_table.Goals as goal
 

@@ -1,8 +1,4 @@
-use Rattle.std.proofs.Common.{◌≡◌, ◌≤◌, ◌+◌, ◌*◌, ◌++◌, ◌∷◌}
-use Rattle.std.specs.List.{flat_map}
-use Rattle.bus_journal.specs.Reports.{line_ended}
-use Rattle.tools.specs.Scans.{scan_line}
-use Rattle.tools.specs.Tables.{parts, heading}
+use Rattle.tools.proofs.Cited.{◌≡◌, ◌≤◌, ◌+◌, ◌*◌, ◌++◌, ◌∷◌, flat_map, line_ended, scan_line, parts, heading}
 use Rattle.tools.proofs.run.scan.push_table.Given as goal
 
 abbrev pub invariant-loop-row : goal.invariant-loop-row

@@ -1,8 +1,5 @@
-use Rattle.std.proofs.lemmas.Grind.{common_steps}
-use Rattle.std.proofs.Common.{rules, ◌≡◌, ◌<◌, ◌==◌, [], length, arith, sym, ap, ◌∙◌}
-use Rattle.std.specs.Prelude.{nat_lt}
-use Rattle.std.proofs.lemmas.Bool.{and_parts}
-use Rattle.std.proofs.lemmas.Bool.Decides.{nat_tests}
+use Rattle.tools.proofs.Cited.{common_steps, rules, ◌≡◌, ◌<◌, [], length, arith, sym, ap, ◌∙◌, nat_lt, and_parts, nat_tests}
+use Rattle.std.proofs.Common.{◌==◌}
 use Rattle.tools.proofs.JoinedLemmas.{is_joined_from, joined_same, whole_front, word_off}
 use Rattle.tools.proofs.split.LineWords.split_front.Goals as goal
 

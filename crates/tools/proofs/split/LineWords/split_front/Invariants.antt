@@ -1,7 +1,4 @@
-use Rattle.std.proofs.Common.{◌≡◌, ◌<◌, ◌≤◌, ◌++◌, true, length}
-use Rattle.tools.specs.Words.{begins_with_word}
-use Rattle.tools.specs.Splits.{is_blank, words_of}
-use Rattle.tools.specs.Readers.{texts}
+use Rattle.tools.proofs.Cited.{◌≡◌, ◌<◌, ◌≤◌, ◌++◌, true, length, begins_with_word, is_blank, words_of, texts}
 use Rattle.tools.proofs.JoinedLemmas.{is_joined, is_joined_from}
 use Rattle.tools.proofs.split.LineWords.split_front.Given as goal
 

@@ -1,5 +1,5 @@
-use Rattle.std.proofs.Common.{◌≡◌, ◌≤◌, ◌-◌, vec_len, vec_capacity}
-use Rattle.tools.specs.Tables.{trimmed}
+use Rattle.tools.proofs.Cited.{◌≡◌, ◌≤◌, ◌-◌, trimmed}
+use Rattle.std.proofs.Common.{vec_len, vec_capacity}
 use Rattle.tools.proofs.text.Text.trim.Given as goal
 
 abbrev pub invariant-loop-self : goal.invariant-loop-self

@@ -1,8 +1,4 @@
-use Rattle.std.proofs.Common.{sym, ap, subst, ◌∙◌}
-use Rattle.i2c_base.specs.Fitting.{Fits}
-use Rattle.i2c_base.specs.Replies.{reply_by}
-use Rattle.i2c_base.specs.Transfer.{TransferView}
-use Rattle.smb_emul.specs.Calls.{messages_of_call}
+use Rattle.tools.proofs.Cited.{sym, ap, subst, ◌∙◌, Fits, reply_by, TransferView, messages_of_call}
 use Rattle.tools.specs.Calls.{calls, smb_op}
 use Rattle.tools.proofs.CallLemmas.{first_fits, same_messages}
 use Rattle.tools.proofs.run.call.HeldCall.print.Goals as goal

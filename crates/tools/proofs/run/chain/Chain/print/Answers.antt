@@ -1,6 +1,4 @@
-use Rattle.std.proofs.Common.{sym}
-use Rattle.i2c_base.specs.Replies.{reply_by}
-use Rattle.tools.specs.Chains.{chains}
+use Rattle.tools.proofs.Cited.{sym, reply_by, chains}
 use Rattle.tools.proofs.CallLemmas.{first_fits, received_fits}
 use Rattle.tools.proofs.run.chain.Chain.print.Goals as goal
 

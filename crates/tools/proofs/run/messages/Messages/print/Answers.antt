@@ -1,5 +1,4 @@
-use Rattle.std.proofs.Common.{sym}
-use Rattle.i2c_base.specs.Replies.{reply_by}
+use Rattle.tools.proofs.Cited.{sym, reply_by}
 use Rattle.tools.specs.Transfers.{transfers}
 use Rattle.tools.proofs.CallLemmas.{first_fits}
 use Rattle.tools.proofs.run.messages.Messages.print.Goals as goal
