@@ -95,22 +95,24 @@ pub stop_out : {X : Type 0} (t : Table X) → StopFreesTheLines t Out
 stop_out t mask low ss c = stop_after_out t mask low ss c ∙ free_again (rejoin mask (map (stop_site t) ss)) (one_flip (one_edge c))
 
 -- ---- a stop after a start that was too slow
-rest_short : (named heard : Bool) (h : ℕ) → h < 256 → not ((cond named (cond heard h 0 - 65) 0 - 254) == 0) ≡ false
-rest_short true true h lt = grind (arith, nat_tests)
-rest_short true false h lt = refl
-rest_short false heard h lt = refl
+-- nobody holds SCL any more at so late a look
+module _ (looks : ℕ) (late : 190 ≤ looks) where
+  late_short : (named heard : Bool) (h : ℕ) → h < 256 → not ((cond named (cond heard h 0 - 65) 0 - looks) == 0) ≡ false
+  late_short true true h lt = grind (arith, nat_tests)
+  late_short true false h lt = grind (arith, nat_tests)
+  late_short false heard h lt = grind (arith, nat_tests)
 
-rest_one : {X : Type 0} (t : Table X) (byte : ℕ) (s : Site X) (joined : Bool) → t.hold s.state < 256
-    → held_if (left_hold t byte s) 254 joined ≡ false
-rest_one t byte s true lt = rest_short (is_named byte s) (has_heard (t.answer s.state (Start (is_reading byte)))) (t.hold s.state) lt
-rest_one t byte s false lt = refl
+  late_one : {X : Type 0} (t : Table X) (byte : ℕ) (s : Site X) (joined : Bool) → t.hold s.state < 256
+      → held_if (left_hold t byte s) looks joined ≡ false
+  late_one t byte s true lt = late_short (is_named byte s) (has_heard (t.answer s.state (Start (is_reading byte)))) (t.hold s.state) lt
+  late_one t byte s false lt = refl
 
-rest_all : {X : Type 0} (t : Table X) (byte : ℕ) (ss : List (Site X)) → AllByRecursion (λ (s : Site X). IsByte (t.hold s.state)) ss
-    → some_one (held (started t byte) (left_hold t byte) 254) ss ≡ false
-rest_all t byte [] all = refl
-rest_all t byte (s ∷ ss) all =
-    or_from (held (started t byte) (left_hold t byte) 254 s) _ (rest_one t byte s (started t byte s).joined all.0)
-    (rest_all t byte ss all.1)
+  pub late_all : {X : Type 0} (t : Table X) (byte : ℕ) (ss : List (Site X)) → AllByRecursion (λ (s : Site X). IsByte (t.hold s.state)) ss
+      → some_one (held (started t byte) (left_hold t byte) looks) ss ≡ false
+  late_all t byte [] all = refl
+  late_all t byte (s ∷ ss) all =
+      or_from (held (started t byte) (left_hold t byte) looks s) _ (late_one t byte s (started t byte s).joined all.0)
+      (late_all t byte ss all.1)
 
 pub slow_frees : {X : Type 0} (t : Table X) (mask : Mask X) (byte : ℕ) (ss : List (Site X)) (c : Counts)
     → AllByRecursion (λ (s : Site X). IsByte (t.hold s.state)) ss
@@ -121,7 +123,7 @@ pub slow_frees : {X : Type 0} (t : Table X) (mask : Mask X) (byte : ℕ) (ss : L
           (one_flip (cond (some_one (stays t byte LOOKS) ss) (one_edge c) (one_flip c))),
     )
 slow_frees t mask byte ss c all =
-    stop_after_slow t mask byte ss c (rest_all t byte ss all) (some_one (stays t byte LOOKS) ss) refl
+    stop_after_slow t mask byte ss c (late_all 254 (omega arith) t byte ss all) (some_one (stays t byte LOOKS) ss) refl
     ∙ free_again (rejoin mask (map (stop_site t) (map (started t byte) ss)))
     (one_flip (cond (some_one (stays t byte LOOKS) ss) (one_edge c) (one_flip c)))
 
