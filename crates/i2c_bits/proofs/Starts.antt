@@ -26,6 +26,7 @@ use Rattle.wire_spec.proofs.StartClocks.{address_bits}
 use Rattle.i2c_bits.specs.Wiring.{Rooted, the_table, mask_at, CameAnswer, CameStart}
 use Rattle.i2c_bits.specs.Counting.{begun_counts, start_counts}
 use Rattle.i2c_bits.specs.Stands.{AreTold, StandsIn, MayBegin, CalledTold, StartIs, StartTold, sites_of, chips_on, devices_on}
+use Rattle.i2c_bits.specs.declared.lines.Lines.{Ghosts as LinesGhosts}
 use Rattle.i2c_bits.specs.declared.lines.SclTimeout.{SclTimeout}
 use Rattle.i2c_bits.proofs.Told.{On, on_lines, world_on, stands_on, all_kept, kept_where, shifted_same, sent_up}
 use Rattle.std.proofs.lemmas.Bool.{or_from, and_right}
@@ -75,16 +76,17 @@ told_before true k w (inl stands) = stands.told
 told_before true k w (inr stands) = stands.told
 
 -- ---- an address byte
-pub answered : (t : Table NodeState) (k k1 : Rooted) (w w1 w2 : Bus NodeState) (byte n : ℕ) (level is : Bool) → k1 ≡ k → level ≡ is
-    → came_up n w1 ≡ bit_steps t (mask_at k) 0 (bits 8 byte) w → came_up (shifted 0 level) w2 ≡ bit_step t (mask_at k1) 0 true w1
-    → came_up (shifted 0 (not (not is))) w2 ≡ sent_byte t (mask_at k) byte w
-answered t k k1 w w1 w2 byte n level is same e f g =
-    ap (λ b. came_up (shifted 0 (not (not b))) w2) (sym e) ∙ sent_up t k k1 w w1 w2 same byte n level f g
+pub answered : {L : Type 0} (g : LinesGhosts L) (old eight nine : L) → g.board eight ≡ g.board old → (byte n : ℕ) (level is : Bool)
+    → level ≡ is → came_up n (g.bus eight) ≡ bit_steps the_table (mask_at (g.board old)) 0 (bits 8 byte) (g.bus old)
+    → came_up (shifted 0 level) (g.bus nine) ≡ bit_step the_table (mask_at (g.board eight)) 0 true (g.bus eight)
+    → came_up (shifted 0 (not (not is))) (g.bus nine) ≡ sent_byte the_table (mask_at (g.board old)) byte (g.bus old)
+answered g old eight nine same byte n level is e f h =
+    ap (λ b. came_up (shifted 0 (not (not b))) (g.bus nine)) (sym e) ∙ sent_up g old eight nine same byte n level f h
 
-pub cut_address : (t : Table NodeState) (k : Rooted) (w w1 : Bus NodeState) (byte : ℕ) → gave_up w1 ≡ bit_steps t (mask_at k) 0
-    (bits 8 byte) w
-    → (bit_steps t (mask_at k) 0 (bits 8 byte) w).up ≡ false
-cut_address t k w w1 byte e = sym (ap (λ (c : Came NodeState). c.up) e)
+pub cut_address : {L : Type 0} (g : LinesGhosts L) (old eight : L) (byte : ℕ)
+    → gave_up (g.bus eight) ≡ bit_steps the_table (mask_at (g.board old)) 0 (bits 8 byte) (g.bus old)
+    → (bit_steps the_table (mask_at (g.board old)) 0 (bits 8 byte) (g.bus old)).up ≡ false
+cut_address g old eight byte e = sym (ap (λ (c : Came NodeState). c.up) e)
 
 pub on_board : (r : Result Answer SclTimeout) (w w1 : Bus NodeState) (byte : ℕ) (k k1 : Rooted) → k1 ≡ k
     → CameAnswer r w1 (bit_steps the_table (mask_at k1) 0 (bits 8 byte) w) (sent_byte the_table (mask_at k1) byte w)

@@ -3,7 +3,6 @@ use Rattle.std.proofs.Common.{◌≡◌, ℕ, ◌<◌, Bool, true, false, cond, 
 use Rattle.std.specs.Prelude.{not, Result, Ok, Err}
 use Rattle.std.specs.List.{AllByRecursion}
 use Rattle.i2c_base.specs.Board.{BoardView}
-use Rattle.i2c_base.specs.Table.{Table}
 use Rattle.i2c_base.specs.declared.event.Event.TheVariants.{Put, Get}
 use Rattle.i2c_spec.specs.Chips.{ChipView, chip_table}
 use Rattle.i2c_spec.specs.Targets.{TargetState, state_table, HoldsBytes, KeepsBytes}
@@ -19,48 +18,68 @@ use Rattle.wire_spec.specs.WorldLaws.{PartsOfBoth, PutOnSites, GetOnSites}
 use Rattle.wire_spec.specs.CallLaws.{PutOnWires, GetOnWires}
 use Rattle.i2c_bits.specs.Wiring.{Rooted, the_table, mask_at, came_acked, CameRead}
 use Rattle.i2c_bits.specs.Stands.{AreTold, StandsIn, PutTold, GetTold, sites_of, chips_on, devices_on, world_at}
+use Rattle.i2c_bits.specs.declared.lines.Lines.{Ghosts as LinesGhosts}
 use Rattle.i2c_bits.specs.declared.lines.SclTimeout.{SclTimeout}
 use mathlib.Core.Bool.{not-not}
 
-module _ (t : Table NodeState) (k k1 : Rooted) (w w1 w2 : Bus NodeState) (same : k1 ≡ k) where
-  pub sent_up : (byte n : ℕ) (level : Bool) → came_up n w1 ≡ bit_steps t (mask_at k) 0 (bits 8 byte) w
-      → came_up (shifted 0 level) w2 ≡ bit_step t (mask_at k1) 0 true w1
-      → came_acked (Ok (not level)) w2 ≡ sent_byte t (mask_at k) byte w
-  sent_up byte n level e f =
-      ap (λ b. came_up (shifted 0 b) w2) (not-not level)
-      ∙ (f ∙ (ap (λ m. bit_step t (mask_at m) 0 true w1) same
-      ∙ ap (λ c. then_bits c (bit_step t (mask_at k) 0 true c.bus)) e))
+-- a byte of which the eight bits are made, and then the ninth clock; or of which SCL stays low in the eight
+module _ {L : Type 0} (g : LinesGhosts L) (old eight : L) where
+  pub sent_cut : (byte : ℕ) → gave_up (g.bus eight) ≡ bit_steps the_table (mask_at (g.board old)) 0 (bits 8 byte) (g.bus old)
+      → gave_up (g.bus eight) ≡ sent_byte the_table (mask_at (g.board old)) byte (g.bus old)
+  sent_cut byte e = ap (λ c. then_bits c (bit_step the_table (mask_at (g.board old)) 0 true c.bus)) e
 
-  pub sent_low : (byte n : ℕ) → came_up n w1 ≡ bit_steps t (mask_at k) 0 (bits 8 byte) w → gave_up w2 ≡ bit_step t (mask_at k1) 0 true w1
-      → gave_up w2 ≡ sent_byte t (mask_at k) byte w
-  sent_low byte n e f =
-      f ∙ (ap (λ m. bit_step t (mask_at m) 0 true w1) same ∙ ap (λ c. then_bits c (bit_step t (mask_at k) 0 true c.bus)) e)
-
-  pub read_up : (byte : ℕ) (ack level : Bool) → came_up byte w1 ≡ bit_steps t (mask_at k) 0 (bits 8 255) w
-      → came_up (shifted 0 level) w2 ≡ bit_step t (mask_at k1) 0 (not ack) w1
-      → came_up byte w2 ≡ read_byte t (mask_at k) ack w
-  read_up byte ack level e f =
-      ap (λ c. then_answer (came_up byte w1) c) (f ∙ ap (λ m. bit_step t (mask_at m) 0 (not ack) w1) same)
-      ∙ ap (λ c. then_answer c (bit_step t (mask_at k) 0 (not ack) c.bus)) e
-
-  pub read_low : (low : SclTimeout) (byte : ℕ) (ack : Bool) → came_up byte w1 ≡ bit_steps t (mask_at k) 0 (bits 8 255) w
-      → gave_up w2 ≡ bit_step t (mask_at k1) 0 (not ack) w1 → CameRead (Err low) w2 (read_byte t (mask_at k) ack w)
-  read_low low byte ack e f =
-      let is : record { up = false; read = byte; bus = w2 } ≡ read_byte t (mask_at k) ack w =
-      ap (λ c. then_answer (came_up byte w1) c) (f ∙ ap (λ m. bit_step t (mask_at m) 0 (not ack) w1) same)
-      ∙ ap (λ c. then_answer c (bit_step t (mask_at k) 0 (not ack) c.bus)) e in
+  pub read_cut : (ack : Bool) (low : SclTimeout)
+      → gave_up (g.bus eight) ≡ bit_steps the_table (mask_at (g.board old)) 0 (bits 8 255) (g.bus old)
+      → CameRead (Err low) (g.bus eight) (read_byte the_table (mask_at (g.board old)) ack (g.bus old))
+  read_cut ack low e =
+      let is : gave_up (g.bus eight) ≡ read_byte the_table (mask_at (g.board old)) ack (g.bus old) =
+      ap (λ c. then_answer c (bit_step the_table (mask_at (g.board old)) 0 (not ack) c.bus)) e in
       (sym (ap (λ c. c.up) is), ap (λ c. c.bus) is)
 
-pub sent_cut : (t : Table NodeState) (k : Rooted) (byte : ℕ) (w w1 : Bus NodeState) → gave_up w1 ≡ bit_steps t (mask_at k) 0 (bits 8 byte) w
-    → gave_up w1 ≡ sent_byte t (mask_at k) byte w
-sent_cut t k byte w w1 e = ap (λ c. then_bits c (bit_step t (mask_at k) 0 true c.bus)) e
+  module _ (nine : L) (same : g.board eight ≡ g.board old) where
+    then_sent : (byte n : ℕ) → came_up n (g.bus eight) ≡ bit_steps the_table (mask_at (g.board old)) 0 (bits 8 byte) (g.bus old)
+        → (ninth : Came NodeState) → ninth ≡ bit_step the_table (mask_at (g.board eight)) 0 true (g.bus eight)
+        → ninth ≡ sent_byte the_table (mask_at (g.board old)) byte (g.bus old)
+    then_sent byte n e ninth f =
+        f
+        ∙ (ap (λ m. bit_step the_table (mask_at m) 0 true (g.bus eight)) same
+        ∙ ap (λ c. then_bits c (bit_step the_table (mask_at (g.board old)) 0 true c.bus)) e)
 
-pub read_cut : (t : Table NodeState) (k : Rooted) (ack : Bool) (w w1 : Bus NodeState) (low : SclTimeout)
-    → gave_up w1 ≡ bit_steps t (mask_at k) 0 (bits 8 255) w
-    → CameRead (Err low) w1 (read_byte t (mask_at k) ack w)
-read_cut t k ack w w1 low e =
-    let is : gave_up w1 ≡ read_byte t (mask_at k) ack w = ap (λ c. then_answer c (bit_step t (mask_at k) 0 (not ack) c.bus)) e in
-    (sym (ap (λ c. c.up) is), ap (λ c. c.bus) is)
+    pub sent_up : (byte n : ℕ) (level : Bool)
+        → came_up n (g.bus eight) ≡ bit_steps the_table (mask_at (g.board old)) 0 (bits 8 byte) (g.bus old)
+        → came_up (shifted 0 level) (g.bus nine) ≡ bit_step the_table (mask_at (g.board eight)) 0 true (g.bus eight)
+        → came_acked (Ok (not level)) (g.bus nine) ≡ sent_byte the_table (mask_at (g.board old)) byte (g.bus old)
+    sent_up byte n level e f =
+        ap (λ b. came_up (shifted 0 b) (g.bus nine)) (not-not level) ∙ then_sent byte n e (came_up (shifted 0 level) (g.bus nine)) f
+
+    pub sent_low : (byte n : ℕ) → came_up n (g.bus eight) ≡ bit_steps the_table (mask_at (g.board old)) 0 (bits 8 byte) (g.bus old)
+        → gave_up (g.bus nine) ≡ bit_step the_table (mask_at (g.board eight)) 0 true (g.bus eight)
+        → gave_up (g.bus nine) ≡ sent_byte the_table (mask_at (g.board old)) byte (g.bus old)
+    sent_low byte n e f = then_sent byte n e (gave_up (g.bus nine)) f
+
+    then_read : (byte : ℕ) (ack : Bool)
+        → came_up byte (g.bus eight) ≡ bit_steps the_table (mask_at (g.board old)) 0 (bits 8 255) (g.bus old)
+        → (ninth : Came NodeState) → ninth ≡ bit_step the_table (mask_at (g.board eight)) 0 (not ack) (g.bus eight)
+        → then_answer (came_up byte (g.bus eight)) ninth ≡ read_byte the_table (mask_at (g.board old)) ack (g.bus old)
+    then_read byte ack e ninth f =
+        ap (λ c. then_answer (came_up byte (g.bus eight)) c)
+        (f ∙ ap (λ m. bit_step the_table (mask_at m) 0 (not ack) (g.bus eight)) same)
+        ∙ ap (λ c. then_answer c (bit_step the_table (mask_at (g.board old)) 0 (not ack) c.bus)) e
+
+    pub read_up : (byte : ℕ) (ack level : Bool)
+        → came_up byte (g.bus eight) ≡ bit_steps the_table (mask_at (g.board old)) 0 (bits 8 255) (g.bus old)
+        → came_up (shifted 0 level) (g.bus nine) ≡ bit_step the_table (mask_at (g.board eight)) 0 (not ack) (g.bus eight)
+        → came_up byte (g.bus nine) ≡ read_byte the_table (mask_at (g.board old)) ack (g.bus old)
+    read_up byte ack level e f = then_read byte ack e (came_up (shifted 0 level) (g.bus nine)) f
+
+    pub read_low : (low : SclTimeout) (byte : ℕ) (ack : Bool)
+        → came_up byte (g.bus eight) ≡ bit_steps the_table (mask_at (g.board old)) 0 (bits 8 255) (g.bus old)
+        → gave_up (g.bus nine) ≡ bit_step the_table (mask_at (g.board eight)) 0 (not ack) (g.bus eight)
+        → CameRead (Err low) (g.bus nine) (read_byte the_table (mask_at (g.board old)) ack (g.bus old))
+    read_low low byte ack e f =
+        let is : record { up = false; read = byte; bus = g.bus nine } ≡ read_byte the_table (mask_at (g.board old)) ack (g.bus old) =
+        then_read byte ack e (gave_up (g.bus nine)) f in
+        (sym (ap (λ c. c.up) is), ap (λ c. c.bus) is)
 
 -- ---- the sites on the lines
 pub sites_map : (m : Mode) (ss : List (Site NodeState)) → map {A = Bit NodeState} (λ (b : Bit NodeState). b.site) (map (at m) ss) ≡ ss

@@ -8,7 +8,6 @@ use Rattle.i2c_bits.proofs.clocks.clock_byte.Given as goal
 abbrev pub invariant-loop-left : goal.invariant-loop-left
 invariant-loop-left g l =
     let bus = g.L.Lines.bus in
-    let wire = g.L.Lines.wire in
     let mask = mask_at (g.L.Lines.board l.fn.lines) in
     record {
       board : g.L.Lines.board l.lines ≡ g.L.Lines.board l.fn.lines;
@@ -16,7 +15,7 @@ invariant-loop-left g l =
           ≡ bit_steps the_table mask 0 (bits 8 l.byte) (bus l.fn.lines);
       few : l.left ≤ 8;
       fits : l.read < 2 ^ (8 - l.left);
-      slow : (wire l.lines).slow ≡ (wire l.fn.lines).slow;
+      slow : (g.L.Lines.wire l.lines).slow ≡ (g.L.Lines.wire l.fn.lines).slow;
     }
 
 abbrev pub decreases-loop-left : goal.decreases-loop-left
