@@ -168,8 +168,9 @@ impl<T: Wired> BitTarget<T> {
     }
 }
 
-// What follows the acknowledge clock.
-fn entered(next: Next) -> Mode
+/// How a target stands behind the acknowledge clock.
+#[inline(always)]
+pub fn entered(next: Next) -> Mode
     ensures { result ≡ entered next }
 {
     match next {

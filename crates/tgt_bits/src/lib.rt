@@ -10,5 +10,6 @@ mod edges;
 mod target;
 mod wired;
 
+pub use edges::entered;
 pub use target::BitTarget;
 pub use wired::{Wired, wired_targets_are_fair};
