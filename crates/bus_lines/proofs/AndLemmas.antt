@@ -1,12 +1,12 @@
 -- The AND of what some of a list give, by their numbers, as a loop over the numbers makes it. The inductions go over the list, and over
 -- the numbers.
 use Rattle.bus_lines.proofs.Cited.{◌≡◌, ℕ, zero, suc, ◌+◌, ◌<◌, ◌==◌, Bool, true, false, ◌||◌, cond, List, [], ◌∷◌, length, map, drop, set}
-use Rattle.bus_lines.proofs.Cited.{get_or, Some, refl, sym, ap, ◌∙◌, subst, inl, inr, arith, bit_and, slice_get, and_self, ne_eqb}
-use Rattle.bus_lines.proofs.Cited.{eqb_tells, drop_more, and_all, is_among, by_number, and_by, given_by, eq_self}
+use Rattle.bus_lines.proofs.Cited.{get_or, Some, refl, sym, ap, ◌∙◌, subst, arith, bit_and, slice_get, and_self, ne_eqb}
+use Rattle.bus_lines.proofs.Cited.{and_all, is_among, by_number, and_by, given_by, eq_self}
 use Rattle.std.proofs.lemmas.Grind.{common_steps}
 use Rattle.std.specs.List.{IsDistinct}
 use Rattle.std.proofs.lemmas.Nat.{and_comm, and_assoc}
-use Rattle.bus_lines.proofs.NumberedLemmas.{set_number, first_apart, rest_apart}
+use Rattle.bus_lines.proofs.NumberedLemmas.{IsTold, told_next, first_apart, first_out, rest_apart}
 
 -- ---- all ones
 pub byte_ones : (n : ℕ) → n < 256 → bit_and 255 n ≡ n
@@ -85,13 +85,7 @@ told_and f q sofar (n ∷ ns) xs =
 
 one_given : {A : Type 0} (f : A → A) (q : A → ℕ) (n j : ℕ) (ns : List ℕ) (x : A) (here : Bool) → (j == n) ≡ here → is_among ns n ≡ false
     → cond (is_among ns j) (q (cond here (f x) x)) 255 ≡ cond (is_among ns j) (q x) 255
-one_given f q n j ns x true at apart =
-    let e : j ≡ n = elim (eqb_tells j n) [
-      | inl y ↦ y.1
-      | inr y ↦ absurd (let other : true ≡ false = sym at ∙ y.0 in cc)
-    ] in
-    let out : is_among ns j ≡ false = ap (is_among ns) e ∙ apart in
-    rw out refl
+one_given f q n j ns x true at apart = let out = first_out n j ns at apart in rw out refl
 one_given f q n j ns x false at apart = refl
 
 ones_twice : (z : ℕ) → bit_and 255 (bit_and 255 z) ≡ bit_and 255 z
@@ -128,22 +122,17 @@ pub told_and_each : {A : Type 0} (f : A → A) (q : A → ℕ) (ns : List ℕ) (
 told_and_each f q ns xs d =
     told_old f q 255 ns xs (and_self 255) d ∙ and_comm (and_by (given_by ns q) 0 xs) 255 ∙ and_ones (given_by ns q) 0 xs
 
--- a loop over some numbers
-module _ {A : Type 0} (f : A → A) (ns : List ℕ) (i n : ℕ) (lt : i < length ns) (at : n ≡ get_or ns i 0) (xs : List A) (d y : A)
-    (low : n < length xs)
-    (is : y ≡ f (get_or xs n d)) where
-  pub and_next : (q : A → ℕ) (sofar now : ℕ) → sofar < 256 → now ≡ bit_and sofar (q (get_or xs n d))
-      → told_and f q now (drop (i + 1) ns) (set xs n y) ≡ told_and f q sofar (drop i ns) xs
-  and_next q sofar now small e =
-      let first : ℕ = and_by (λ j x. cond (j == n) (q x) 255) 0 xs in
-      let x : ℕ = q (get_or xs n d) in
-      let step : now ≡ bit_and first sofar =
-      e ∙ and_comm sofar x ∙ sym (ones_first x sofar (byte_ones sofar small))
-      ∙ ap (λ o. bit_and o sofar) (and_from q n 0 n xs d (omega arith) low) in
-      ap (λ b. told_and f q b (drop (i + 1) ns) (set xs n y)) step
-      ∙ ap (told_and f q (bit_and first sofar) (drop (i + 1) ns)) (set_number n f xs d y low is)
-      ∙ ap (λ m. told_and f q sofar (m ∷ drop (i + 1) ns) xs) at
-      ∙ ap (λ ms. told_and f q sofar ms xs) (sym (drop_more ns i 0 lt))
+-- it is asked before each is told
+pub and_next : {A : Type 0} (f : A → A) (q : A → ℕ) {sofar : ℕ} {ns : List ℕ} {i : ℕ} {old xs : List A}
+    → IsTold f (told_and f q) 255 sofar ns i old xs → (n : ℕ) (d y : A) → i < length ns → n ≡ get_or ns i 0 → n < length xs
+    → y ≡ f (get_or xs n d) → (now : ℕ) → sofar < 256 → now ≡ bit_and sofar (q (get_or xs n d))
+    → IsTold f (told_and f q) 255 now ns (i + 1) old (set xs n y)
+and_next f q {sofar} {ns} {i} {old} {xs} was n d y lt at low is now small e =
+    let x : ℕ = q (get_or xs n d) in
+    told_next was n d y lt at low is now
+    (ap (λ b. told_and f q b (drop (i + 1) ns) (by_number (λ j z. cond (j == n) (f z) z) 0 xs))
+    (e ∙ and_comm sofar x ∙ sym (ones_first x sofar (byte_ones sofar small))
+    ∙ ap (λ o. bit_and o sofar) (and_from q n 0 n xs d (omega arith) low)))
 
 -- ---- where no other gives anything, they give all that is given
 and_numbered : {A : Type 0} (p : ℕ → A → ℕ) (q : A → ℕ) (k : ℕ) (xs : List A)

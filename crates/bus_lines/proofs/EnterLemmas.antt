@@ -6,7 +6,7 @@ use Rattle.bus_lines.proofs.Cited.{other, called, is_reading, where_joined, some
 use Rattle.bus_lines.proofs.Cited.{released, more_edges, within, sent_byte, NodeState, NO_ADDRESS, node_table, Rooted, Wire, mask_at}
 use Rattle.bus_lines.proofs.Cited.{Address, Enter, whole_on, seen, joined_at, acks_enter, address_in, slow_at, PlaceView, states_on}
 use Rattle.bus_lines.proofs.Cited.{joins_by, TargetsView, LinesView, lines_of, wire_nine, AreTargets, NumbersView, is_among, RegisterView}
-use Rattle.bus_lines.proofs.Cited.{by_number, some_by, to_those, of_those, shared, addressed, AreUnits, or_parts, and-false, map_map}
+use Rattle.bus_lines.proofs.Cited.{by_number, some_by, of_those, shared, addressed, AreUnits, or_parts, and-false, map_map}
 use Rattle.std.proofs.Common.{◌%◌}
 use Rattle.i2c_base.specs.declared.event.Event.TheVariants as event
 use Rattle.i2c_base.specs.declared.event.Answer.{Answer}
@@ -25,10 +25,9 @@ use Rattle.bus_lines.specs.LinesViews.{AddressIs}
 use Rattle.bus_lines.proofs.AddressLemmas.{called_all}
 use Rattle.bus_lines.proofs.AwayLemmas.{units_away, whole_some}
 use Rattle.bus_lines.proofs.InvariantLemmas.{holds_coming, called_are}
-use Rattle.bus_lines.proofs.NumberedLemmas.{some_none, some_of_those, map_same}
-use Rattle.bus_lines.proofs.PutLemmas.{some_kept}
+use Rattle.bus_lines.proofs.NumberedLemmas.{some_none, some_kept, some_of_those, map_same}
 use Rattle.bus_lines.proofs.StopLemmas.{none_has}
-use Rattle.bus_lines.proofs.TargetsLemmas.{seen_alone, all_told, told_holds}
+use Rattle.bus_lines.proofs.TargetsLemmas.{seen_alone}
 
 -- ---- the byte is its address and its direction
 parts_by : (byte : ℕ) (one : Bool) → ((byte % 2) == 1) ≡ one → byte ≡ shifted (byte / 2) one
@@ -130,7 +129,7 @@ holds_so a true h x (Answered begun acked next looks) k free = entered_holds a h
 holds_so a true h x (Give left) k free = free
 holds_so a true h x (Gave more) k free = free
 
-enters_hold : (bs : List (Bit NodeState)) → some_one holds_line bs ≡ false → some_one holds_line
+pub enters_hold : (bs : List (Bit NodeState)) → some_one holds_line bs ≡ false → some_one holds_line
     (map (where_joined (seen Enter)) bs) ≡ false
 enters_hold [] free = refl
 enters_hold (b ∷ bs) free =
@@ -243,20 +242,11 @@ module _ (fair : IsFairTable node_table) (k : Rooted) (ps : List PlaceView) (hel
           (units_away ps r.left live.items started_by.items at_it bs are.units)
 
 -- ---- all of them, in the acknowledge clock
-module _ (left v : ℕ) (live started_by : List ℕ) (at_it : List (List ℕ)) (ps : List PlaceView) (mid : List (Bit NodeState))
-    (none : left ≡ 0) (units : AreUnits left live started_by at_it (joins_by ps (states_on mid)) mid) where
-  pub enter_holds : (new : List (Bit NodeState)) → new ≡ by_number (to_those live (where_joined (seen Enter))) 0 mid
-      → (held : Bool) → held ≡ some_one holds_line (map (shared left v) mid) → held ≡ false
-      → held ≡ some_by (of_those live holds_line) 0 new
-  enter_holds new is held was free =
-      free
-      ∙ sym (ap (some_by (of_those live holds_line) 0) is
-      ∙ told_holds Enter tt left live started_by at_it ps mid none units
-      ∙ ap (some_one holds_line) (all_told Enter tt left live started_by at_it ps mid none units)
-      ∙ enters_hold mid (ap (some_one holds_line) (sym (seen_alone left v mid none)) ∙ sym was ∙ free))
-
-  pub enter_acks : some_by (of_those live acks_enter) 0 mid ≡ some_one acks_enter mid
-  enter_acks = some_of_those live acks_enter mid (λ n b is out. acks_none b ((units n b is).out out))
+pub enter_acks : (left : ℕ) (live started_by : List ℕ) (at_it : List (List ℕ)) (ps : List PlaceView) (mid : List (Bit NodeState))
+    → AreUnits left live started_by at_it (joins_by ps (states_on mid)) mid
+    → some_by (of_those live acks_enter) 0 mid ≡ some_one acks_enter mid
+enter_acks left live started_by at_it ps mid units =
+    some_of_those live acks_enter mid (λ n b is out. acks_none b ((units n b is).out out))
 
 -- ---- after a start it is one event of each site
 address_at : (byte a : ℕ) (j h : Bool) (x : NodeState)

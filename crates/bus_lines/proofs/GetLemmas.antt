@@ -1,10 +1,10 @@
 -- A byte that is read, all nine clocks at once: what it is to each target, to all of them, and on the lines.
 use Rattle.bus_lines.proofs.Cited.{◌≡◌, ℕ, zero, suc, ◌<◌, Bool, true, false, cond, List, [], ◌∷◌, map, refl, sym, ap, ◌∙◌, arith, bit_and}
 use Rattle.bus_lines.proofs.Cited.{and_self, IsFairTable, Mode, Out, In, Answered, Give, Gave, Site, Bit, site_of, stands, where_joined}
-use Rattle.bus_lines.proofs.Cited.{some_one, at, and_all, Bus, bus_of, came_up, holds_line, released, more_edges, within, NodeState}
+use Rattle.bus_lines.proofs.Cited.{at, and_all, Bus, bus_of, came_up, holds_line, released, more_edges, within, NodeState}
 use Rattle.bus_lines.proofs.Cited.{node_table, both, Wire, mask_at, StandsIn, chips_on, devices_on, Get, seen, gives_get, PlaceView}
-use Rattle.bus_lines.proofs.Cited.{states_on, joins_by, TargetsView, LinesView, lines_of, wire_nine, by_number, some_by, and_by, to_those}
-use Rattle.bus_lines.proofs.Cited.{of_those, given_by, shared, AreUnits}
+use Rattle.bus_lines.proofs.Cited.{states_on, joins_by, TargetsView, LinesView, lines_of, wire_nine, and_by}
+use Rattle.bus_lines.proofs.Cited.{given_by, shared, AreUnits}
 use Rattle.i2c_base.specs.declared.event.Event.TheVariants as event
 use Rattle.wire_spec.specs.Roots.{get_site, sent_by}
 use Rattle.wire_spec.specs.Calls.{read_byte}
@@ -13,8 +13,7 @@ use Rattle.i2c_bits.specs.Wiring.{the_table}
 use Rattle.bus_lines.specs.Edges.{byte_or_ones, gives_in}
 use Rattle.bus_lines.proofs.AddressLemmas.{seen_each}
 use Rattle.bus_lines.proofs.AndLemmas.{and_of_those}
-use Rattle.bus_lines.proofs.PutLemmas.{some_kept}
-use Rattle.bus_lines.proofs.TargetsLemmas.{seen_alone, all_told, told_holds}
+use Rattle.bus_lines.proofs.TargetsLemmas.{seen_alone}
 
 -- ---- one target
 -- its answer to a read is the byte that it sends
@@ -32,6 +31,10 @@ holds_so ack a true h x (Answered begun acked next looks) k = refl
 holds_so true a true h x (Give left) k = refl
 holds_so false a true h x (Give left) k = refl
 holds_so ack a true h x (Gave more) k = refl
+
+-- who held SCL before does so still
+pub gets_hold : (ack : Bool) (b : Bit NodeState) → holds_line (where_joined (seen (Get ack)) b) ≡ holds_line b
+gets_hold ack b = holds_so ack b.site.addr b.site.joined b.site.heard b.site.state b.mode b.hold
 
 no_byte : (b : Bool) → ◌≡◌ {A = ℕ} (cond b 255 255) 255
 no_byte true = refl
@@ -72,19 +75,9 @@ pub gives_coming : (left v : ℕ) (bs : List (Bit NodeState)) → 0 < left → a
 gives_coming zero v bs some = absurd (omega (arith, some))
 gives_coming (suc n) v bs some = no_bytes n v bs
 
--- ---- all of them: who held SCL before does so still
+-- ---- all of them
 module _ (ack : Bool) (left v : ℕ) (live started : List ℕ) (at : List (List ℕ)) (ps : List PlaceView) (bs : List (Bit NodeState))
     (none : left ≡ 0) (units : AreUnits left live started at (joins_by ps (states_on bs)) bs) where
-  pub get_holds : (new : List (Bit NodeState)) → new ≡ by_number (to_those live (where_joined (seen (Get ack)))) 0 bs
-      → (held : Bool) → held ≡ some_one holds_line (map (shared left v) bs) → held ≡ some_by (of_those live holds_line) 0 new
-  get_holds new is held was =
-      was ∙ ap (some_one holds_line) (seen_alone left v bs none)
-      ∙ sym (ap (some_by (of_those live holds_line) 0) is
-      ∙ told_holds (Get ack) tt left live started at ps bs none units
-      ∙ ap (some_one holds_line) (all_told (Get ack) tt left live started at ps bs none units)
-      ∙ some_kept holds_line (where_joined (seen (Get ack))) bs
-      (λ b. holds_so ack b.site.addr b.site.joined b.site.heard b.site.state b.mode b.hold))
-
   -- those that are told give all that is given
   pub get_gives : and_by (given_by live gives_get) 0 bs ≡ and_all (map gives_get (map (shared left v) bs))
   get_gives =

@@ -1,11 +1,12 @@
 -- What each call leaves of the targets of a root as its type keeps them.
 use Rattle.bus_lines.proofs.Cited.{◌≡◌, ℕ, zero, suc, ◌+◌, ◌-◌, ◌/◌, ◌==◌, ◌<◌, Bool, true, false, ◌&&◌, ◌||◌, cond, List, [], ◌∷◌, length}
 use Rattle.bus_lines.proofs.Cited.{map, get_or, refl, sym, ap, ◌∙◌, subst, arith, not, list_all, nat_tests, length-map, IsFairTable, Bit}
-use Rattle.bus_lines.proofs.Cited.{shifted, rise, fall, tick, begin, finish, where_joined, some_one, pulls_line, Counts, holds_line}
+use Rattle.bus_lines.proofs.Cited.{shifted, rise, begin, finish, where_joined, some_one, pulls_line, Counts, holds_line}
 use Rattle.bus_lines.proofs.Cited.{rejoin_from, NodeState, NO_ADDRESS, node_table, Rooted, levelled_bits, Edge, Finish, Leave, seen}
 use Rattle.bus_lines.proofs.Cited.{joined_at, PlaceView, places_of, is_chip, kinds_of, states_on, joins_by, AreTargets, targets_of}
 use Rattle.bus_lines.proofs.Cited.{NumbersView, numbers_of, is_among, RegisterView, by_number, some_by, to_those, of_those, shared}
 use Rattle.bus_lines.proofs.Cited.{addressed, AreUnits, IsIndex}
+use Rattle.bus_lines.proofs.Cited.{Fall, Tick, ◌⊎◌, inl, inr}
 use Rattle.std.proofs.Common.{rules}
 use Rattle.i2c_spec.proofs.StateLemmas.{states_fair}
 use Rattle.wire_spec.proofs.StartLemmas.{node_fair}
@@ -19,15 +20,17 @@ use Rattle.bus_lines.proofs.StopLemmas.{AreLoose, rejoined_units, stopped_seen, 
 use Rattle.bus_lines.proofs.StopLemmas.{spread_states}
 
 -- ---- while an address comes in
-pub falls_coming : (left v : ℕ) (bs : List (Bit NodeState)) → 0 < left → map (shared left v) bs ≡ map (where_joined fall)
-    (map (shared left v) bs)
-falls_coming zero v bs some = absurd (omega (arith, some))
-falls_coming (suc n) v bs some = coming_falls n v bs
+pub low_coming : (e : Edge) → (e ≡ Fall) ⊎ (e ≡ Tick) → (left v : ℕ) (bs : List (Bit NodeState)) → 0 < left
+    → map (shared left v) bs ≡ map (where_joined (seen e)) (map (shared left v) bs)
+low_coming e low zero v bs some = absurd (omega (arith, some))
+low_coming e low (suc n) v bs some =
+    elim low [
+      | inl is ↦ coming_falls n v bs ∙ ap (λ d. map (where_joined (seen d)) (map (shared (suc n) v) bs)) (sym is)
+      | inr is ↦ coming_ticks n v bs ∙ ap (λ d. map (where_joined (seen d)) (map (shared (suc n) v) bs)) (sym is)
+    ]
 
-pub ticks_coming : (left v : ℕ) (bs : List (Bit NodeState)) → 0 < left → map (shared left v) bs ≡ map (where_joined tick)
-    (map (shared left v) bs)
-ticks_coming zero v bs some = absurd (omega (arith, some))
-ticks_coming (suc n) v bs some = coming_ticks n v bs
+pub low_within : (e : Edge) → (e ≡ Fall) ⊎ (e ≡ Tick) → IsWithin e
+low_within e low = elim low [ inl is ↦ subst IsWithin (sym is) tt | inr is ↦ subst IsWithin (sym is) tt ]
 
 pub holds_coming : (left v : ℕ) (bs : List (Bit NodeState)) → 0 < left → some_one holds_line (map (shared left v) bs) ≡ false
 holds_coming zero v bs some = absurd (omega (arith, some))

@@ -13,7 +13,7 @@ use Rattle.bus_lines.proofs.KnownLemmas.{refreshed, refreshed_those, refreshed_o
 use Rattle.bus_lines.proofs.KnownLemmas.{all_known, rejoins_known, anew_is_known, are_known, knows_anew, told_knows, told_states}
 use Rattle.bus_lines.proofs.NumberedLemmas.{at_number, numbered_twice, length-numbered, some_none}
 use Rattle.bus_lines.proofs.StopLemmas.{anew_out, calm_after, rejoin_numbered}
-use Rattle.bus_lines.proofs.TargetsLemmas.{within_goes}
+use Rattle.bus_lines.proofs.TargetsLemmas.{within_goes, edge_holds, edge_frees}
 use Rattle.bus_lines.proofs.ToldLemmas.{edge_whole}
 use Rattle.bus_lines.proofs.UnitLemmas.{IsWithin, holds_none}
 use Rattle.bus_lines.proofs.AwayLemmas.{units_away, whole_edge, whole_stop, whole_rejoined}
@@ -76,6 +76,22 @@ module _ (k : Rooted) (ps : List PlaceView) (held : Bool) (r : RegisterView) (li
         started_room = kept.started_room ∙ sym new_count;
         index = subst (λ (n : ℕ). IsIndex n at) (sym new_count) kept.index;
       }
+
+  -- who held SCL before does so still
+  pub edge_held : ((b : Bit NodeState) → holds_line (where_joined (seen e) b) ≡ holds_line b) → AreKept k ps held r live started at new
+  edge_held same =
+      edge_kept held
+      (edge_holds e within r.left live.items started.items at ps (known_on ps bs) none kept.are.units same r.value (known_on ps new)
+      edge_known held kept.are.clock)
+
+  -- .. or nobody did, and nobody does
+  pub edge_freed : (some_one holds_line (known_on ps bs) ≡ false
+      → some_one holds_line (map (where_joined (seen e)) (known_on ps bs)) ≡ false)
+      → held ≡ false → AreKept k ps held r live started at new
+  edge_freed stays free =
+      edge_kept held
+      (edge_frees e within r.left live.items started.items at ps (known_on ps bs) none kept.are.units stays r.value (known_on ps new)
+      edge_known held kept.are.clock free)
 
   pub edge_told : (h : Bool) → h ≡ some_by (of_those ns holds_line) 0 new → AreKept k ps h r live started at new
   edge_told h holds = edge_kept h (holds ∙ edge_asked holds_line)

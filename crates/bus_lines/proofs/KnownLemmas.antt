@@ -5,7 +5,8 @@ use Rattle.bus_lines.proofs.Cited.{list_all, list_any, option_map_or, eqb_tells,
 use Rattle.bus_lines.proofs.Cited.{states_on, joins_by, read_anew, known, knows, known_on, known_of, AreKnown, is_among, by_number, some_by}
 use Rattle.bus_lines.proofs.Cited.{and_by, to_those, of_those, given_by, or-true, eq_self}
 use Rattle.bus_lines.proofs.KindLemmas.{doors, joins_kept}
-use Rattle.bus_lines.proofs.NumberedLemmas.{numbered_same, numbered_twice, numbered_itself, at_number, set_number}
+use Rattle.bus_lines.proofs.NumberedLemmas.{numbered_same, numbered_twice, numbered_itself, at_number, set_number, gathered, some_gathered}
+use Rattle.bus_lines.proofs.NumberedLemmas.{and_gathered}
 use Rattle.bus_lines.proofs.StopLemmas.{rejoin_numbered}
 
 -- ---- one target
@@ -117,53 +118,44 @@ module _ (ps : List PlaceView) where
       ∙ sym (joins_kept ps (states_on new) (states_on bs) doors k)
 
   -- ---- what is asked of those of which it is kept
-  asked_either : (t j : Bool) (p : Bit NodeState → Bool) (b : Bit NodeState) → (t ≡ true → b.site.joined ≡ j)
-      → (t && p b) ≡ (t && p (known j b))
-  asked_either true j p b was = ap p (sym (known_same j b (was refl)))
-  asked_either false j p b was = refl
+  known_from : {B : Type 0} (op : B → B → B) (e : B) (q : ℕ → Bit NodeState → B) (f : ℕ → Bool) (k : ℕ) (bs : List (Bit NodeState))
+      → ((i : ℕ) (b : Bit NodeState) → slice_get bs i ≡ Some b → q (k + i) b ≡ q (k + i) (known (f (k + i)) b))
+      → gathered op e q k bs ≡ gathered op e q k (by_number (λ i b. known (f i) b) k bs)
+  known_from op e q f k [] same = refl
+  known_from op e q f k (b ∷ bs) same =
+      let at : k + 0 ≡ k = omega arith in
+      ap (λ x. op x (gathered op e q (k + 1) bs)) (subst (λ n. q n b ≡ q n (known (f n) b)) at (same 0 b refl))
+      ∙ ap (op (q k (known (f k) b)))
+      (known_from op e q f (k + 1) bs (λ i c is. let at_next : k + suc i ≡ k + 1 + i = omega arith in
+      subst (λ n. q n c ≡ q n (known (f n) c)) at_next (same (suc i) c is)))
 
-  some_known_from : (ns : List ℕ) (p : Bit NodeState → Bool) (f : ℕ → Bool) (k : ℕ) (bs : List (Bit NodeState))
-      → ((i : ℕ) (b : Bit NodeState) → slice_get bs i ≡ Some b → is_among ns (k + i) ≡ true → b.site.joined ≡ f (k + i))
-      → some_by (of_those ns p) k bs ≡ some_by (of_those ns p) k (by_number (λ i b. known (f i) b) k bs)
-  some_known_from ns p f k [] were = refl
-  some_known_from ns p f k (b ∷ bs) were =
-      let e : k + 0 ≡ k = omega arith in
-      ap (λ t. t || some_by (of_those ns p) (k + 1) bs)
-      (asked_either (is_among ns k) (f k) p b (subst (λ n. is_among ns n ≡ true → b.site.joined ≡ f n) e (were 0 b refl)))
-      ∙ ap (λ t. (is_among ns k && p (known (f k) b)) || t)
-      (some_known_from ns p f (k + 1) bs (λ i c at. let e : k + suc i ≡ k + 1 + i = omega arith in
-      subst (λ n. is_among ns n ≡ true → c.site.joined ≡ f n) e (were (suc i) c at)))
+  -- what is asked, or taken, of these alone
+  either_known : {B : Type 0} (q : Bool → Bit NodeState → B) → ((j : Bool) (b : Bit NodeState) → q false b ≡ q false (known j b))
+      → (t j : Bool) (b : Bit NodeState) → (t ≡ true → b.site.joined ≡ j) → q t b ≡ q t (known j b)
+  either_known q other true j b was = ap (q true) (sym (known_same j b (was refl)))
+  either_known q other false j b was = other j b
+
+  those_known : {B : Type 0} (op : B → B → B) (e : B) (q : Bool → Bit NodeState → B)
+      → ((j : Bool) (b : Bit NodeState) → q false b ≡ q false (known j b)) → (ns : List ℕ) (bs : List (Bit NodeState)) → AreKnown ns ps bs
+      → gathered op e (λ k b. q (is_among ns k) b) 0 bs ≡ gathered op e (λ k b. q (is_among ns k) b) 0 (known_on ps bs)
+  those_known op e q other ns bs were =
+      let joins = joins_by ps (states_on bs) in
+      known_from op e (λ k b. q (is_among ns k) b) joins 0 bs
+      (λ i b is. let at : i ≡ 0 + i = omega arith in
+      subst (λ n. q (is_among ns n) b ≡ q (is_among ns n) (known (joins n) b)) at
+      (either_known q other (is_among ns i) (joins i) b (were i b is)))
 
   pub some_known : (ns : List ℕ) (p : Bit NodeState → Bool) (bs : List (Bit NodeState)) → AreKnown ns ps bs
       → some_by (of_those ns p) 0 bs ≡ some_by (of_those ns p) 0 (known_on ps bs)
   some_known ns p bs were =
-      some_known_from ns p (joins_by ps (states_on bs)) 0 bs
-      (λ i b at. let e : i ≡ 0 + i = omega arith in
-      subst (λ n. is_among ns n ≡ true → b.site.joined ≡ joins_by ps (states_on bs) n) e (were i b at))
-
-  given_either : (t j : Bool) (q : Bit NodeState → ℕ) (b : Bit NodeState) → (t ≡ true → b.site.joined ≡ j)
-      → cond t (q b) 255 ≡ cond t (q (known j b)) 255
-  given_either true j q b was = ap q (sym (known_same j b (was refl)))
-  given_either false j q b was = refl
-
-  given_known_from : (ns : List ℕ) (q : Bit NodeState → ℕ) (f : ℕ → Bool) (k : ℕ) (bs : List (Bit NodeState))
-      → ((i : ℕ) (b : Bit NodeState) → slice_get bs i ≡ Some b → is_among ns (k + i) ≡ true → b.site.joined ≡ f (k + i))
-      → and_by (given_by ns q) k bs ≡ and_by (given_by ns q) k (by_number (λ i b. known (f i) b) k bs)
-  given_known_from ns q f k [] were = refl
-  given_known_from ns q f k (b ∷ bs) were =
-      let e : k + 0 ≡ k = omega arith in
-      ap (λ n. bit_and n (and_by (given_by ns q) (k + 1) bs))
-      (given_either (is_among ns k) (f k) q b (subst (λ n. is_among ns n ≡ true → b.site.joined ≡ f n) e (were 0 b refl)))
-      ∙ ap (bit_and (cond (is_among ns k) (q (known (f k) b)) 255))
-      (given_known_from ns q f (k + 1) bs (λ i c at. let e : k + suc i ≡ k + 1 + i = omega arith in
-      subst (λ n. is_among ns n ≡ true → c.site.joined ≡ f n) e (were (suc i) c at)))
+      some_gathered (of_those ns p) 0 bs ∙ those_known ◌||◌ false (λ t b. t && p b) (λ j b. refl) ns bs were
+      ∙ sym (some_gathered (of_those ns p) 0 (known_on ps bs))
 
   pub given_known : (ns : List ℕ) (q : Bit NodeState → ℕ) (bs : List (Bit NodeState)) → AreKnown ns ps bs
       → and_by (given_by ns q) 0 bs ≡ and_by (given_by ns q) 0 (known_on ps bs)
   given_known ns q bs were =
-      given_known_from ns q (joins_by ps (states_on bs)) 0 bs
-      (λ i b at. let e : i ≡ 0 + i = omega arith in
-      subst (λ n. is_among ns n ≡ true → b.site.joined ≡ joins_by ps (states_on bs) n) e (were i b at))
+      and_gathered (given_by ns q) 0 bs ∙ those_known bit_and 255 (λ t b. cond t (q b) 255) (λ j b. refl) ns bs were
+      ∙ sym (and_gathered (given_by ns q) 0 (known_on ps bs))
 
 -- ---- one by its number
 get_knows : (f : ℕ → Bool) (k i : ℕ) (bs : List (Bit NodeState))
@@ -198,25 +190,27 @@ module _ (test : Bit NodeState → Bool) where
   among_more : (n k : ℕ) (ns : List ℕ) → is_among ns k ≡ true → is_among (n ∷ ns) k ≡ true
   among_more n k ns among = rw among (or-true (k == n))
 
+  -- .. of all of these, or of one of them
+  those_asked : (ps : List PlaceView) (bs : List (Bit NodeState)) (ns : List ℕ) → AreKnown ns ps bs
+      → (list_all (λ k. option_map_or test (slice_get bs k) false) ns
+      ≡ list_all (λ k. option_map_or test (slice_get (known_on ps bs) k) false) ns)
+      × (list_any (λ k. option_map_or test (slice_get bs k) false) ns
+      ≡ list_any (λ k. option_map_or test (slice_get (known_on ps bs) k) false) ns)
+  those_asked ps bs [] were = (refl, refl)
+  those_asked ps bs (n ∷ ns) were =
+      let here = test_known ps bs n (λ b at. were n b at (among_here n ns)) in
+      let rest = those_asked ps bs ns (λ k b at among. were k b at (among_more n k ns among)) in
+      (rw (here, rest.0) refl, rw (here, rest.1) refl)
+
   pub all_known : (ps : List PlaceView) (bs : List (Bit NodeState)) (ns : List ℕ) → AreKnown ns ps bs
-      → list_all (λ k. option_map_or test (slice_get bs k) false) ns ≡ list_all (λ k. option_map_or test
-      (slice_get (known_on ps bs) k) false) ns
-  all_known ps bs [] were = refl
-  all_known ps bs (n ∷ ns) were =
-      rw (
-        test_known ps bs n (λ b at. were n b at (among_here n ns)),
-        all_known ps bs ns (λ k b at among. were k b at (among_more n k ns among)),
-      ) refl
+      → list_all (λ k. option_map_or test (slice_get bs k) false) ns
+      ≡ list_all (λ k. option_map_or test (slice_get (known_on ps bs) k) false) ns
+  all_known ps bs ns were = (those_asked ps bs ns were).0
 
   pub any_known : (ps : List PlaceView) (bs : List (Bit NodeState)) (ns : List ℕ) → AreKnown ns ps bs
-      → list_any (λ k. option_map_or test (slice_get bs k) false) ns ≡ list_any (λ k. option_map_or test
-      (slice_get (known_on ps bs) k) false) ns
-  any_known ps bs [] were = refl
-  any_known ps bs (n ∷ ns) were =
-      rw (
-        test_known ps bs n (λ b at. were n b at (among_here n ns)),
-        any_known ps bs ns (λ k b at among. were k b at (among_more n k ns among)),
-      ) refl
+      → list_any (λ k. option_map_or test (slice_get bs k) false) ns
+      ≡ list_any (λ k. option_map_or test (slice_get (known_on ps bs) k) false) ns
+  any_known ps bs ns were = (those_asked ps bs ns were).1
 
 -- ---- a stop: whether they were joined is read anew
 anew_known : (f g : ℕ → Bool) (bs : List (Bit NodeState)) → rejoin_from f 0 (knows g bs) ≡ rejoin_from f 0 bs

@@ -30,6 +30,7 @@ pub mod ToldLemmas
 pub mod KeptLemmas
 pub mod EnterLemmas
 pub mod EndsLemmas
+pub mod RootLemmas
 -- What a pull, a look and a line come to.
 pub mod LinesLemmas
 -- The opening.

@@ -1,9 +1,9 @@
 -- What is made of each of a list by its number, and what is done to those alone that have one of some numbers. The inductions go over
 -- the list, and over the numbers.
 use Rattle.bus_lines.proofs.Cited.{◌≡◌, ℕ, zero, suc, ◌+◌, ◌<◌, ◌==◌, Bool, true, false, ◌&&◌, ◌||◌, cond, List, [], ◌∷◌, length, map, drop}
-use Rattle.bus_lines.proofs.Cited.{set, get_or, Some, None, refl, sym, ap, ◌∙◌, subst, inl, inr, arith, slice_get, AllByRecursion, ne_eqb}
-use Rattle.bus_lines.proofs.Cited.{eqb_tells, drop_more, some_one, is_among, by_number, some_by, to_those, of_those, or_regroup, or-true}
-use Rattle.bus_lines.proofs.Cited.{eq_self}
+use Rattle.bus_lines.proofs.Cited.{set, get_or, Some, None, refl, sym, ap, ◌∙◌, subst, inl, inr, arith, slice_get, length-set, drop_all}
+use Rattle.bus_lines.proofs.Cited.{AllByRecursion, ne_eqb, eqb_tells, drop_more, some_one, is_among, by_number, some_by, to_those, of_those}
+use Rattle.bus_lines.proofs.Cited.{or_regroup, or-true, eq_self, AreNumbers, and_by, bit_and, ◌≤◌}
 use Rattle.std.specs.List.{IsDistinct}
 
 pub same_some : {A : Type 0} {x y : A} → Some x ≡ Some y → x ≡ y
@@ -144,15 +144,18 @@ pub rest_apart : (n : ℕ) (ns : List ℕ) → IsDistinct (λ k m. k == m) (n �
 unfolding IsDistinct
 rest_apart n ns d = d.1
 
-told_one : {A : Type 0} (f : A → A) (n j : ℕ) (ns : List ℕ) (x : A) (here : Bool) → (j == n) ≡ here → is_among ns n ≡ false
-    → cond (is_among ns j) (f (cond here (f x) x)) (cond here (f x) x) ≡ cond (here || is_among ns j) (f x) x
-told_one f n j ns x true at apart =
+-- a number that is the first is none of the rest
+pub first_out : (n j : ℕ) (ns : List ℕ) → (j == n) ≡ true → is_among ns n ≡ false → is_among ns j ≡ false
+first_out n j ns at apart =
     let e : j ≡ n = elim (eqb_tells j n) [
       | inl y ↦ y.1
       | inr y ↦ absurd (let no : true ≡ false = sym at ∙ y.0 in cc)
     ] in
-    let no : is_among ns j ≡ false = ap (is_among ns) e ∙ apart in
-    ap (λ b. cond b (f (f x)) (f x)) no
+    ap (is_among ns) e ∙ apart
+
+told_one : {A : Type 0} (f : A → A) (n j : ℕ) (ns : List ℕ) (x : A) (here : Bool) → (j == n) ≡ here → is_among ns n ≡ false
+    → cond (is_among ns j) (f (cond here (f x) x)) (cond here (f x) x) ≡ cond (here || is_among ns j) (f x) x
+told_one f n j ns x true at apart = ap (λ b. cond b (f (f x)) (f x)) (first_out n j ns at apart)
 told_one f n j ns x false at apart = refl
 
 -- each of them is told once
@@ -164,6 +167,19 @@ told_each f (n ∷ ns) xs d =
     ∙ numbered_twice (λ j x. cond (j == n) (f x) x) (to_those ns f) 0 xs
     ∙ numbered_same (λ j x. to_those ns f j (cond (j == n) (f x) x)) (to_those (n ∷ ns) f) xs
     (λ j x is. told_one f n j ns x (j == n) refl (first_apart n ns d))
+
+-- ---- what an operation makes of what is made of each
+abbrev pub gathered : {A B : Type 0} → (B → B → B) → B → (ℕ → A → B) → ℕ → List A → B
+gathered op e f k [] = e
+gathered op e f k (x ∷ xs) = op (f k x) (gathered op e f (k + 1) xs)
+
+pub some_gathered : {A : Type 0} (p : ℕ → A → Bool) (k : ℕ) (xs : List A) → some_by p k xs ≡ gathered ◌||◌ false p k xs
+some_gathered p k [] = refl
+some_gathered p k (x ∷ xs) = ap (λ b. p k x || b) (some_gathered p (k + 1) xs)
+
+pub and_gathered : {A : Type 0} (q : ℕ → A → ℕ) (k : ℕ) (xs : List A) → and_by q k xs ≡ gathered bit_and 255 q k xs
+and_gathered q k [] = refl
+and_gathered q k (x ∷ xs) = ap (bit_and (q k x)) (and_gathered q (k + 1) xs)
 
 -- ---- whether it is so of someone
 pub some_numbered : {A : Type 0} (p : ℕ → A → Bool) (q : A → Bool) (k : ℕ) (xs : List A)
@@ -189,6 +205,11 @@ some_of_those ns p xs out =
     (λ i x is. let e : i ≡ 0 + i = omega arith in
     subst (λ n. of_those ns p n x ≡ p x) e (of_those_one (is_among ns i) p x (out i x is)))
 
+-- what is made of each leaves it as it was
+pub some_kept : {A : Type 0} (p : A → Bool) (g : A → A) (xs : List A) → ((x : A) → p (g x) ≡ p x) → some_one p (map g xs) ≡ some_one p xs
+some_kept p g [] same = refl
+some_kept p g (x ∷ xs) same = rw (same x, some_kept p g xs same) refl
+
 pub some_none : {A : Type 0} (p : A → Bool) (xs : List A) → ((i : ℕ) (x : A) → slice_get xs i ≡ Some x → p x ≡ false)
     → some_one p xs ≡ false
 some_none p [] out = refl
@@ -205,7 +226,7 @@ told_was f q sofar (n ∷ ns) xs = told_was f q (some_by (λ j x. (j == n) && q 
     (by_number (λ j x. cond (j == n) (f x) x) 0 xs)
 
 abbrev pub told_some : {A : Type 0} → (A → A) → (A → Bool) → Bool → List ℕ → List A → Bool
-told_some f p sofar ns xs = told_was f (λ x. p (f x)) sofar ns xs
+told_some f p = told_was f (λ x. p (f x))
 
 some_above : {A : Type 0} (p : A → Bool) (n k : ℕ) (xs : List A) → n < k → some_by (λ j x. (j == n) && p x) k xs ≡ false
 some_above p n k [] lt = refl
@@ -269,13 +290,7 @@ and_either false c z = refl
 
 one_was : {A : Type 0} (f : A → A) (q : A → Bool) (n j : ℕ) (ns : List ℕ) (x : A) (here : Bool) → (j == n) ≡ here → is_among ns n ≡ false
     → (is_among ns j && q (cond here (f x) x)) ≡ (is_among ns j && q x)
-one_was f q n j ns x true at apart =
-    let e : j ≡ n = elim (eqb_tells j n) [
-      | inl y ↦ y.1
-      | inr y ↦ absurd (let other : true ≡ false = sym at ∙ y.0 in cc)
-    ] in
-    let out : is_among ns j ≡ false = ap (is_among ns) e ∙ apart in
-    rw out refl
+one_was f q n j ns x true at apart = let out = first_out n j ns at apart in rw out refl
 one_was f q n j ns x false at apart = refl
 
 told_old : {A : Type 0} (f : A → A) (q : A → Bool) (sofar : Bool) (ns : List ℕ) (xs : List A) → IsDistinct (λ k m. k == m) ns
@@ -318,29 +333,59 @@ told_some_each {A} f p ns xs d =
 among_first : (n k : ℕ) (ns : List ℕ) → k ≡ n → is_among (n ∷ ns) k ≡ true
 among_first n k ns e = let here : (k == n) ≡ true = subst (λ m. (k == m) ≡ true) e (eq_self k) in rw here refl
 
--- the number at a place is among them
+-- the number at a place is among them, and low enough
 pub among_at : (ns : List ℕ) (i : ℕ) → i < length ns → is_among ns (get_or ns i 0) ≡ true
 among_at [] i lt = absurd (omega (arith, lt))
 among_at (n ∷ ns) zero lt = among_first n n ns refl
 among_at (n ∷ ns) (suc i) lt = rw (among_at ns i (omega (arith, lt))) (or-true (get_or ns i 0 == n))
 
-module _ {A : Type 0} (f : A → A) (ns : List ℕ) (i n : ℕ) (lt : i < length ns) (at : n ≡ get_or ns i 0) (xs : List A) (d y : A)
-    (low : n < length xs)
-    (is : y ≡ f (get_or xs n d)) where
-  pub told_next : told f (drop (i + 1) ns) (set xs n y) ≡ told f (drop i ns) xs
-  told_next =
-      ap (told f (drop (i + 1) ns)) (set_number n f xs d y low is)
-      ∙ ap (λ m. told f (m ∷ drop (i + 1) ns) xs) at
-      ∙ ap (λ ms. told f ms xs) (sym (drop_more ns i 0 lt))
+pub below_at : {room : ℕ} {ns : List ℕ} → AreNumbers room ns → (i n : ℕ) → i < length ns → n ≡ get_or ns i 0 → n < room
+below_at {room} {ns} are i n lt at = omega (arith, are.below (get_or ns i 0) (among_at ns i lt), at)
 
-  pub was_next : (q : A → Bool) (sofar now : Bool) → now ≡ (q (get_or xs n d) || sofar)
-      → told_was f q now (drop (i + 1) ns) (set xs n y) ≡ told_was f q sofar (drop i ns) xs
-  was_next q sofar now e =
-      ap (λ b. told_was f q b (drop (i + 1) ns) (set xs n y)) (e ∙ ap (λ b. b || sofar) (some_number q n xs d low))
-      ∙ ap (told_was f q (some_by (λ j x. (j == n) && q x) 0 xs || sofar) (drop (i + 1) ns)) (set_number n f xs d y low is)
-      ∙ ap (λ m. told_was f q sofar (m ∷ drop (i + 1) ns) xs) at
-      ∙ ap (λ ms. told_was f q sofar ms xs) (sym (drop_more ns i 0 lt))
+rest_at : (ns : List ℕ) (i n : ℕ) → i < length ns → n ≡ get_or ns i 0 → n ∷ drop (i + 1) ns ≡ drop i ns
+rest_at ns i n lt at = ap (λ m. m ∷ drop (i + 1) ns) at ∙ sym (drop_more ns i 0 lt)
 
-  pub some_next : (p : A → Bool) (sofar now : Bool) → now ≡ (p y || sofar)
-      → told_some f p now (drop (i + 1) ns) (set xs n y) ≡ told_some f p sofar (drop i ns) xs
-  some_next p sofar now e = was_next (λ x. p (f x)) sofar now (e ∙ ap (λ b. b || sofar) (ap p is))
+-- they are told one after the other, and something is asked: what is left to be told comes to what all come to
+pub record IsTold {A B : Type 0} (f : A → A) (ask : B → List ℕ → List A → B) (first sofar : B) (ns : List ℕ) (i : ℕ)
+    (old now : List A) : Type 0 where
+  pub count : length now ≡ length old
+  pub targets : told f (drop i ns) now ≡ told f ns old
+  pub answer : ask sofar (drop i ns) now ≡ ask first ns old
+
+module _ {A B : Type 0} {f : A → A} {ask : B → List ℕ → List A → B} {first sofar : B} {ns : List ℕ} {i : ℕ} {old xs : List A}
+    (was : IsTold f ask first sofar ns i old xs) where
+  pub told_done : IsDistinct (λ k m. k == m) ns → length ns ≤ i → xs ≡ by_number (to_those ns f) 0 old
+  told_done apart over = sym (ap (λ ms. told f ms xs) (drop_all ns i over)) ∙ was.targets ∙ told_each f ns old apart
+
+  pub asked_done : length ns ≤ i → ask sofar [] xs ≡ ask first ns old
+  asked_done over = sym (ap (λ ms. ask sofar ms xs) (drop_all ns i over)) ∙ was.answer
+
+  -- one more is told
+  pub told_next : (n : ℕ) (d y : A) → i < length ns → n ≡ get_or ns i 0 → n < length xs → y ≡ f (get_or xs n d) → (now : B)
+      → ask now (drop (i + 1) ns) (by_number (λ j x. cond (j == n) (f x) x) 0 xs) ≡ ask sofar (n ∷ drop (i + 1) ns) xs
+      → IsTold f ask first now ns (i + 1) old (set xs n y)
+  told_next n d y lt at low is now next =
+      let rest = rest_at ns i n lt at in
+      let one = set_number n f xs d y low is in
+      record {
+        count = length-set xs n y ∙ was.count;
+        targets = ap (told f (drop (i + 1) ns)) one ∙ ap (λ ms. told f ms xs) rest ∙ was.targets;
+        answer = ap (ask now (drop (i + 1) ns)) one ∙ next ∙ ap (λ ms. ask sofar ms xs) rest ∙ was.answer;
+      }
+
+-- it is asked before each is told
+pub was_next : {A : Type 0} (f : A → A) (q : A → Bool) {sofar : Bool} {ns : List ℕ} {i : ℕ} {old xs : List A}
+    → IsTold f (told_was f q) false sofar ns i old xs → (n : ℕ) (d y : A) → i < length ns → n ≡ get_or ns i 0 → n < length xs
+    → y ≡ f (get_or xs n d) → (now : Bool) → now ≡ (q (get_or xs n d) || sofar)
+    → IsTold f (told_was f q) false now ns (i + 1) old (set xs n y)
+was_next f q {sofar} {ns} {i} {old} {xs} was n d y lt at low is now e =
+    told_next was n d y lt at low is now
+    (ap (λ b. told_was f q b (drop (i + 1) ns) (by_number (λ j x. cond (j == n) (f x) x) 0 xs))
+    (e ∙ ap (λ b. b || sofar) (some_number q n xs d low)))
+
+-- .. or once it is
+pub some_next : {A : Type 0} (f : A → A) (p : A → Bool) {sofar : Bool} {ns : List ℕ} {i : ℕ} {old xs : List A}
+    → IsTold f (told_some f p) false sofar ns i old xs → (n : ℕ) (d y : A) → i < length ns → n ≡ get_or ns i 0 → n < length xs
+    → y ≡ f (get_or xs n d) → (now : Bool) → now ≡ (p y || sofar) → IsTold f (told_some f p) false now ns (i + 1) old (set xs n y)
+some_next f p {sofar} {ns} {i} {old} {xs} was n d y lt at low is now e =
+    was_next f (λ x. p (f x)) was n d y lt at low is now (e ∙ ap (λ x. p x || sofar) is)

@@ -3,7 +3,7 @@ use Rattle.bus_lines.proofs.Cited.{◌≡◌, ℕ, zero, suc, ◌<◌, Bool, tru
 use Rattle.bus_lines.proofs.Cited.{Mode, Out, In, Answered, Give, Gave, Site, Bit, site_of, stands, shifted, where_joined, some_one, at}
 use Rattle.bus_lines.proofs.Cited.{Bus, bus_of, came_up, holds_line, released, more_edges, within, sent_byte, NodeState, node_table, both}
 use Rattle.bus_lines.proofs.Cited.{Wire, mask_at, StandsIn, chips_on, devices_on, Put, seen, acks_put, PlaceView, states_on, joins_by}
-use Rattle.bus_lines.proofs.Cited.{TargetsView, LinesView, lines_of, wire_nine, by_number, some_by, to_those, of_those, shared, AreUnits}
+use Rattle.bus_lines.proofs.Cited.{TargetsView, LinesView, lines_of, wire_nine, some_by, of_those, shared, AreUnits}
 use Rattle.bus_lines.proofs.Cited.{and-false}
 use Rattle.wire_spec.specs.Roots.{put_site, acks}
 use Rattle.wire_spec.specs.Laws.{PutsAreEvents}
@@ -11,7 +11,7 @@ use Rattle.i2c_bits.specs.Wiring.{the_table}
 use Rattle.bus_lines.specs.Edges.{acks_in}
 use Rattle.bus_lines.proofs.NumberedLemmas.{some_of_those}
 use Rattle.bus_lines.proofs.AddressLemmas.{seen_each, some_mapped}
-use Rattle.bus_lines.proofs.TargetsLemmas.{seen_alone, all_told, told_holds}
+use Rattle.bus_lines.proofs.TargetsLemmas.{seen_alone}
 
 -- ---- one target
 holds_so : (byte : ℕ) (a : ℕ) (j h : Bool) (x : NodeState) (m : Mode) (k : ℕ)
@@ -23,6 +23,10 @@ holds_so byte a true h x (In false left v) k = refl
 holds_so byte a true h x (Answered begun acked next looks) k = refl
 holds_so byte a true h x (Give left) k = refl
 holds_so byte a true h x (Gave more) k = refl
+
+-- who held SCL before does so still
+pub puts_hold : (byte : ℕ) (b : Bit NodeState) → holds_line (where_joined (seen (Put byte)) b) ≡ holds_line b
+puts_hold byte b = holds_so byte b.site.addr b.site.joined b.site.heard b.site.state b.mode b.hold
 
 pub acks_none : (byte : ℕ) (b : Bit NodeState) → b ≡ released b.site → acks_put byte b ≡ false
 acks_none byte b out = ap (acks_put byte) out ∙ and-false b.site.joined
@@ -54,25 +58,9 @@ acks_coming (suc n) v byte bs some =
     some_mapped (acks_put byte) (shared (suc n) v) bs
     (λ b. shared_acks_so n v byte b.site.addr b.site.joined b.site.heard b.site.state b.mode b.hold)
 
--- ---- all of them: who held before does so still
-pub some_kept : (p : Bit NodeState → Bool) (g : Bit NodeState → Bit NodeState) (bs : List (Bit NodeState))
-    → ((b : Bit NodeState) → p (g b) ≡ p b)
-    → some_one p (map g bs) ≡ some_one p bs
-some_kept p g [] same = refl
-some_kept p g (b ∷ bs) same = rw (same b, some_kept p g bs same) refl
-
+-- ---- all of them
 module _ (byte : ℕ) (left v : ℕ) (live started : List ℕ) (at : List (List ℕ)) (ps : List PlaceView) (bs : List (Bit NodeState))
     (none : left ≡ 0) (units : AreUnits left live started at (joins_by ps (states_on bs)) bs) where
-  pub put_holds : (new : List (Bit NodeState)) → new ≡ by_number (to_those live (where_joined (seen (Put byte)))) 0 bs
-      → (held : Bool) → held ≡ some_one holds_line (map (shared left v) bs) → held ≡ some_by (of_those live holds_line) 0 new
-  put_holds new is held was =
-      was ∙ ap (some_one holds_line) (seen_alone left v bs none)
-      ∙ sym (ap (some_by (of_those live holds_line) 0) is
-      ∙ told_holds (Put byte) tt left live started at ps bs none units
-      ∙ ap (some_one holds_line) (all_told (Put byte) tt left live started at ps bs none units)
-      ∙ some_kept holds_line (where_joined (seen (Put byte))) bs
-      (λ b. holds_so byte b.site.addr b.site.joined b.site.heard b.site.state b.mode b.hold))
-
   -- those that are told are all that acknowledge
   pub put_acks : some_by (of_those live (acks_put byte)) 0 bs ≡ some_one (acks_put byte) (map (shared left v) bs)
   put_acks =

@@ -1,11 +1,10 @@
 -- Who holds SCL, as the targets are seen. Nobody begins to hold it at a rise.
-use Rattle.bus_lines.proofs.Cited.{◌≡◌, ℕ, zero, suc, Bool, true, false, ◌&&◌, List, [], ◌∷◌, map, refl, sym, ap, ◌∙◌, Mode, Out, In}
+use Rattle.bus_lines.proofs.Cited.{◌≡◌, ℕ, zero, suc, Bool, true, false, ◌&&◌, List, [], ◌∷◌, map, refl, ap, ◌∙◌, Mode, Out, In}
 use Rattle.bus_lines.proofs.Cited.{Answered, Give, Gave, BoardView, Rooted, Bit, site_of, stands, shifted, where_joined, some_one}
-use Rattle.bus_lines.proofs.Cited.{holds_line, NodeState, Rise, whole_on, seen, PlaceView, states_on, joins_by, AreTargets, NumbersView}
-use Rattle.bus_lines.proofs.Cited.{RegisterView, by_number, some_by, to_those, of_those, shared, AreUnits, or_parts}
+use Rattle.bus_lines.proofs.Cited.{holds_line, NodeState, Rise, whole_on, seen, PlaceView, AreTargets, NumbersView}
+use Rattle.bus_lines.proofs.Cited.{RegisterView, shared, or_parts}
 use Rattle.wire_spec.specs.Wires.{holds}
 use Rattle.bus_lines.proofs.AwayLemmas.{units_away, whole_some}
-use Rattle.bus_lines.proofs.TargetsLemmas.{seen_alone, all_told, told_holds}
 use Rattle.bus_lines.proofs.UnitLemmas.{address_holds}
 
 -- ---- who holds SCL
@@ -32,22 +31,9 @@ holds_so level a true h x (Give zero) k free = refl
 holds_so level a true h x (Give (suc n)) k free = free
 holds_so level a true h x (Gave more) k free = free
 
-rises_hold : (level : Bool) (bs : List (Bit NodeState)) → some_one holds_line bs ≡ false
+pub rises_hold : (level : Bool) (bs : List (Bit NodeState)) → some_one holds_line bs ≡ false
     → some_one holds_line (map (where_joined (seen (Rise level))) bs) ≡ false
 rises_hold level [] free = refl
 rises_hold level (b ∷ bs) free =
     let parts = or_parts (holds_line b) (some_one holds_line bs) free in
     rw (holds_so level b.site.addr b.site.joined b.site.heard b.site.state b.mode b.hold parts.0, rises_hold level bs parts.1) refl
-
--- ---- those that are told: who held before does so still
-module _ (level : Bool) (left v : ℕ) (live started : List ℕ) (at : List (List ℕ)) (ps : List PlaceView) (bs new : List (Bit NodeState))
-    (none : left ≡ 0) (units : AreUnits left live started at (joins_by ps (states_on bs)) bs)
-    (is : new ≡ by_number (to_those live (where_joined (seen (Rise level)))) 0 bs) where
-  pub risen_holds : (held : Bool) → held ≡ some_one holds_line (map (shared left v) bs) → held ≡ false
-      → held ≡ some_by (of_those live holds_line) 0 new
-  risen_holds held was free =
-      free
-      ∙ sym (ap (some_by (of_those live holds_line) 0) is
-      ∙ told_holds (Rise level) tt left live started at ps bs none units
-      ∙ ap (some_one holds_line) (all_told (Rise level) tt left live started at ps bs none units)
-      ∙ rises_hold level bs (ap (some_one holds_line) (sym (seen_alone left v bs none)) ∙ sym was ∙ free))

@@ -4,7 +4,7 @@ use Rattle.bus_lines.proofs.Cited.{slice_get, Bit, where_joined, some_one, holds
 use Rattle.bus_lines.proofs.Cited.{Leave, Other, Address, Put, Get, Enter, seen, PlaceView, states_on, joins_by, is_among, by_number}
 use Rattle.bus_lines.proofs.Cited.{some_by, to_those, of_those, shared, IsCalm, IsUnit, AreUnits}
 use Rattle.bus_lines.proofs.KindLemmas.{NoFinish, addr_kept, joined_kept, doors, doors_kept, states_numbered, joins_kept}
-use Rattle.bus_lines.proofs.NumberedLemmas.{map_numbered, map_itself, at_number, some_of_those}
+use Rattle.bus_lines.proofs.NumberedLemmas.{map_numbered, map_itself, at_number, some_of_those, some_kept}
 use Rattle.bus_lines.proofs.UnitLemmas.{done_all, done_none, IsWithin, out_sees, holds_none}
 
 -- ---- where no address comes in, each is seen as it is
@@ -113,3 +113,21 @@ module _ (e : Edge) (within : IsWithin e) (left : ℕ) (live started : List ℕ)
 
   pub told_holds : some_by (of_those live holds_line) 0 (by_number told_to 0 bs) ≡ some_one holds_line (by_number told_to 0 bs)
   told_holds = some_of_those live holds_line (by_number told_to 0 bs) (λ k b is out. holds_none b ((told_units k b is).out out))
+
+  -- who held SCL before does so still, where the edge is nothing to that
+  pub edge_holds : ((b : Bit NodeState) → holds_line (where_joined (seen e) b) ≡ holds_line b) → (v : ℕ) (new : List (Bit NodeState))
+      → new ≡ by_number told_to 0 bs → (held : Bool) → held ≡ some_one holds_line (map (shared left v) bs)
+      → held ≡ some_by (of_those live holds_line) 0 new
+  edge_holds same v new is held was =
+      was ∙ ap (some_one holds_line) (seen_alone left v bs none)
+      ∙ sym (ap (some_by (of_those live holds_line) 0) is ∙ told_holds ∙ ap (some_one holds_line) all_told
+      ∙ some_kept holds_line (where_joined (seen e)) bs same)
+
+  -- .. and where nobody held it, nobody does, if the edge makes nobody hold it
+  pub edge_frees : (some_one holds_line bs ≡ false → some_one holds_line (map (where_joined (seen e)) bs) ≡ false) → (v : ℕ)
+      (new : List (Bit NodeState)) → new ≡ by_number told_to 0 bs → (held : Bool) → held ≡ some_one holds_line (map (shared left v) bs)
+      → held ≡ false → held ≡ some_by (of_those live holds_line) 0 new
+  edge_frees stays v new is held was free =
+      free
+      ∙ sym (ap (some_by (of_those live holds_line) 0) is ∙ told_holds ∙ ap (some_one holds_line) all_told
+      ∙ stays (ap (some_one holds_line) (sym (seen_alone left v bs none)) ∙ sym was ∙ free))

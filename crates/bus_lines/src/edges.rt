@@ -3,7 +3,6 @@ ghost use Rattle.std.specs.Prelude.{◌≡◌, ◌||◌, false, length};
 ghost use Rattle.std.specs.List.{list_all, list_any};
 ghost use Rattle.wire_spec.specs.Roots.{where_joined};
 ghost use Rattle.wire_spec.specs.Bus.{holds_line};
-ghost use Rattle.wire_spec.specs.Wires.{entered};
 ghost use Rattle.wire_spec.specs.Calls.{released};
 ghost use Rattle.bus_lines.specs.Edges.{seen, acks_in, acks_put, byte_or_ones, gives_in, gives_get, acked_in, acks_enter, pulls_at, slow_at, joined_at};
 ghost use Rattle.bus_lines.specs.Numbers.{AreNumbers};
@@ -12,8 +11,8 @@ ghost use Rattle.bus_lines.specs.declared.edges.Edge.TheVariants as the;
 
 use crate::WireTarget;
 use i2c_base::{Answer, Event, MOST_LOOKS, Target};
-use tgt_bits::{BitTarget, Wired, wired_targets_are_fair};
-use wire_spec::{Mode, Next};
+use tgt_bits::{BitTarget, Wired, entered, wired_targets_are_fair};
+use wire_spec::Mode;
 
 /// A byte has so many bits (UM10204 section 3.1.5).
 const BITS: u8 = 8;
@@ -256,22 +255,6 @@ fn get_each(targets: &mut [BitTarget<WireTarget>], numbers: &[u16], ack: bool) -
     byte
 }
 
-// What follows the acknowledge clock.
-#[inline(always)]
-fn mode_after(next: Next) -> Mode
-    ensures { result ≡ entered next }
-{
-    match next {
-        Next::Leave => Mode::Out,
-        Next::Take => Mode::In {
-            address: false,
-            left: BITS,
-            value: 0,
-        },
-        Next::Send => Mode::Give { left: BITS },
-    }
-}
-
 /// The acknowledge clock of an address, as a whole. Whether the target pulls SDA in it.
 #[inline(always)]
 fn enter_in(target: &mut BitTarget<WireTarget>) -> bool
@@ -281,7 +264,7 @@ fn enter_in(target: &mut BitTarget<WireTarget>) -> bool
     match target.mode {
         Mode::Answered { acked, next, .. } => {
             leave(target);
-            target.mode = mode_after(next);
+            target.mode = entered(next);
             acked
         }
         Mode::In { .. } | Mode::Out | Mode::Give { .. } | Mode::Gave { .. } => false,

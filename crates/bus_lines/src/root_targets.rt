@@ -1,5 +1,5 @@
 //! The targets of a root, on its two lines.
-ghost use Rattle.std.specs.Prelude.{◌≡◌, IfOk, false, map, min};
+ghost use Rattle.std.specs.Prelude.{◌≡◌, ◌⊎◌, IfOk, false, map, min};
 ghost use Rattle.ports.specs.Causes.{MOST};
 ghost use Rattle.wire_spec.specs.Wires.{rise, fall, tick, begin, finish};
 ghost use Rattle.wire_spec.specs.Roots.{some_one, pulls_line, where_joined, and_all};
@@ -244,23 +244,30 @@ impl RootTargets {
         get_all(&mut self.bits, self.live.as_slice(), ack)
     }
 
+    /// SCL falls, or was looked at and was low: that is nothing while an address comes in.
+    #[inline(always)]
+    fn see_low(&mut self, edge: Edge)
+        requires { (edge ≡ the.Fall) ⊎ (edge ≡ the.Tick) }
+        ensures { self.new ≡ record self.old { bits = map (where_joined (seen edge)) self.old.bits } }
+    {
+        if !self.address.is_coming() {
+            self.held = tell(&mut self.bits, self.live.as_slice(), edge);
+        }
+    }
+
     /// SCL falls.
     #[inline(always)]
     pub fn fall(&mut self)
         ensures { self.new ≡ record self.old { bits = map (where_joined fall) self.old.bits } }
     {
-        if !self.address.is_coming() {
-            self.held = tell(&mut self.bits, self.live.as_slice(), Edge::Fall);
-        }
+        self.see_low(Edge::Fall);
     }
 
     /// SCL was looked at and was low.
     pub fn tick(&mut self)
         ensures { self.new ≡ record self.old { bits = map (where_joined tick) self.old.bits } }
     {
-        if !self.address.is_coming() {
-            self.held = tell(&mut self.bits, self.live.as_slice(), Edge::Tick);
-        }
+        self.see_low(Edge::Tick);
     }
 
     /// A start: SDA falls while SCL is high.

@@ -91,11 +91,7 @@ impl WireState {
     pub fn ended(&mut self)
         ensures { self.new ≡ wire_ended self.old }
     {
-        self.clock_low = false;
-        self.data_low = false;
-        self.clock_high = true;
-        self.data_high = false;
-        self.low = 0;
+        self.set(false, false, true, false);
     }
 
     /// The controller has made nine clocks, in the last of which it pulls SDA or not and sees it at this level.
@@ -104,10 +100,18 @@ impl WireState {
         ensures { self.new ≡ wire_nine self.old sda level }
     {
         self.pulses = self.pulses.saturating_add(9);
-        self.clock_low = true;
+        self.set(true, sda, true, level);
+    }
+
+    /// The controller pulls each line or lets it go, and saw them at these levels, SCL never low.
+    #[inline(always)]
+    fn set(&mut self, scl: bool, sda: bool, scl_high: bool, sda_high: bool)
+        ensures { self.new ≡ record self.old { scl = scl; sda = sda; scl_high = scl_high; sda_high = sda_high; low = 0 } }
+    {
+        self.clock_low = scl;
         self.data_low = sda;
-        self.clock_high = true;
-        self.data_high = level;
+        self.clock_high = scl_high;
+        self.data_high = sda_high;
         self.low = 0;
     }
 

@@ -1,5 +1,5 @@
-use Rattle.bus_lines.proofs.Cited.{◌≡◌, ◌-◌, ◌<◌, suc, length, length-set, get_or, refl, ap, ◌∙◌, arith, joins_by, states_on, known}
-use Rattle.bus_lines.proofs.JoinLemmas.{next_back, states_set, first_all}
+use Rattle.bus_lines.proofs.Cited.{refl, arith, joins_by, states_on, known}
+use Rattle.bus_lines.proofs.JoinLemmas.{back_next, first_all}
 use Rattle.bus_lines.proofs.joining.refresh_each.Goals as goal
 
 pub loop-left-init : goal.loop-left-init
@@ -13,21 +13,5 @@ loop-left-init c =
 
 pub loop-left-preserved : goal.loop-left-preserved
 loop-left-preserved c =
-    let left = c.loop-left.left in
-    let now = c.loop-left.targets in
-    let places = c.args.places.now in
-    let joins = joins_by places (states_on c.args.targets.now) in
-    let i = c.loop-left.invariant in
-    let next : left ≡ suc (left - 1) = omega arith in
-    let lt : left - 1 < length now = omega arith in
-    let at = c.index-targets-left.result in
-    let new = c.set_known.new.target in
-    let read : c.joins_by-joined.result ≡ joins (left - 1) =
-    c.joins_by-joined.ensures ∙ ap (λ xs. joins_by places xs (left - 1)) i.states in
-    record {
-      few = omega (arith, i.few, length-set now (left - 1) new);
-      states = states_set (left - 1) now at new (ap (λ b. b.site.state) c.set_known.ensures) ∙ i.states;
-      targets = next_back (λ k b. known (joins k) b) left (left - 1) now at new next lt
-          (c.set_known.ensures ∙ ap (λ j. known j (get_or now (left - 1) at)) read)
-          ∙ i.targets;
-    }
+    back_next known (λ j b. refl) c.loop-left.invariant c.loop-left-test.true c.joins_by-joined.result c.joins_by-joined.ensures
+    c.index-targets-left.result c.set_known.new.target c.set_known.ensures

@@ -1,15 +1,16 @@
-use Rattle.bus_lines.proofs.Cited.{◌≡◌, ◌-◌, ◌<◌, ◌||◌, suc, length, length-set, get_or, refl, ap, ◌∙◌, arith, holds_line, joins_by}
-use Rattle.bus_lines.proofs.Cited.{read_anew, states_on}
+use Rattle.bus_lines.proofs.Cited.{◌≡◌, ◌-◌, ◌<◌, ◌||◌, suc, length, refl, ap, ◌∙◌, arith, holds_line, joins_by, read_anew, states_on}
 use Rattle.bus_lines.proofs.BackLemmas.{some_back, some_none}
-use Rattle.bus_lines.proofs.JoinLemmas.{joined_by, rejoin_all, next_back, states_set}
+use Rattle.bus_lines.proofs.JoinLemmas.{back_next, rejoin_all}
 use Rattle.bus_lines.proofs.joining.rejoin_each.Goals as goal
 
 pub loop-left-init : goal.loop-left-init
 loop-left-init c =
     record {
-      few = omega arith;
-      states = refl;
-      targets = rejoin_all (joins_by c.args.places.now (states_on c.args.targets.now)) 0 c.args.targets.now;
+      back = record {
+        few = omega arith;
+        states = refl;
+        targets = rejoin_all (joins_by c.args.places.now (states_on c.args.targets.now)) 0 c.args.targets.now;
+      };
       held = some_none holds_line c.args.targets.now;
     }
 
@@ -17,20 +18,12 @@ pub loop-left-preserved : goal.loop-left-preserved
 loop-left-preserved c =
     let left = c.loop-left.left in
     let now = c.loop-left.targets in
-    let places = c.args.places.now in
-    let joins = joins_by places (states_on c.args.targets.now) in
-    let i = c.loop-left.invariant in
-    let next : left ≡ suc (left - 1) = omega arith in
-    let lt : left - 1 < length now = omega arith in
-    let at = c.index-targets-left.result in
+    let was = c.loop-left.invariant in
     let new = c.set_joined.new.target in
-    let read : c.joins_by-joined.result ≡ joins (left - 1) =
-    c.joins_by-joined.ensures ∙ ap (λ xs. joins_by places xs (left - 1)) i.states in
+    let next : left ≡ suc (left - 1) = omega arith in
+    let lt : left - 1 < length now = omega (arith, was.back.few) in
     record {
-      few = omega (arith, i.few, length-set now (left - 1) new);
-      states = states_set (left - 1) now at new (ap (λ b. b.site.state) c.set_joined.ensures) ∙ i.states;
-      targets = next_back (joined_by joins) left (left - 1) now at new next lt
-          (c.set_joined.ensures ∙ ap (λ j. read_anew j (get_or now (left - 1) at)) read)
-          ∙ i.targets;
-      held = c.holds_with-held.ensures ∙ ap (λ b. holds_line new || b) i.held ∙ some_back holds_line left (left - 1) now new next lt;
+      back = back_next read_anew (λ j b. refl) was.back c.loop-left-test.true c.joins_by-joined.result c.joins_by-joined.ensures
+          c.index-targets-left.result new c.set_joined.ensures;
+      held = c.holds_with-held.ensures ∙ ap (λ b. holds_line new || b) was.held ∙ some_back holds_line left (left - 1) now new next lt;
     }
