@@ -2,7 +2,7 @@
 ghost use Rattle.std.specs.Prelude.{◌≡◌, ◌++◌, IfOk, OnOk, map};
 ghost use Rattle.i2c_spec.specs.Plain.{IsPlainBoard, IsPlainDevice};
 ghost use Rattle.i2c_board.specs.Layouts.{board_of};
-ghost use Rattle.bus_lines.specs.Joins.{mux_place, device_place};
+ghost use Rattle.bus_lines.specs.Joins.{places_of};
 ghost use Rattle.std.specs.Prelude.{cond};
 ghost use Rattle.i2c_spec.specs.Targets.{Silent, opening_state};
 ghost use Rattle.wire_spec.specs.Sites.{Device};
@@ -85,35 +85,22 @@ pub fn add_devices(
     Ok(())
 }
 
-/// The places of the chips of all muxes, after these places.
-pub fn add_mux_places(
+/// The places of the chips of all muxes, and then of the devices.
+pub fn all_places(
     alloc: Global,
     layout: Layout<'_>,
     root: SegId,
-    places: &mut Vec<WirePlace>,
-) -> Result<(), NoMemory>
+) -> Result<Vec<WirePlace>, NoMemory>
     requires { IsPlainBoard (board_of layout) }
-    ensures { OnOk result (places.new.items ≡ places.old.items ++ map (mux_place (board_of layout.entry) root) layout.entry.muxes.now) }
+    ensures { IfOk result (λ places. places.items ≡ places_of (board_of layout.entry) root) }
 {
+    let mut places = Vec::new(alloc);
     for mux in layout.muxes {
         let there = !mux.absent && mux.addr.is_some();
         places.push(WirePlace::open(alloc, layout, root, mux.bus, there)?)?;
     }
-    Ok(())
-}
-
-/// The places of the devices, after these places.
-pub fn add_device_places(
-    alloc: Global,
-    layout: Layout<'_>,
-    root: SegId,
-    places: &mut Vec<WirePlace>,
-) -> Result<(), NoMemory>
-    requires { IsPlainBoard (board_of layout) }
-    ensures { OnOk result (places.new.items ≡ places.old.items ++ map (device_place (board_of layout.entry) root) layout.entry.devices.now) }
-{
     for device in layout.devices {
         places.push(WirePlace::open(alloc, layout, root, device.bus, true)?)?;
     }
-    Ok(())
+    Ok(places)
 }

@@ -19,7 +19,7 @@ use crate::index::Index;
 use crate::joining::{list_joined, refresh_all, rejoin, set_level};
 use crate::message::{call, leave, spread, stop};
 use crate::numbers::TargetNumbers;
-use crate::opening::{add_chips, add_device_places, add_devices, add_mux_places};
+use crate::opening::{add_chips, add_devices, all_places};
 use crate::place::WirePlace;
 use crate::register::Register;
 use crate::{Apart, WireTarget};
@@ -75,9 +75,7 @@ impl RootTargets {
         ensures { IfOk result (λ targets. targets ≡ opened_targets board.now root) }
     {
         let layout = board.board().layout();
-        let mut places = Vec::new(alloc);
-        add_mux_places(alloc, layout, root, &mut places)?;
-        add_device_places(alloc, layout, root, &mut places)?;
+        let places = all_places(alloc, layout, root)?;
         let mut bits = Vec::new(alloc);
         add_chips(layout, &mut bits)?;
         add_devices(alloc, layout, root, &mut bits)?;

@@ -1,5 +1,5 @@
 use Rattle.bus_lines.proofs.Cited.{◌≡◌, ◌++◌, length, map, sym, ap, ◌∙◌, subst, slice_get, BoardView, board_of, rejoin_from, rejoined}
-use Rattle.bus_lines.proofs.Cited.{mask_of, Rooted, is_chip, kinds_of, joins_by, states_on, places_of, mux_place, device_place, targets_of}
+use Rattle.bus_lines.proofs.Cited.{mask_of, Rooted, is_chip, kinds_of, joins_by, states_on, places_of, targets_of}
 use Rattle.bus_lines.proofs.Cited.{NumbersView, bits_of, chip_bit, kept_device, kept_bits, whole_on, RegisterView, shared, IsIndex}
 use Rattle.bus_lines.proofs.AwayLemmas.{kept_whole, kept_kinds, whole_rejoined}
 use Rattle.bus_lines.proofs.FirstLemmas.{opened_loose}
@@ -18,12 +18,8 @@ module _ (c : goal.After-none-2) where
   same : board ≡ k.board
   same = c.layout-layout.ensures.value ∙ c.board.ensures.value ∙ sym c.of-2.ensures
 
-  places : c.add_device_places.new.places.items ≡ places_of k.board k.root
-  places =
-      c.in_ok-add_device_places.ensures
-      ∙ ap (λ ps. ps ++ map (device_place board c.args.root) board.devices)
-      (c.in_ok-add_mux_places.ensures ∙ ap (λ ps. ps ++ map (mux_place board c.args.root) board.muxes) c.new-places.ensures.items)
-      ∙ ap (λ (x : BoardView). places_of x c.args.root) same
+  places : c.in_ok-places.places.items ≡ places_of k.board k.root
+  places = c.in_ok-places.ensures ∙ ap (λ (x : BoardView). places_of x c.args.root) same
 
   bits : c.add_devices.new.bits.items ≡ kept_bits board c.args.root
   bits =
@@ -35,7 +31,7 @@ module _ (c : goal.After-none-2) where
   kinds = ap (λ xs. map is_chip (states_on xs)) bits ∙ kept_kinds board c.args.root ∙ ap kinds_of same
 
   anew : c.rejoin-held.new.targets.items
-      ≡ rejoin_from (joins_by c.add_device_places.new.places.items (states_on c.add_devices.new.bits.items)) 0 c.add_devices.new.bits.items
+      ≡ rejoin_from (joins_by c.in_ok-places.places.items (states_on c.add_devices.new.bits.items)) 0 c.add_devices.new.bits.items
   anew =
       c.rejoin-held.ensures.targets
       ∙ ap (λ ps. rejoin_from (joins_by ps (states_on c.add_devices.new.bits.items)) 0 c.add_devices.new.bits.items)
@@ -50,7 +46,7 @@ invariant_of-result c =
     let slice = c.as_slice.ensures.value in
     let count = ap length slice in
     let len = sym c.as_slice.ensures.len ∙ count in
-    let ps = c.add_device_places.new.places.items in
+    let ps = c.in_ok-places.places.items in
     let kept =
     kept_anew (k c) ps c.rejoin-held.result c.none.result c.in_ok-live.live c.in_ok-started.started c.in_ok-at.at
     c.rejoin-held.new.targets.items
@@ -73,7 +69,7 @@ pub returns : goal.returns
 returns c =
     let b = c.of-2.result.value in
     let r = c.args.root in
-    let ps = c.add_device_places.new.places.items in
+    let ps = c.in_ok-places.places.items in
     let bs = c.add_devices.new.bits.items in
     let view = ap (λ xs. map (shared c.none.result.left c.none.result.value) (whole_on b ps xs))
     (anew_is_known ps bs c.rejoin-held.new.targets.items (anew c))
