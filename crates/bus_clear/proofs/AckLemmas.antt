@@ -1,12 +1,10 @@
 -- The rise of the acknowledge clock of a read that is cut off: in time, or so late that all have let SDA go.
-use Rattle.bus_clear.proofs.Cited.{◌≡◌, ℕ, zero, suc, ◌+◌, ◌-◌, ◌/◌, ◌<◌, ◌≤◌, Bool, true, false, cond, List, [], ◌∷◌, map, refl, ap, sym}
-use Rattle.bus_clear.proofs.Cited.{◌∙◌, arith, subst, not, ◌==◌, AllByRecursion, nat_tests, IsByte, Table, IsFairTable, is_ack, Out, Give}
+use Rattle.bus_clear.proofs.Cited.{◌≡◌, ℕ, zero, suc, ◌+◌, ◌-◌, ◌/◌, ◌≤◌, Bool, true, false, cond, List, [], ◌∷◌, map, refl, ap, sym}
+use Rattle.bus_clear.proofs.Cited.{◌∙◌, arith, subst, not, AllByRecursion, IsByte, Table, IsFairTable, is_ack, Out, Give}
 use Rattle.bus_clear.proofs.Cited.{Site, Bit, site_of, shifted, fall, tick, begin, is_named, is_reading, stands, some_one, pulls_line, sda}
 use Rattle.bus_clear.proofs.Cited.{where_joined, at, Mask, Counts, one_edge, Bus, Came, holds_line, scl_level, sda_level, each, rises}
 use Rattle.bus_clear.proofs.Cited.{bus_of, came_up, gave_up, calling, started, stays, answers_so, released, map_step, map_map, some_map}
 use Rattle.bus_clear.proofs.Cited.{looks_up, goes_down, sets_data, waiting, wait_bus, stays_free}
-use Rattle.i2c_base.specs.declared.event.Event.TheVariants.{Start}
-use Rattle.i2c_spec.specs.World.{has_heard}
 use Rattle.wire_spec.specs.declared.mode.Mode.TheVariants.{In}
 use Rattle.wire_spec.specs.Bus.{pulled, looked, await}
 use Rattle.wire_spec.specs.Started.{late_bus, rose}
@@ -14,11 +12,11 @@ use Rattle.wire_spec.proofs.AckClock.{waiting_if, acknowledges, wait_level, let_
 use Rattle.wire_spec.proofs.AckClock.{fall_all, pulls_one, gone}
 use Rattle.wire_spec.proofs.SlowClock.{slow_clock}
 use Rattle.wire_spec.proofs.StartLemmas.{ack_all, not_slow}
+use Rattle.wire_spec.proofs.StartLaws.{late_all}
 use Rattle.wire_spec.proofs.LateStops.{resting, resting_if, held, held_if, left_hold, started_if, late_map, held_same, tick_r, rise_r}
 use Rattle.wire_spec.proofs.LateStops.{holds_r}
 use Rattle.bus_clear.specs.Pulls.{cut_rise}
 use Rattle.bus_clear.proofs.AddressLemmas.{Frees, frees_at_once}
-use Rattle.std.proofs.lemmas.Bool.{or_from}
 
 begin_one : {X : Type 0} (t : Table X) (byte r j : ℕ) (a : ℕ) (jd e h : Bool) (x : X)
     → where_joined begin (waiting_if t byte r j (site_of a jd e x) jd h) ≡ calling 8 0 (started_if t byte (site_of a jd e x) jd h)
@@ -227,23 +225,6 @@ module _ {A X : Type 0} (t : Table X) (g : A → Site X) (rest : A → ℕ) (ss 
       }
 
 -- ---- after a start that was too slow
-rest_short : (named heard : Bool) (h : ℕ) → h < 256 → not ((cond named (cond heard h 0 - 65) 0 - 190) == 0) ≡ false
-rest_short true true h lt = grind (arith, nat_tests)
-rest_short true false h lt = refl
-rest_short false heard h lt = refl
-
-rest_one : {X : Type 0} (t : Table X) (byte : ℕ) (s : Site X) (joined : Bool) → t.hold s.state < 256
-    → held_if (left_hold t byte s) 190 joined ≡ false
-rest_one t byte s true lt = rest_short (is_named byte s) (has_heard (t.answer s.state (Start (is_reading byte)))) (t.hold s.state) lt
-rest_one t byte s false lt = refl
-
-all_rest : {X : Type 0} (t : Table X) (byte : ℕ) (ss : List (Site X)) → AllByRecursion (λ (s : Site X). IsByte (t.hold s.state)) ss
-    → some_one (held (started t byte) (left_hold t byte) 190) ss ≡ false
-all_rest t byte [] all = refl
-all_rest t byte (s ∷ ss) all =
-    or_from (held (started t byte) (left_hold t byte) 190 s) _ (rest_one t byte s (started t byte s).joined all.0)
-    (all_rest t byte ss all.1)
-
 pub ninth_too_late : {X : Type 0} (t : Table X) (mask : Mask X) (byte : ℕ) (ss : List (Site X)) (low : Bool) (c : Counts)
     → AllByRecursion (λ (s : Site X). IsByte (t.hold s.state)) ss → some_one (stays t byte 64) ss ≡ true
     → OutOn (map (started t byte) ss) (cut_rise t mask true (bus_of true low (map (waiting t byte 65 0) ss) c))
@@ -259,4 +240,4 @@ ninth_too_late {X} t mask byte ss low c all slow =
     ∙ ap (λ b. bus_of false false (map (resting (started t byte) (left_hold t byte) 0) ss) (rose b c)) (held_same t byte ss) in
     subst (OutOn (map (started t byte) ss))
     (sym (rise_is t byte ss mask low c ∙ ap (λ (x : Came X). x.bus) (e ∙ ap (await t 0 190) f)))
-    (rests_out t (started t byte) (left_hold t byte) ss 190 0 190 c refl (all_rest t byte ss all))
+    (rests_out t (started t byte) (left_hold t byte) ss 190 0 190 c refl (late_all 190 (omega arith) t byte ss all))

@@ -240,12 +240,12 @@ module _ (parts : (cs : List (Site ChipView)) (ds : List (Site TargetState)) →
         ∙ (ap (λ m. clear_pulls node_table (mask_of m.board m.root) w2) so
         ∙ (ap (clear_pulls node_table mask) (looked_is ∙ at_cut) ∙ freed.is))
 
-    pub level_told : high ≡ level_at world addr cut
+    level_told : high ≡ level_at world addr cut
     unfolding the_table
     level_told =
         seen ∙ (ap (sda_level node_table) at_cut ∙ (freed.level ∙ ap (λ b. level_by heard b cut) sent_is))
 
-    pub clear_told : ClearIs k addr cut a w w3
+    clear_told : ClearIs k addr cut a w w3
     clear_told =
         let l : Left k w3 (cleared_world world addr cut) = left w3 freed.counts (ap (λ (x : Clearing NodeState). x.bus) all_is) in
         record {
@@ -255,3 +255,6 @@ module _ (parts : (cs : List (Site ChipView)) (ds : List (Site TargetState)) →
           world = l.world;
           quiet = subst IsQuietWorld (sym l.world) l.quiet;
         }
+
+    pub cut_told : (high ≡ level_at world addr cut) × ClearIs k addr cut a w w3
+    cut_told = (level_told, clear_told)

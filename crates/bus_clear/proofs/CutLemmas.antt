@@ -314,33 +314,9 @@ module _ {X : Type 0} (t : Table X) (fair : IsFairTable t) (mask : Mask X) (byte
   abbrev cut_at : ℕ → Bus X
   cut_at cut = cut_pulls t mask byte cut (free ss c)
 
-  early_1 : Frees t mask 0 true (behind_bit t mask ss (cut_level byte 1)) (cut_at 1)
-  unfolding cut_pulls
-  early_1 = seven_frees t mask ss 6 (value 0 (levels_from byte 1 0)) (cut_level byte 1) _ (comes 0 7 refl)
-
-  early_2 : Frees t mask 0 true (behind_bit t mask ss (cut_level byte 2)) (cut_at 2)
-  unfolding cut_pulls
-  early_2 = seven_frees t mask ss 5 (value 0 (levels_from byte 1 1)) (cut_level byte 2) _ (comes 1 6 refl)
-
-  early_3 : Frees t mask 0 true (behind_bit t mask ss (cut_level byte 3)) (cut_at 3)
-  unfolding cut_pulls
-  early_3 = seven_frees t mask ss 4 (value 0 (levels_from byte 1 2)) (cut_level byte 3) _ (comes 2 5 refl)
-
-  early_4 : Frees t mask 0 true (behind_bit t mask ss (cut_level byte 4)) (cut_at 4)
-  unfolding cut_pulls
-  early_4 = seven_frees t mask ss 3 (value 0 (levels_from byte 1 3)) (cut_level byte 4) _ (comes 3 4 refl)
-
-  early_5 : Frees t mask 0 true (behind_bit t mask ss (cut_level byte 5)) (cut_at 5)
-  unfolding cut_pulls
-  early_5 = seven_frees t mask ss 2 (value 0 (levels_from byte 1 4)) (cut_level byte 5) _ (comes 4 3 refl)
-
-  early_6 : Frees t mask 0 true (behind_bit t mask ss (cut_level byte 6)) (cut_at 6)
-  unfolding cut_pulls
-  early_6 = seven_frees t mask ss 1 (value 0 (levels_from byte 1 5)) (cut_level byte 6) _ (comes 5 2 refl)
-
-  early_7 : Frees t mask 0 true (behind_bit t mask ss (cut_level byte 7)) (cut_at 7)
-  unfolding cut_pulls
-  early_7 = seven_frees t mask ss 0 (value 0 (levels_from byte 1 6)) (cut_level byte 7) _ (comes 6 1 refl)
+  early : (n left : ℕ) → 7 ≡ n + suc left → Frees t mask 0 true (behind_bit t mask ss (cut_level byte (suc n)))
+      (cut_off t mask byte (suc n) (cut_clocks t mask byte 1 n (start_pulls t mask (free ss c))))
+  early n left is = seven_frees t mask ss left (value 0 (levels_from byte 1 n)) (cut_level byte (suc n)) _ (comes n (suc left) is)
 
   early_8 : Frees t mask 0 true begun (cut_at 8)
   unfolding cut_pulls
@@ -392,13 +368,13 @@ module _ {X : Type 0} (t : Table X) (fair : IsFairTable t) (mask : Mask X) (byte
     pub frees_heard : (cut : ℕ) → 1 ≤ cut → cut ≤ 18 → FreesAt true cut
     unfolding cut_pulls
     frees_heard zero some few = absurd (omega (arith, some))
-    frees_heard (suc zero) some few = early_1
-    frees_heard (suc (suc zero)) some few = early_2
-    frees_heard (suc (suc (suc zero))) some few = early_3
-    frees_heard (suc (suc (suc (suc zero)))) some few = early_4
-    frees_heard (suc (suc (suc (suc (suc zero))))) some few = early_5
-    frees_heard (suc (suc (suc (suc (suc (suc zero)))))) some few = early_6
-    frees_heard (suc (suc (suc (suc (suc (suc (suc zero))))))) some few = early_7
+    frees_heard (suc zero) some few = early 0 6 refl
+    frees_heard (suc (suc zero)) some few = early 1 5 refl
+    frees_heard (suc (suc (suc zero))) some few = early 2 4 refl
+    frees_heard (suc (suc (suc (suc zero)))) some few = early 3 3 refl
+    frees_heard (suc (suc (suc (suc (suc zero))))) some few = early 4 2 refl
+    frees_heard (suc (suc (suc (suc (suc (suc zero)))))) some few = early 5 1 refl
+    frees_heard (suc (suc (suc (suc (suc (suc (suc zero))))))) some few = early 6 0 refl
     frees_heard (suc (suc (suc (suc (suc (suc (suc (suc zero)))))))) some few = early_8
     frees_heard (suc (suc (suc (suc (suc (suc (suc (suc (suc zero))))))))) some few = heard_nine
     frees_heard (suc (suc (suc (suc (suc (suc (suc (suc (suc (suc zero)))))))))) some few = heard_later 0 8 10 refl (omega arith) refl
@@ -425,13 +401,13 @@ module _ {X : Type 0} (t : Table X) (fair : IsFairTable t) (mask : Mask X) (byte
       → (slow ≡ false → some_one hearing begun ≡ false) → (cut : ℕ) → 1 ≤ cut → cut ≤ 18 → FreesAt false cut
   unfolding cut_pulls
   frees_unheard all slow is none nobody zero some few = absurd (omega (arith, some))
-  frees_unheard all slow is none nobody (suc zero) some few = early_1
-  frees_unheard all slow is none nobody (suc (suc zero)) some few = early_2
-  frees_unheard all slow is none nobody (suc (suc (suc zero))) some few = early_3
-  frees_unheard all slow is none nobody (suc (suc (suc (suc zero)))) some few = early_4
-  frees_unheard all slow is none nobody (suc (suc (suc (suc (suc zero))))) some few = early_5
-  frees_unheard all slow is none nobody (suc (suc (suc (suc (suc (suc zero)))))) some few = early_6
-  frees_unheard all slow is none nobody (suc (suc (suc (suc (suc (suc (suc zero))))))) some few = early_7
+  frees_unheard all slow is none nobody (suc zero) some few = early 0 6 refl
+  frees_unheard all slow is none nobody (suc (suc zero)) some few = early 1 5 refl
+  frees_unheard all slow is none nobody (suc (suc (suc zero))) some few = early 2 4 refl
+  frees_unheard all slow is none nobody (suc (suc (suc (suc zero)))) some few = early 3 3 refl
+  frees_unheard all slow is none nobody (suc (suc (suc (suc (suc zero))))) some few = early 4 2 refl
+  frees_unheard all slow is none nobody (suc (suc (suc (suc (suc (suc zero)))))) some few = early 5 1 refl
+  frees_unheard all slow is none nobody (suc (suc (suc (suc (suc (suc (suc zero))))))) some few = early 6 0 refl
   frees_unheard all slow is none nobody (suc (suc (suc (suc (suc (suc (suc (suc zero)))))))) some few = early_8
   frees_unheard all slow is none nobody (suc (suc (suc (suc (suc (suc (suc (suc (suc zero))))))))) some few = unheard_ninth all slow is none
   frees_unheard all slow is none nobody (suc (suc (suc (suc (suc (suc (suc (suc (suc (suc zero)))))))))) some few =
