@@ -39,15 +39,6 @@ module _ (t : Table NodeState) (k k1 : Rooted) (w w1 w2 : Bus NodeState) (same :
   clock_is high a b =
       b ∙ (ap (λ m. pulled t (mask_at m) w1 true (not high)) same ∙ ap (λ x. pulled t (mask_at k) x true (not high)) a)
 
-  pub two_pulls : w1 ≡ pulled t (mask_at k) w false true → w2 ≡ pulled t (mask_at k1) w1 false false
-      → w2 ≡ start_stop t (mask_at k) w
-  two_pulls a b =
-      b ∙ (ap (λ m. pulled t (mask_at m) w1 false false) same ∙ ap (λ x. pulled t (mask_at k) x false false) a)
-
-  pub start_is : w1 ≡ pulled t (mask_at k) w false true → w2 ≡ pulled t (mask_at k1) w1 true true
-      → w2 ≡ start_pulls t (mask_at k) w
-  start_is a b = b ∙ (ap (λ m. pulled t (mask_at m) w1 true true) same ∙ ap (λ x. pulled t (mask_at k) x true true) a)
-
 -- ---- one clock of those that are left
 pub clocks_pop : (t : Table NodeState) (k : Rooted) (byte r n : ℕ) (w : Bus NodeState) → 0 < n
     → cut_clocks t (mask_at k) byte r n w ≡ cut_clocks t (mask_at k) byte (r + 1) (n - 1) (cut_clock t (mask_at k) (cut_level byte r) w)

@@ -1,27 +1,20 @@
 -- A byte that is read, all nine clocks at once: what it is to each target, to all of them, and on the lines.
 use Rattle.bus_lines.proofs.Cited.{◌≡◌, ℕ, zero, suc, ◌<◌, Bool, true, false, cond, List, [], ◌∷◌, map, refl, sym, ap, ◌∙◌, arith, bit_and}
-use Rattle.bus_lines.proofs.Cited.{and_self, IsFairTable, Mode, Out, In, Answered, Give, Gave, Site, Bit, site_of, stands, where_joined}
+use Rattle.bus_lines.proofs.Cited.{and_self, Mode, Out, In, Answered, Give, Gave, Site, Bit, site_of, stands, where_joined}
 use Rattle.bus_lines.proofs.Cited.{at, and_all, Bus, bus_of, came_up, holds_line, released, more_edges, within, NodeState}
 use Rattle.bus_lines.proofs.Cited.{node_table, both, Wire, mask_at, StandsIn, chips_on, devices_on, Get, seen, gives_get, PlaceView}
 use Rattle.bus_lines.proofs.Cited.{states_on, joins_by, TargetsView, LinesView, lines_of, wire_nine, and_by}
 use Rattle.bus_lines.proofs.Cited.{given_by, shared, AreUnits}
-use Rattle.i2c_base.specs.declared.event.Event.TheVariants as event
 use Rattle.wire_spec.specs.Roots.{get_site, sent_by}
 use Rattle.wire_spec.specs.Calls.{read_byte}
 use Rattle.wire_spec.specs.Laws.{GetsAreEvents}
 use Rattle.i2c_bits.specs.Wiring.{the_table}
-use Rattle.bus_lines.specs.Edges.{byte_or_ones, gives_in}
+use Rattle.bus_lines.specs.Edges.{gives_in}
 use Rattle.bus_lines.proofs.AddressLemmas.{seen_each}
 use Rattle.bus_lines.proofs.AndLemmas.{and_of_those}
 use Rattle.bus_lines.proofs.TargetsLemmas.{seen_alone}
 
 -- ---- one target
--- its answer to a read is the byte that it sends
-pub byte_sent : IsFairTable node_table → (ack : Bool) (x : NodeState) → byte_or_ones (node_table.answer x (event.Get ack))
-    ≡ node_table.sends x
-byte_sent fair true x = ap byte_or_ones (fair.sends x)
-byte_sent fair false x = ap byte_or_ones (fair.sends_last x)
-
 holds_so : (ack : Bool) (a : ℕ) (j h : Bool) (x : NodeState) (m : Mode) (k : ℕ)
     → holds_line (where_joined (seen (Get ack)) (stands (site_of a j h x) m k)) ≡ holds_line (stands (site_of a j h x) m k)
 holds_so ack a false h x m k = refl

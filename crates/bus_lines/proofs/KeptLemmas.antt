@@ -14,7 +14,6 @@ use Rattle.bus_lines.proofs.KnownLemmas.{all_known, rejoins_known, anew_is_known
 use Rattle.bus_lines.proofs.NumberedLemmas.{at_number, numbered_twice, length-numbered, some_none}
 use Rattle.bus_lines.proofs.StopLemmas.{anew_out, calm_after, rejoin_numbered}
 use Rattle.bus_lines.proofs.TargetsLemmas.{within_goes, edge_holds, edge_frees}
-use Rattle.bus_lines.proofs.ToldLemmas.{edge_whole}
 use Rattle.bus_lines.proofs.UnitLemmas.{IsWithin, holds_none}
 use Rattle.bus_lines.proofs.AwayLemmas.{units_away, whole_edge, whole_stop, whole_rejoined}
 
@@ -95,12 +94,6 @@ module _ (k : Rooted) (ps : List PlaceView) (held : Bool) (r : RegisterView) (li
 
   pub edge_told : (h : Bool) → h ≡ some_by (of_those ns holds_line) 0 new → AreKept k ps h r live started at new
   edge_told h holds = edge_kept h (holds ∙ edge_asked holds_line)
-
-  pub edge_seen : (h : Bool) → AreKept k ps h r live started at new
-      → map (shared r.left r.value) (whole_on k.board ps (known_on ps new))
-      ≡ map (where_joined (seen e)) (map (shared r.left r.value) (whole_on k.board ps (known_on ps bs)))
-  edge_seen h now =
-      edge_whole k ps held r live started at (known_on ps bs) kept.are e within none live.items refl (known_on ps new) edge_known h now.are
 
 -- ---- who is joined is read anew of those at an address
 module _ (k : Rooted) (ps : List PlaceView) (held : Bool) (r : RegisterView) (live started : NumbersView) (at : List (List ℕ))

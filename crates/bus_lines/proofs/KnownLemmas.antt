@@ -30,9 +30,6 @@ known_of_state false j b = refl
 pub states_known_of : (ns : List ℕ) (f : ℕ → Bool) (bs : List (Bit NodeState)) → states_on (by_number (known_of ns f) 0 bs) ≡ states_on bs
 states_known_of ns f bs = states_by (known_of ns f) 0 bs (λ i b. known_of_state (is_among ns i) (f i) b)
 
-pub knows_same : (f g : ℕ → Bool) (bs : List (Bit NodeState)) → ((k : ℕ) → f k ≡ g k) → knows f bs ≡ knows g bs
-knows_same f g bs same = numbered_same (λ k b. known (f k) b) (λ k b. known (g k) b) bs (λ k b is. ap (λ j. known j b) (same k))
-
 known_either : (t j : Bool) (b : Bit NodeState) → known j (cond t (known j b) b) ≡ known j b
 known_either true j b = refl
 known_either false j b = refl

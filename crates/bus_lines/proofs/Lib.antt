@@ -26,7 +26,6 @@ pub mod ListedLemmas
 -- What each call leaves; the devices of other roots.
 pub mod InvariantLemmas
 pub mod AwayLemmas
-pub mod ToldLemmas
 pub mod KeptLemmas
 pub mod EnterLemmas
 pub mod EndsLemmas

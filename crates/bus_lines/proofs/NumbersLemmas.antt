@@ -58,11 +58,3 @@ one_more room ns n are out lt =
 pub room_more : (room : ℕ) (ns : List ℕ) (n : ℕ) → AreNumbers room ns → is_among ns n ≡ false → n < room → length ns < room
 room_more room ns n are out lt =
     omega (arith, numbers_fit room (ns ++ n ∷ []) (one_more room ns n are out lt), length-append ns (n ∷ []))
-
-kept_so : (ns : List ℕ) (n k : ℕ) (b : Bool) → (k == n) ≡ b → is_among ns n ≡ true → is_among ns k ≡ (is_among ns k || b)
-kept_so ns n k true at has = rw (ap (is_among ns) (same_of k n at) ∙ has) refl
-kept_so ns n k false at has = sym (or-false (is_among ns k))
-
--- a number that is among them isn't added
-pub among_same : (ns : List ℕ) (n k : ℕ) → is_among ns n ≡ true → is_among ns k ≡ (is_among ns k || (k == n))
-among_same ns n k has = kept_so ns n k (k == n) refl has

@@ -10,9 +10,9 @@ use Rattle.bus_lines.specs.declared.root_targets.RootTargets.TheInside.{Inside}
 use Rattle.bus_lines.proofs.AwayLemmas.{units_away, whole_edge, whole_line, whole_rejoined}
 use Rattle.bus_lines.proofs.CalledLemmas.{none_is_slow}
 use Rattle.bus_lines.proofs.EnterLemmas.{mid_are, mid_called}
-use Rattle.bus_lines.proofs.InvariantLemmas.{nodes_fair, seen_as, called_view, rejoined_are, line_count, line_kinds, line_loose, line_seen}
+use Rattle.bus_lines.proofs.InvariantLemmas.{nodes_fair, seen_as, told_view, called_view, rejoined_are, line_count, line_kinds, line_loose, line_seen}
 use Rattle.bus_lines.proofs.InvariantLemmas.{line_index}
-use Rattle.bus_lines.proofs.KeptLemmas.{edge_held, edge_freed, edge_told, edge_seen, fresh_known, fresh_those, fresh_kept, fresh_joined}
+use Rattle.bus_lines.proofs.KeptLemmas.{edge_held, edge_freed, edge_told, edge_known, fresh_known, fresh_those, fresh_kept, fresh_joined}
 use Rattle.bus_lines.proofs.KeptLemmas.{call_known, call_kept, kept_anew}
 use Rattle.bus_lines.proofs.KnownLemmas.{any_known, anew_is_known}
 use Rattle.bus_lines.proofs.UnitLemmas.{IsWithin}
@@ -88,8 +88,10 @@ module _ (i : Inside) (was : AreListed (rooted i) i.places.items i.held i.addres
     pub told_seen : (h : Bool) → AreListed (rooted i) i.places.items h i.address i.live i.started i.called i.at new
         → seen_in i i.address new ≡ map (where_joined (seen e)) (seen_in i i.address i.bits.items)
     told_seen h now =
-        edge_seen (rooted i) i.places.items i.held i.address i.live i.started i.at i.bits.items was.kept e within none ns those new is h
-        now.kept
+        whole_seen (seen e) now.kept
+        (told_view (rooted i) i.places.items i.held i.address i.live i.started i.at (bits_in i) was.kept.are e within none
+        (known_on i.places.items new)
+        (edge_known (rooted i) i.places.items i.held i.address i.live i.started i.at i.bits.items was.kept e within none ns those new is))
 
   -- ---- who is joined is read anew of all, a line is set, and it is read anew again
   module _ (qs : List PlaceView) (slice : qs ≡ i.places.items) (all : List (Bit NodeState)) (all_is : all ≡ known_on qs i.bits.items)

@@ -45,13 +45,6 @@ pub record Counted (made : ℕ) (old new : Wire) : Type 0 where
   pub slow : Passed LOOKS made old.slow new.slow
   pub stuck : Passed STOP_LOOKS made old.stuck new.stuck
 
-pub counted_none : (w : Wire) → w.low ≡ 0 → Counted 0 w w
-counted_none w none = record {
-  low = none;
-  slow = record { before = λ few. refl; behind = λ all. absurd (omega arith) };
-  stuck = record { before = λ few. refl; behind = λ all. absurd (omega arith) };
-}
-
 next_before : (most low mid old : ℕ) → low + 1 < most → mid ≡ old → cond (low + 1 == most) (counted mid) mid ≡ old
 next_before most low mid old few is = grind (arith, nat_tests)
 

@@ -98,9 +98,7 @@ stop_out t mask low ss c = stop_after_out t mask low ss c ∙ free_again (rejoin
 -- nobody holds SCL any more at so late a look
 module _ (looks : ℕ) (late : 190 ≤ looks) where
   late_short : (named heard : Bool) (h : ℕ) → h < 256 → not ((cond named (cond heard h 0 - 65) 0 - looks) == 0) ≡ false
-  late_short true true h lt = grind (arith, nat_tests)
-  late_short true false h lt = grind (arith, nat_tests)
-  late_short false heard h lt = grind (arith, nat_tests)
+  late_short named heard h lt = grind (arith, nat_tests)
 
   late_one : {X : Type 0} (t : Table X) (byte : ℕ) (s : Site X) (joined : Bool) → t.hold s.state < 256
       → held_if (left_hold t byte s) looks joined ≡ false
