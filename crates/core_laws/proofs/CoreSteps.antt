@@ -8,7 +8,7 @@ use Rattle.core_laws.proofs.Cited.{HoldsLocks, SendsIn, IsLockOf, holder_in, wit
 use Rattle.core_laws.proofs.Cited.{with_place, message_entry, settled_with, Place, spot_of, numbers_of, trees_of, spots_of, has_reply}
 use Rattle.core_laws.proofs.Cited.{IsGoing, SeatKept, CoreKept, Run, IsFairRun, Whole, StandsAt, IsSent, OwesUpTo, total, message_most}
 use Rattle.core_laws.proofs.Cited.{IsLeft, IsDecided, NextMsg, IsInside, PortKept, next_of, behind_of, IsSaid, TableKept, got-grows}
-use Rattle.core_laws.proofs.Cited.{given-few, bytes_given}
+use Rattle.core_laws.proofs.Cited.{given-few, bytes_given, Act, IsTold, LocksView}
 use Rattle.i2c_base.specs.declared.ids.LockId.TheVariants as lock
 use Rattle.i2c_base.specs.declared.entry.End.TheVariants as end
 use Rattle.i2c_base.specs.declared.entry.Entry.TheVariants as entry
@@ -252,14 +252,35 @@ module _ (run : Run) (fair : IsFairRun run) (whole : Whole) (core : CoreKept run
           room2 rooms (length bytes + length (bytes_given reply))
           (omega (arith, weight, one, sent.keeps.few, got-grows job msg.reading bytes p.got, gives)) room_bytes2 rooms_bytes
 
+  -- A LOCK is taken or freed, and the walk goes on
+  core-locked : (act : Act) → next_of whole.locks p.tree ≡ Some act
+      → ((bus : ℕ) (ms : List MessageView) (k : ℕ) → act ≡ Send (Call bus ms) k → ⊥) → (its : IsGoing run p n)
+      → (1 ≤ n) × OwesUpTo run.board (behind_of whole.locks p.tree Passed) (not (has_reply p.owed))
+      (run.left p.number p.taken - cost_of run.board p.transfer) (n - 1)
+      → (rest : List LockId) → HoldsLocks run.board rest (behind_of whole.locks p.tree Passed)
+      → is_over (behind_of whole.locks p.tree Passed) ≡ false
+      → IsLeft run.board p.transfer (has_reply p.owed) p.sent (behind_of whole.locks p.tree Passed)
+      → (v2 : LocksView) → TableKept run.board v2 (numbers_of whole.places) (set whole.held place rest)
+      → (e : Entry) → (IsTrue run.tells → IsTold run.board run.callers run.asks (e ∷ whole.past)
+      (set (spots_of whole.places) place (spot_of (passed whole p))) v2 whole.sockets None)
+      → whole.room ≡ room2 + 1
+      → CoreKept run (record (with_place whole place (passed whole p) rest (n - 1)) { past = e ∷ whole.past; locks = v2; room = room2 })
+  core-locked act first other its pays rest holds goes left v2 table e told rooms =
+      let one : 1 ≤ n = pays.0 in
+      let tree = behind_of whole.locks p.tree Passed in
+      core-stepped run whole core place p (passed whole p) stands.here refl n (n - 1) 1 stands.owing (omega (arith, one)) rest
+      (seat-behind run p n its rest tree holds p.sent goes left p.got its.partway its.emptied cut_at.No (n - 1) pays.1)
+      v2 table whole.sockets core.once
+      (sockets-still run.board run.tells (trees_of whole.places) place p.tree tree
+      (tree-here run whole core place p stands.here) whole.sockets (total whole.owes) (total (set whole.owes place (n - 1)))
+      (less-owed whole.owes place n (n - 1) stands.owing (omega arith)) core.sockets_kept (slots_of (seen_of whole.locks)) act first other)
+      (e ∷ whole.past) told room2 rooms 0 (omega arith) whole.room_bytes (omega arith)
+
   -- A LOCK IS TAKEN that the table says nobody has
   module _ (l : LockId) (first : next_of whole.locks p.tree ≡ Some (Take l)) (nobody : holder_in whole.locks l ≡ None)
       (rooms : whole.room ≡ room2 + 1) where
-    abbrev pub taken_tree : WalkTree
+    abbrev taken_tree : WalkTree
     taken_tree = behind_of whole.locks p.tree Passed
-
-    abbrev pub taken_place : Place
-    taken_place = passed whole p
 
     takes_no_settle : (verdict : Option Errno) → Take l ≡ Settle verdict → ⊥
     takes_no_settle verdict is = (let f : Take l ≡ Settle verdict = is in cc)
@@ -278,13 +299,6 @@ module _ (run : Run) (fair : IsFairRun run) (whole : Whole) (core : CoreKept run
     take_pays = owes-step run.board p.tree (not (has_reply p.owed))
         (run.left p.number p.taken - cost_of run.board p.transfer) n take_its.owes (slots_of (seen_of whole.locks)) (Take l) first Passed
 
-    take_seat : SeatKept run taken_place (l ∷ ls) (n - 1)
-    take_seat =
-        seat-behind run p n take_its (l ∷ ls) taken_tree take_holds.2 p.sent take_goes
-        (left-taken run.board p.transfer (slots_of (seen_of whole.locks)) p.tree (has_reply p.owed) p.sent
-        (left-on run whole core place p ls n stands (Take l) first takes_no_settle) l first)
-        p.got take_its.partway take_its.emptied cut_at.No (n - 1) take_pays.1
-
     pub core-taken : CoreKept run (record
         (with_place whole place (passed whole p) (l ∷ ls) (n - 1)) {
           past = entry.Take p.number l ∷ whole.past;
@@ -292,30 +306,22 @@ module _ (run : Run) (fair : IsFairRun run) (whole : Whole) (core : CoreKept run
           room = room2;
         })
     core-taken =
-        let one : 1 ≤ n = take_pays.0 in
-        core-stepped run whole core place p taken_place stands.here refl n (n - 1) 1 stands.owing (omega (arith, one)) (l ∷ ls) take_seat
+        core-locked (Take l) first (λ bus ms k is. let f : Take l ≡ Send (Call bus ms) k = is in cc) take_its take_pays (l ∷ ls)
+        take_holds.2 take_goes
+        (left-taken run.board p.transfer (slots_of (seen_of whole.locks)) p.tree (has_reply p.owed) p.sent
+        (left-on run whole core place p ls n stands (Take l) first takes_no_settle) l first)
         (with_holder whole.locks l (Some p.number))
         (take-table run.board whole.locks (numbers_of whole.places) whole.held core.table core.distinct place p.number ls stands.holding
-        (number-here run whole core place p stands.here) l take_holds.0 nobody) whole.sockets core.once
-        (sockets-still run.board run.tells (trees_of whole.places) place p.tree taken_tree
-        (tree-here run whole core place p stands.here) whole.sockets (total whole.owes) (total (set whole.owes place (n - 1)))
-        (less-owed whole.owes place n (n - 1) stands.owing (omega arith)) core.sockets_kept (slots_of (seen_of whole.locks))
-        (Take l) first
-        (λ bus ms k is. let f : Take l ≡ Send (Call bus ms) k = is in cc))
-        (entry.Take p.number l ∷ whole.past)
+        (number-here run whole core place p stands.here) l take_holds.0 nobody) (entry.Take p.number l)
         (λ tell. told-take run.board fair.tree fair.plain fair.lines run.asks fair.sends run.callers whole.past
         (spots_of whole.places) whole.locks whole.sockets (core.told tell) (are-numbered run whole core) place (spot_of p)
         (spot-here run whole core place p stands.here) (looks-same run whole core tell place p ls n stands)
-        taken_tree refl take_goes l take_holds.0 first nobody)
-        room2 rooms 0 (omega arith) whole.room_bytes (omega arith)
+        taken_tree refl take_goes l take_holds.0 first nobody) rooms
 
   -- A LOCK IS FREED, and the walk goes on
   module _ (l : LockId) (first : next_of whole.locks p.tree ≡ Some (Free l)) where
     abbrev pub freed_tree : WalkTree
     freed_tree = behind_of whole.locks p.tree Passed
-
-    abbrev pub freed_place : Place
-    freed_place = passed whole p
 
     frees_no_settle : (verdict : Option Errno) → Free l ≡ Settle verdict → ⊥
     frees_no_settle verdict is = (let f : Free l ≡ Settle verdict = is in cc)
@@ -338,13 +344,6 @@ module _ (run : Run) (fair : IsFairRun run) (whole : Whole) (core : CoreKept run
         (run.left p.number p.taken - cost_of run.board p.transfer) n free_its.owes (slots_of (seen_of whole.locks)) (Free l) first Passed
 
     module _ (goes_on : is_over freed_tree ≡ false) (rooms : whole.room ≡ room2 + 1) where
-      free_seat : SeatKept run freed_place free_holds.0 (n - 1)
-      free_seat =
-          seat-behind run p n free_its free_holds.0 freed_tree free_holds.2 p.sent goes_on
-          (left-freed run.board p.transfer (slots_of (seen_of whole.locks)) p.tree (has_reply p.owed) p.sent
-          (left-on run whole core place p ls n stands (Free l) first frees_no_settle) l first)
-          p.got free_its.partway free_its.emptied cut_at.No (n - 1) free_pays.1
-
       pub core-freed : CoreKept run (record
           (with_place whole place (passed whole p) free_holds.0 (n - 1)) {
             past = entry.Free p.number l ∷ whole.past;
@@ -352,21 +351,15 @@ module _ (run : Run) (fair : IsFairRun run) (whole : Whole) (core : CoreKept run
             room = room2;
           })
       core-freed =
-          let one : 1 ≤ n = free_pays.0 in
-          core-stepped run whole core place p freed_place stands.here refl n (n - 1) 1 stands.owing
-          (omega (arith, one)) free_holds.0 free_seat
+          core-locked (Free l) first (λ bus ms k is. let f : Free l ≡ Send (Call bus ms) k = is in cc) free_its free_pays free_holds.0
+          free_holds.2 goes_on
+          (left-freed run.board p.transfer (slots_of (seen_of whole.locks)) p.tree (has_reply p.owed) p.sent
+          (left-on run whole core place p ls n stands (Free l) first frees_no_settle) l first)
           (with_holder whole.locks l None)
           (free-table run.board whole.locks
           (numbers_of whole.places) whole.held core.table core.distinct place p.number ls stands.holding
-          (number-here run whole core place p stands.here) l free_holds.0 free_holds.1) whole.sockets core.once
-          (sockets-still run.board run.tells (trees_of whole.places) place p.tree freed_tree
-          (tree-here run whole core place p stands.here) whole.sockets (total whole.owes) (total (set whole.owes place (n - 1)))
-          (less-owed whole.owes place n (n - 1) stands.owing (omega arith)) core.sockets_kept (slots_of (seen_of whole.locks))
-          (Free l) first
-          (λ bus ms k is. let f : Free l ≡ Send (Call bus ms) k = is in cc))
-          (entry.Free p.number l ∷ whole.past)
+          (number-here run whole core place p stands.here) l free_holds.0 free_holds.1) (entry.Free p.number l)
           (λ tell. told-free run.board fair.tree fair.plain fair.lines run.asks fair.sends run.callers whole.past
           (spots_of whole.places) whole.locks whole.sockets (core.told tell) (are-numbered run whole core) place (spot_of p)
           (spot-here run whole core place p stands.here) (looks-same run whole core tell place p ls n stands)
-          freed_tree refl goes_on l free_there first)
-          room2 rooms 0 (omega arith) whole.room_bytes (omega arith)
+          freed_tree refl goes_on l free_there first) rooms

@@ -10,7 +10,7 @@ use Rattle.core_laws.proofs.Cited.{cut_told, message_cut, Now, current, now, ste
 use Rattle.core_laws.proofs.Cited.{reply_by, HearsIn, heard_list, SeenView, slots_of, slots_after, TellsMarks, ends_with, LinesAreLocked}
 use Rattle.core_laws.proofs.Cited.{NoSettle, AsksForMessages, who_hears, chip_where, at_same, LocksView, message_entry, seen_of, turned_to}
 use Rattle.core_laws.proofs.Cited.{TellsKept, Spot, SpotTold, IsTold, AreNumbered, AreRooted, RootPort, MsgResult, NextMsg, IsMessageOf}
-use Rattle.core_laws.proofs.Cited.{IsHeard, message_for, set_elsewhere}
+use Rattle.core_laws.proofs.Cited.{IsHeard, message_for, set_elsewhere, LockId, caller_of}
 use Rattle.std.proofs.Common.{reverse}
 use Rattle.std.proofs.lemmas.List.{reverse-append}
 use Rattle.i2c_base.specs.declared.entry.Entry.TheVariants as entry
@@ -25,7 +25,7 @@ use Rattle.bus_laws.proofs.past.Marks.{mark-there}
 use Rattle.bus_laws.proofs.past.Next.{call-reaches, control-switches}
 use Rattle.bus_laws.proofs.past.StandsStep.{at_other}
 use Rattle.core_laws.specs.Spots.{PortTold}
-use Rattle.core_laws.proofs.Steps.{spot-told, set_here, own-ahead, spots-kept}
+use Rattle.core_laws.proofs.Steps.{spot-told, set_here, own-ahead, spots-kept, locks-settled, ports-settled}
 use Rattle.bus_message.specs.Sends.{IsChipAddress, HasSent}
 use Rattle.core_laws.proofs.MessageTold.{call-hears, control-hears, call-message, control-message, last-is}
 
@@ -113,6 +113,29 @@ module _ (b : BoardView) (tree : IsTree b) (plain : IsPlainBoard b) (lines : Lin
     rest-is : (out : ActOutcome) (w : WalkTree) → w ≡ rest_of (seen (slots_of (seen_of v)) x.tree) out
         → rest_of (current b asks n c) out ≡ w
     rest-is out w is = ap (λ (t : WalkTree). rest_of t out) current-is ∙ sym is
+
+    -- what all are told after an entry of its own, by what the journal tells then
+    told-on : (e : Entry) → caller_of e ≡ x.number → IsStepwise b callers asks (e ∷ past) → (m : Now) → step b asks n e ≡ m
+        → ((l : LockId) → n.holder l ≡ m.holder l) → (spot : Spot) → SpotTold b asks m spot → (words : SeenView)
+        → length words.marks ≡ buses b → TellsMarks m.slot words.marks → TellsKept b m.slot words.kept
+        → (later : Option ℕ) → m.due ≡ later → (sockets2 : List RootPort)
+        → ((k : ℕ) (y : RootPort) → slice_get sockets2 k ≡ Some y → PortTold (step b asks n e) y)
+        → IsTold b callers asks (e ∷ past) (set spots place spot) (turned_to v words) sockets2 later
+    told-on e own_e steps m is holders spot spot_is words all marked kept later due_is sockets2 ports =
+        record {
+          stepwise = steps;
+          rests = ap (λ (k : Now). k.due) is ∙ due_is;
+          spots_told = spots-kept b callers asks n e spots numbered told.spots_told place x spot here own_e
+              (subst (λ (k : Now). SpotTold b asks k spot) (sym is) spot_is);
+          locks_told = record {
+            roots = told.locks_told.roots;
+            muxes = told.locks_told.muxes;
+            holder = λ l there. told.locks_told.holder l there ∙ holders l ∙ sym (ap (λ (k : Now). k.holder l) is);
+            mark = marks-told (e ∷ past) steps words.marks all (subst (λ (k : Now). TellsMarks k.slot words.marks) (sym is) marked);
+            kept = subst (λ (k : Now). TellsKept b k.slot words.kept) (sym is) kept;
+          };
+          ports_told = ports;
+        }
 
     -- A MESSAGE of a job was sent on the root of a socket
     module _ (none : due ≡ None) (once : AreRooted sockets) (at : ℕ) (old new : RootPort) (port_here : slice_get sockets at ≡ Some old)
@@ -300,26 +323,13 @@ module _ (b : BoardView) (tree : IsTree b) (plain : IsPlainBoard b) (lines : Lin
         pub told-said : (later : Option ℕ) → due_at c (first_act w) ≡ later
             → IsTold b callers asks (said ∷ past) (set spots place spot_behind) (turned_to v words) (set sockets at new) later
         told-said later due_is =
-            record {
-              stepwise = steps;
-              rests = ap (λ (k : Now). k.due) step_is ∙ ap (λ (y : WalkTree). due_at c (first_act y)) walk_here ∙ due_is;
-              spots_told = spots-kept b callers asks n said spots numbered told.spots_told place x spot_behind here refl
-                  (subst (λ (k : Now). SpotTold b asks k spot_behind) (sym step_is) spot_told);
-              locks_told = record {
-                roots = told.locks_told.roots;
-                muxes = told.locks_told.muxes;
-                holder = λ l there. told.locks_told.holder l there ∙ sym (ap (λ (k : Now). k.holder l) step_is);
-                mark = marks-told (said ∷ past) steps words.marks all
-                    (subst (λ (k : Now). TellsMarks k.slot words.marks) (sym step_is) marked_later);
-                kept = subst (λ (k : Now). TellsKept b k.slot words.kept) (sym step_is) kept_later;
-              };
-              ports_told = sockets-said n (step b asks n said) sockets once told.ports_told at old new port_here has.root talked.now
-                  talked.calls
-                  (ap (λ (k : Now). k.worlds) step_is ∙ ap (λ (k : ℕ). changed_at n.worlds k talked.now) (sym rooted))
-                  (ap (λ (k : Now). k.calls) step_is ∙ ap (λ (k : ℕ). changed_at n.calls k (talked.calls ++ n.calls k)) (sym rooted))
-                  (has.said.now ∙ ap (λ (k : TalkTold World). k.now) talk_is)
-                  (has.said.log ∙ ap (λ (k : TalkTold World). old.log ++ reverse k.calls) talk_is);
-            }
+            told-on said refl steps behind step_is (λ l. refl) spot_behind spot_told words all marked_later kept_later later
+            (ap (λ (y : WalkTree). due_at c (first_act y)) walk_here ∙ due_is) (set sockets at new)
+            (sockets-said n (step b asks n said) sockets once told.ports_told at old new port_here has.root talked.now talked.calls
+            (ap (λ (k : Now). k.worlds) step_is ∙ ap (λ (k : ℕ). changed_at n.worlds k talked.now) (sym rooted))
+            (ap (λ (k : Now). k.calls) step_is ∙ ap (λ (k : ℕ). changed_at n.calls k (talked.calls ++ n.calls k)) (sym rooted))
+            (has.said.now ∙ ap (λ (k : TalkTold World). k.now) talk_is)
+            (has.said.log ∙ ap (λ (k : TalkTold World). old.log ++ reverse k.calls) talk_is))
 
         -- nothing is decided by it
         pub told-message : NoSettle w → IsTold b callers asks (said ∷ past) (set spots place spot_behind) (turned_to v words)
@@ -393,28 +403,14 @@ module _ (b : BoardView) (tree : IsTree b) (plain : IsPlainBoard b) (lines : Lin
         told-shifted later due_is =
             let w_is : after old.world (line_call job failed) ≡ after (n.worlds line_r) (line_call job failed) =
             ap (λ (y : World). after y (line_call job failed)) ((told.ports_told at old port_here).world ∙ ap n.worlds rooted) in
-            record {
-              stepwise = line_steps;
-              rests = ap (λ (k : Now). k.due) line_step_is ∙ ap (λ (y : WalkTree). due_at c (first_act y)) line_walk ∙ due_is;
-              spots_told = spots-kept b callers asks n shifted spots numbered told.spots_told place x spot_shifted here refl
-                  (subst (λ (k : Now). SpotTold b asks k spot_shifted) (sym line_step_is) line_spot);
-              locks_told = record {
-                roots = told.locks_told.roots;
-                muxes = told.locks_told.muxes;
-                holder = λ l there. told.locks_told.holder l there ∙ sym (ap (λ (k : Now). k.holder l) line_step_is);
-                mark = marks-told (shifted ∷ past) line_steps words.marks all
-                    (subst (λ (k : Now). TellsMarks k.slot words.marks) (sym line_step_is) line_marked);
-                kept = subst (λ (k : Now). TellsKept b k.slot words.kept) (sym line_step_is) line_kept;
-              };
-              ports_told = sockets-said n (step b asks n shifted) sockets once told.ports_told at old new port_here same_root
-                  (after (n.worlds line_r) (line_call job failed)) (line_call job failed ∷ [])
-                  (ap (λ (k : Now). k.worlds) line_step_is
-                  ∙ ap (λ (k : ℕ). changed_at n.worlds k (after (n.worlds line_r) (line_call job failed))) (sym rooted))
-                  (ap (λ (k : Now). k.calls) line_step_is
-                  ∙ ap (λ (k : ℕ). changed_at n.calls k (line_call job failed ∷ n.calls k)) (sym rooted))
-                  (world_now ∙ w_is)
-                  log_now;
-            }
+            told-on shifted refl line_steps line_behind line_step_is (λ l. refl) spot_shifted line_spot words all line_marked line_kept
+            later (ap (λ (y : WalkTree). due_at c (first_act y)) line_walk ∙ due_is) (set sockets at new)
+            (sockets-said n (step b asks n shifted) sockets once told.ports_told at old new port_here same_root
+            (after (n.worlds line_r) (line_call job failed)) (line_call job failed ∷ [])
+            (ap (λ (k : Now). k.worlds) line_step_is
+            ∙ ap (λ (k : ℕ). changed_at n.worlds k (after (n.worlds line_r) (line_call job failed))) (sym rooted))
+            (ap (λ (k : Now). k.calls) line_step_is
+            ∙ ap (λ (k : ℕ). changed_at n.calls k (line_call job failed ∷ n.calls k)) (sym rooted)) (world_now ∙ w_is) log_now)
 
         pub told-line : NoSettle w → IsTold b callers asks (shifted ∷ past) (set spots place spot_shifted) (turned_to v words)
             (set sockets at new) None
@@ -461,12 +457,6 @@ module _ (b : BoardView) (tree : IsTree b) (plain : IsPlainBoard b) (lines : Lin
                   got_is = at_same n.got c [];
                   cut_is = at_same n.cut c (cut_told settled);
                 });
-            locks_told = record {
-              roots = told.locks_told.roots;
-              muxes = told.locks_told.muxes;
-              holder = told.locks_told.holder;
-              mark = told.locks_told.mark;
-              kept = told.locks_told.kept;
-            };
-            ports_told = λ k y is_at. record { world = (told.ports_told k y is_at).world; log = (told.ports_told k y is_at).log };
+            locks_told = locks-settled b asks n v c reply x.cut told.locks_told;
+            ports_told = λ k y is_at. ports-settled b asks n c reply x.cut y (told.ports_told k y is_at);
           }

@@ -13,7 +13,8 @@ use Rattle.i2c_base.specs.declared.reply.Cut.TheVariants as cut_at
 use Rattle.bus_spec.specs.Stepwise.{May}
 use Rattle.bus_laws.proofs.past.Ready.{takes-below}
 use Rattle.bus_laws.proofs.past.Others.{others-stay}
-use Rattle.core_laws.specs.Spots.{LocksTold}
+use Rattle.i2c_base.specs.declared.reply.Cut.{Cut}
+use Rattle.core_laws.specs.Spots.{LocksTold, PortTold}
 
 pub set_here : {X : Type 0} (xs : List X) (i : ℕ) (x y : X) → slice_get (set xs i x) i ≡ Some y → x ≡ y
 set_here [] i x y h = absurd (let f : None ≡ Some y = h in cc)
@@ -80,6 +81,16 @@ locks-set b n m v told (lock.Mux p) is who holders slots =
       mark = λ q. ap (λ (f : Slots). mark_in (f q).slot) slots ∙ told.mark q;
       kept = λ m. ap (λ (f : Slots). (f (home_of_mux b m)).kept m) slots ∙ told.kept m;
     }
+
+-- a settle leaves the locks and the ports as they were
+pub locks-settled : (b : BoardView) (asks : Asks) (n : Now) (v : LocksView) (c : ℕ) (r : Reply) (cut : Cut) → LocksTold b n v
+    → LocksTold b (step b asks n (entry.Settle c r cut)) v
+locks-settled b asks n v c r cut told =
+    record { roots = told.roots; muxes = told.muxes; holder = told.holder; mark = told.mark; kept = told.kept }
+
+pub ports-settled : (b : BoardView) (asks : Asks) (n : Now) (c : ℕ) (r : Reply) (cut : Cut) (y : RootPort) → PortTold n y
+    → PortTold (step b asks n (entry.Settle c r cut)) y
+ports-settled b asks n c r cut y told = record { world = told.world; log = told.log }
 
 -- the caller at a place, and what the journal tells of it
 pub record SpotHere (b : BoardView) (asks : Asks) (callers : ℕ) (x : Spot) : Type 0 where
@@ -235,12 +246,6 @@ module _ (b : BoardView) (tree : IsTree b) (plain : IsPlainBoard b) (lines : Lin
                 got_is = at_same n.got c [];
                 cut_is = at_same n.cut c (cut_told e);
               });
-          locks_told = record {
-            roots = told.locks_told.roots;
-            muxes = told.locks_told.muxes;
-            holder = told.locks_told.holder;
-            mark = told.locks_told.mark;
-            kept = told.locks_told.kept;
-          };
-          ports_told = λ k y at. record { world = (told.ports_told k y at).world; log = (told.ports_told k y at).log };
+          locks_told = locks-settled b asks n v c r x.cut told.locks_told;
+          ports_told = λ k y at. ports-settled b asks n c r x.cut y (told.ports_told k y at);
         }

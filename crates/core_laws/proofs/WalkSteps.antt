@@ -54,29 +54,27 @@ module _ (b : BoardView) (t : TransferView) (v : Slots) (w : WalkTree) (settled 
         | inr f ↦ f
       ]
 
+  left-passed : (act : Act) → first_act (seen v w) ≡ Some act
+      → ((bus : ℕ) (ms : List MessageView) (left : ℕ) → act ≡ Send (Call bus ms) left → ⊥)
+      → NoSettle (rest_of (seen v w) Passed) × Settles settled (rest_of (seen v w) Passed)
+      → (FirstCalls w → FirstCalls (rest_of (seen v w) Passed)) → IsLeft b t settled sent (rest_of (seen v w) Passed)
+  left-passed act first other settles firsts = record {
+    calls = calls-next b t v w is.calls act first Passed;
+    settles = settles.1;
+    jobs = jobs-next (IsJobOf b t) v w is.jobs act first Passed;
+    quiet = settles.0;
+    counts = λ e. (let f = first_still act first other (is.counts e) in inr (firsts f.0, f.1));
+  }
+
   pub left-taken : (l : LockId) → first_act (seen v w) ≡ Some (Take l) → IsLeft b t settled sent (rest_of (seen v w) Passed)
   left-taken l first =
-      let settles = settles-taken settled v w is.settles l first in
-      record {
-        calls = calls-next b t v w is.calls (Take l) first Passed;
-        settles = settles.1;
-        jobs = jobs-next (IsJobOf b t) v w is.jobs (Take l) first Passed;
-        quiet = settles.0;
-        counts = λ e. (let f = first_still (Take l) first (λ bus ms left x. let g : Take l ≡ Send (Call bus ms) left = x in cc)
-            (is.counts e) in inr (first-taken v w f.0 l first, f.1));
-      }
+      left-passed (Take l) first (λ bus ms left x. let g : Take l ≡ Send (Call bus ms) left = x in cc)
+      (settles-taken settled v w is.settles l first) (λ f. first-taken v w f l first)
 
   pub left-freed : (l : LockId) → first_act (seen v w) ≡ Some (Free l) → IsLeft b t settled sent (rest_of (seen v w) Passed)
   left-freed l first =
-      let settles = settles-freed settled v w is.settles l first in
-      record {
-        calls = calls-next b t v w is.calls (Free l) first Passed;
-        settles = settles.1;
-        jobs = jobs-next (IsJobOf b t) v w is.jobs (Free l) first Passed;
-        quiet = settles.0;
-        counts = λ e. (let f = first_still (Free l) first (λ bus ms left x. let g : Free l ≡ Send (Call bus ms) left = x in cc)
-            (is.counts e) in inr (first-freed v w f.0 l first, f.1));
-      }
+      left-passed (Free l) first (λ bus ms left x. let g : Free l ≡ Send (Call bus ms) left = x in cc)
+      (settles-freed settled v w is.settles l first) (λ f. first-freed v w f l first)
 
   -- a message of the caller's: which one it is
   pub call-is : (bus : ℕ) (ms : List MessageView) (left : ℕ) → first_act (seen v w) ≡ Some (Send (Call bus ms) left)
