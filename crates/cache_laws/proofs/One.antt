@@ -1,6 +1,6 @@
 -- One sensor that listens alone: the conversations of a driver with it, call by call. The cases are the places at which a call
 -- fails; after the first byte that is put nothing depends on the pointer that was there before.
-use Rattle.std.proofs.Common.{◌≡◌, ℕ, zero, suc, ◌+◌, Bool, true, false, cond, List, [], ◌∷◌, length, Option, eqb, ltb, refl}
+use Rattle.std.proofs.Common.{◌≡◌, ℕ, zero, suc, ◌+◌, Bool, true, false, cond, List, [], ◌∷◌, length, Option, eqb, ltb, refl, sym, ◌∙◌}
 use Rattle.i2c_base.specs.declared.event.Event.{Event}
 use Rattle.i2c_base.specs.declared.event.Event.TheVariants as event
 use Rattle.i2c_base.specs.declared.event.Answer.{Answer}
@@ -10,7 +10,8 @@ use Rattle.i2c_base.specs.declared.port.PortCall.TheVariants as call
 use Rattle.i2c_base.specs.declared.entry.End.{End}
 use Rattle.i2c_base.specs.declared.entry.End.TheVariants as end
 use Rattle.i2c_base.specs.Table.{byte_of}
-use Rattle.i2c_spec.specs.Targets.Lm75Device.{Lm75View, Idle, lm75_after, lm75_answer, with_high, with_low, byte_of_word}
+use Rattle.i2c_spec.specs.Targets.Lm75Device.{Lm75View, Idle, Data, lm75_after, lm75_answer, register_sends, with_high, with_low}
+use Rattle.i2c_spec.specs.Targets.Lm75Device.{byte_of_word}
 use Rattle.i2c_spec.specs.World.{is_ack}
 use Rattle.i2c_spec.specs.Messages.{MessageView}
 use Rattle.i2c_base.specs.declared.reply.Cut.TheVariants as cut_at
@@ -147,60 +148,50 @@ pick a0 a1 c0 c1 c2 c3 i n = cond (eqb i 0) (cond (eqb n 0) a0 a1) (cond (eqb n 
 abbrev read_by : (addr : ℕ) → SensorRegister → (a0 a1 c0 c1 c2 c3 : Bool) → One → AllTold One
 read_by addr r a0 a1 c0 c1 c2 c3 w = all_by (pick a0 a1 c0 c1 c2 c3) w (read_messages addr (number_of r)) 0 []
 
+-- a read that failed at its pointer
+unread : {x : Lm75View} {r : SensorRegister} {here there : AllTold One} (p q : ℕ) → is_good here.end ≡ false → here.bytes ≡ there.bytes
+    → here.end ≡ there.end → here.now.x ≡ record x { phase = Idle; pointer = p } → there.now.x ≡ record x { phase = Idle; pointer = q }
+    → HasRead x r here there
+unread p q bad bytes end left other =
+    record {
+      bytes = bytes;
+      end = end;
+      p = p;
+      q = q;
+      left = left;
+      other = other;
+      good = λ e. absurd (let f : false ≡ true = sym bad ∙ e in cc);
+    }
+
+-- behind the pointer both are one
+abbrev word_by : (addr : ℕ) → (c0 c1 c2 c3 : Bool) → One → AllTold One
+word_by addr c0 c1 c2 c3 w = all_by (pick false false c0 c1 c2 c3) w (word_message addr ∷ []) 1 []
+
+abbrev pointed : Lm75View → ℕ → One
+pointed x p = record { x = record x { phase = Data 0; pointer = p }; named = true; heard = true }
+
+word_facts : (x : Lm75View) (addr p : ℕ) (c0 c1 c2 c3 : Bool)
+    → ((word_by addr c0 c1 c2 c3 (pointed x p)).now.x ≡ record x { phase = Idle; pointer = p })
+    × (is_good (word_by addr c0 c1 c2 c3 (pointed x p)).end ≡ true → (word_by addr c0 c1 c2 c3 (pointed x p)).bytes
+    ≡ register_sends (record x { pointer = p }) 0 ∷ register_sends (record x { pointer = p }) 1 ∷ [])
+word_facts x addr p true c1 c2 c3 = (refl, λ e. absurd (let f : false ≡ true = e in cc))
+word_facts x addr p false true c2 c3 = (refl, λ e. absurd (let f : false ≡ true = e in cc))
+word_facts x addr p false false true c3 = (refl, λ e. absurd (let f : false ≡ true = e in cc))
+word_facts x addr p false false false true = (refl, λ e. absurd (let f : false ≡ true = e in cc))
+word_facts x addr p false false false false = (refl, λ e. refl)
+
+same_read : {x : Lm75View} {r : SensorRegister} {told : AllTold One} (p : ℕ)
+    → (told.now.x ≡ record x { phase = Idle; pointer = p }) × (is_good told.end ≡ true → told.bytes ≡ bytes_of (word_of x r))
+    → HasRead x r told told
+same_read p w = record { bytes = refl; end = refl; p = p; q = p; left = w.0; other = w.0; good = w.1 }
+
 read_facts : (x : Lm75View) (addr q : ℕ) (r : SensorRegister) (a0 a1 c0 c1 c2 c3 : Bool)
     → HasRead x r (read_by addr r a0 a1 c0 c1 c2 c3 (rested x)) (read_by addr r a0 a1 c0 c1 c2 c3 (rested_at x q))
-read_facts x addr q r true a1 c0 c1 c2 c3 =
-    record {
-      bytes = refl;
-      end = refl;
-      p = x.pointer;
-      q = q;
-      left = refl;
-      other = refl;
-      good =
-          λ e. absurd (let f : false ≡ true = e in cc);
-    }
-read_facts x addr q r false true c0 c1 c2 c3 =
-    record {
-      bytes = refl;
-      end = refl;
-      p = x.pointer;
-      q = q;
-      left = refl;
-      other = refl;
-      good =
-          λ e. absurd (let f : false ≡ true = e in cc);
-    }
-read_facts x addr q Temperature false false true c1 c2 c3 =
-    record { bytes = refl; end = refl; p = 0; q = 0; left = refl; other = refl; good = λ e. absurd (let f : false ≡ true = e in cc) }
-read_facts x addr q Temperature false false false true c2 c3 =
-    record { bytes = refl; end = refl; p = 0; q = 0; left = refl; other = refl; good = λ e. absurd (let f : false ≡ true = e in cc) }
-read_facts x addr q Temperature false false false false true c3 =
-    record { bytes = refl; end = refl; p = 0; q = 0; left = refl; other = refl; good = λ e. absurd (let f : false ≡ true = e in cc) }
-read_facts x addr q Temperature false false false false false true =
-    record { bytes = refl; end = refl; p = 0; q = 0; left = refl; other = refl; good = λ e. absurd (let f : false ≡ true = e in cc) }
-read_facts x addr q Temperature false false false false false false =
-    record { bytes = refl; end = refl; p = 0; q = 0; left = refl; other = refl; good = λ e. refl }
-read_facts x addr q Hysteresis false false true c1 c2 c3 =
-    record { bytes = refl; end = refl; p = 2; q = 2; left = refl; other = refl; good = λ e. absurd (let f : false ≡ true = e in cc) }
-read_facts x addr q Hysteresis false false false true c2 c3 =
-    record { bytes = refl; end = refl; p = 2; q = 2; left = refl; other = refl; good = λ e. absurd (let f : false ≡ true = e in cc) }
-read_facts x addr q Hysteresis false false false false true c3 =
-    record { bytes = refl; end = refl; p = 2; q = 2; left = refl; other = refl; good = λ e. absurd (let f : false ≡ true = e in cc) }
-read_facts x addr q Hysteresis false false false false false true =
-    record { bytes = refl; end = refl; p = 2; q = 2; left = refl; other = refl; good = λ e. absurd (let f : false ≡ true = e in cc) }
-read_facts x addr q Hysteresis false false false false false false =
-    record { bytes = refl; end = refl; p = 2; q = 2; left = refl; other = refl; good = λ e. refl }
-read_facts x addr q Limit false false true c1 c2 c3 =
-    record { bytes = refl; end = refl; p = 3; q = 3; left = refl; other = refl; good = λ e. absurd (let f : false ≡ true = e in cc) }
-read_facts x addr q Limit false false false true c2 c3 =
-    record { bytes = refl; end = refl; p = 3; q = 3; left = refl; other = refl; good = λ e. absurd (let f : false ≡ true = e in cc) }
-read_facts x addr q Limit false false false false true c3 =
-    record { bytes = refl; end = refl; p = 3; q = 3; left = refl; other = refl; good = λ e. absurd (let f : false ≡ true = e in cc) }
-read_facts x addr q Limit false false false false false true =
-    record { bytes = refl; end = refl; p = 3; q = 3; left = refl; other = refl; good = λ e. absurd (let f : false ≡ true = e in cc) }
-read_facts x addr q Limit false false false false false false =
-    record { bytes = refl; end = refl; p = 3; q = 3; left = refl; other = refl; good = λ e. refl }
+read_facts x addr q r true a1 c0 c1 c2 c3 = unread x.pointer q refl refl refl refl refl
+read_facts x addr q r false true c0 c1 c2 c3 = unread x.pointer q refl refl refl refl refl
+read_facts x addr q Temperature false false c0 c1 c2 c3 = same_read 0 (word_facts x addr 0 c0 c1 c2 c3)
+read_facts x addr q Hysteresis false false c0 c1 c2 c3 = same_read 2 (word_facts x addr 2 c0 c1 c2 c3)
+read_facts x addr q Limit false false c0 c1 c2 c3 = same_read 3 (word_facts x addr 3 c0 c1 c2 c3)
 
 -- wherever it is cut off
 pub read-facts : (x : Lm75View) (addr q limit : ℕ) (r : SensorRegister) (cuts : ℕ → Option ℕ)
@@ -223,153 +214,43 @@ pick_one c0 c1 c2 c3 c4 i n = cond (eqb n 0) c0 (cond (eqb n 1) c1 (cond (eqb n 
 abbrev write_by : (addr : ℕ) → SensorRegister → (high low : ℕ) → (c0 c1 c2 c3 c4 : Bool) → One → AllTold One
 write_by addr r high low c0 c1 c2 c3 c4 w = all_by (pick_one c0 c1 c2 c3 c4) w (write_messages addr (number_of r) high low) 0 []
 
-write_facts : (x : Lm75View) (addr q high low : ℕ) (r : SensorRegister) → is_kept (number_of r) ≡ true → (c0 c1 c2 c3 c4 : Bool)
-    → HasWritten x r high low (write_by addr r high low c0 c1 c2 c3 c4 (rested x)) (write_by addr r high low c0 c1 c2 c3 c4 (rested_at x q))
-write_facts x addr q high low Temperature kept c0 c1 c2 c3 c4 = absurd (let f : false ≡ true = kept in cc)
-write_facts x addr q high low Hysteresis kept true c1 c2 c3 c4 =
+-- a write that was cut off
+unwritten : {x : Lm75View} {r : SensorRegister} {high low : ℕ} {here there : AllTold One} (p q word : ℕ) → is_good here.end ≡ false
+    → here.bytes ≡ there.bytes → here.end ≡ there.end → here.now.x ≡ with_word (record x { phase = Idle; pointer = p }) r word
+    → there.now.x ≡ with_word (record x { phase = Idle; pointer = q }) r word → HasWritten x r high low here there
+unwritten p q word bad bytes end left other =
     record {
-      bytes = refl;
-      end = refl;
-      p = x.pointer;
+      bytes = bytes;
+      end = end;
+      p = p;
       q = q;
-      word = x.hysteresis;
-      left = refl;
-      other = refl;
-      good =
-          λ e. absurd (let f : false ≡ true = e in cc);
+      word = word;
+      left = left;
+      other = other;
+      good = λ e. absurd (let f : false ≡ true = sym bad ∙ e in cc);
     }
-write_facts x addr q high low Hysteresis kept false true c2 c3 c4 =
-    record {
-      bytes = refl;
-      end = refl;
-      p = x.pointer;
-      q = q;
-      word = x.hysteresis;
-      left = refl;
-      other = refl;
-      good =
-          λ e. absurd (let f : false ≡ true = e in cc);
-    }
-write_facts x addr q high low Hysteresis kept false false true c3 c4 =
-    record {
-      bytes = refl;
-      end = refl;
-      p = 2;
-      q = 2;
-      word = x.hysteresis;
-      left = refl;
-      other = refl;
-      good =
-          λ e. absurd (let f : false ≡ true = e in cc);
-    }
-write_facts x addr q high low Hysteresis kept false false false true c4 =
-    record {
-      bytes = refl;
-      end = refl;
-      p = 2;
-      q = 2;
-      word = with_high x.hysteresis high;
-      left = refl;
-      other = refl;
-      good =
-          λ e. absurd (let f : false ≡ true = e in cc);
-    }
-write_facts x addr q high low Hysteresis kept false false false false true =
-    record {
-      bytes = refl;
-      end = refl;
-      p = 2;
-      q = 2;
-      word = with_low (with_high x.hysteresis high) low;
-      left = refl;
-      other = refl;
-      good =
-          λ e. absurd (let f : false ≡ true = e in cc);
-    }
-write_facts x addr q high low Hysteresis kept false false false false false =
-    record {
-      bytes = refl;
-      end = refl;
-      p = 2;
-      q = 2;
-      word = with_low (with_high x.hysteresis high) low;
-      left = refl;
-      other = refl;
-      good =
-          λ e. refl;
-    }
-write_facts x addr q high low Limit kept true c1 c2 c3 c4 =
-    record {
-      bytes = refl;
-      end = refl;
-      p = x.pointer;
-      q = q;
-      word = x.limit;
-      left = refl;
-      other = refl;
-      good =
-          λ e. absurd (let f : false ≡ true = e in cc);
-    }
-write_facts x addr q high low Limit kept false true c2 c3 c4 =
-    record {
-      bytes = refl;
-      end = refl;
-      p = x.pointer;
-      q = q;
-      word = x.limit;
-      left = refl;
-      other = refl;
-      good =
-          λ e. absurd (let f : false ≡ true = e in cc);
-    }
-write_facts x addr q high low Limit kept false false true c3 c4 =
-    record {
-      bytes = refl;
-      end = refl;
-      p = 3;
-      q = 3;
-      word = x.limit;
-      left = refl;
-      other = refl;
-      good =
-          λ e. absurd (let f : false ≡ true = e in cc);
-    }
-write_facts x addr q high low Limit kept false false false true c4 =
-    record {
-      bytes = refl;
-      end = refl;
-      p = 3;
-      q = 3;
-      word = with_high x.limit high;
-      left = refl;
-      other = refl;
-      good =
-          λ e. absurd (let f : false ≡ true = e in cc);
-    }
-write_facts x addr q high low Limit kept false false false false true =
-    record {
-      bytes = refl;
-      end = refl;
-      p = 3;
-      q = 3;
-      word = with_low (with_high x.limit high) low;
-      left = refl;
-      other = refl;
-      good =
-          λ e. absurd (let f : false ≡ true = e in cc);
-    }
-write_facts x addr q high low Limit kept false false false false false =
-    record {
-      bytes = refl;
-      end = refl;
-      p = 3;
-      q = 3;
-      word = with_low (with_high x.limit high) low;
-      left = refl;
-      other = refl;
-      good =
-          λ e. refl;
-    }
+
+abbrev with_both : ℕ → ℕ → ℕ → ℕ
+with_both word high low = with_low (with_high word high) low
+
+module _ (x : Lm75View) (addr q high low : ℕ) where
+  write_facts : (r : SensorRegister) → is_kept (number_of r) ≡ true → (c0 c1 c2 c3 c4 : Bool) → HasWritten x r high low
+      (write_by addr r high low c0 c1 c2 c3 c4 (rested x)) (write_by addr r high low c0 c1 c2 c3 c4 (rested_at x q))
+  write_facts Temperature kept c0 c1 c2 c3 c4 = absurd (let f : false ≡ true = kept in cc)
+  write_facts Hysteresis kept true c1 c2 c3 c4 = unwritten x.pointer q x.hysteresis refl refl refl refl refl
+  write_facts Hysteresis kept false true c2 c3 c4 = unwritten x.pointer q x.hysteresis refl refl refl refl refl
+  write_facts Hysteresis kept false false true c3 c4 = unwritten 2 2 x.hysteresis refl refl refl refl refl
+  write_facts Hysteresis kept false false false true c4 = unwritten 2 2 (with_high x.hysteresis high) refl refl refl refl refl
+  write_facts Hysteresis kept false false false false true = unwritten 2 2 (with_both x.hysteresis high low) refl refl refl refl refl
+  write_facts Hysteresis kept false false false false false =
+      record { bytes = refl; end = refl; p = 2; q = 2; word = with_both x.hysteresis high low; left = refl; other = refl; good = λ e. refl }
+  write_facts Limit kept true c1 c2 c3 c4 = unwritten x.pointer q x.limit refl refl refl refl refl
+  write_facts Limit kept false true c2 c3 c4 = unwritten x.pointer q x.limit refl refl refl refl refl
+  write_facts Limit kept false false true c3 c4 = unwritten 3 3 x.limit refl refl refl refl refl
+  write_facts Limit kept false false false true c4 = unwritten 3 3 (with_high x.limit high) refl refl refl refl refl
+  write_facts Limit kept false false false false true = unwritten 3 3 (with_both x.limit high low) refl refl refl refl refl
+  write_facts Limit kept false false false false false =
+      record { bytes = refl; end = refl; p = 3; q = 3; word = with_both x.limit high low; left = refl; other = refl; good = λ e. refl }
 
 pub write-facts : (x : Lm75View) (addr q high low limit : ℕ) (r : SensorRegister) → is_kept (number_of r) ≡ true → (cuts : ℕ → Option ℕ)
     → HasWritten x r high low (talk_all one_listener limit (rested x) (write_messages addr (number_of r) high low) 0 cuts [])

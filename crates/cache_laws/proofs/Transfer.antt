@@ -204,6 +204,40 @@ module _ (b : BoardView) (tree : IsTree b) (cached : ℕ → Bool) (d : ℕ) (v 
       by true e = absurd (ne (sym (eqb-true d k e)))
       by false e = refl
 
+  -- what both come to where it isn't barred: nothing but the sensor is granted, and its conversations are alike
+  module _ (t : TransferView) (cut : Cut) (other : barred b t cut ≡ None → (k : ℕ) → (k ≡ d → ⊥) → is_granted b t k ≡ false) where
+    told_is : barred b t cut ≡ None → (zs : List TargetState) → flat b zs t cut ≡ flat_told t (flat_messages b zs t cut)
+    told_is none zs = ap (λ (o : Option Errno). flat_by b zs t cut o) none
+
+    granted_steps : (barred b t cut ≡ None → ((flat_messages b xs t cut).end ≡ (flat_messages b ys t cut).end)
+        × ((flat_messages b xs t cut).bytes ≡ (flat_messages b ys t cut).bytes)
+        × SameSensor (slice_get (flat_told t (flat_messages b xs t cut)).states d)
+        (slice_get (flat_told t (flat_messages b ys t cut)).states d))
+        → StepsAlike cached (flat b xs t cut) (flat b ys t cut)
+    granted_steps alike = by (barred b t cut) refl
+      where
+        by : (o : Option Errno) → barred b t cut ≡ o → StepsAlike cached (flat b xs t cut) (flat b ys t cut)
+        by (Some e) is = barred_steps b cached t cut e is xs ys same
+        by None is =
+            record {
+              reply_is = ap (λ (z : FlatTold). z.reply) (told_is is xs)
+                  ∙ ap (λ z. or_done (errno_of z) t (flat_messages b xs t cut).bytes) (alike is).0
+                  ∙ ap (λ (bytes : List ℕ). or_done (errno_of (flat_messages b ys t cut).end) t bytes) (alike is).1
+                  ∙ sym (ap (λ (z : FlatTold). z.reply) (told_is is ys));
+              states = all_same t cut (other is)
+                  (subst (λ (z : FlatTold). SameSensor (slice_get z.states d) (slice_get (flat b ys t cut).states d)) (sym (told_is is xs))
+                  (subst (λ (z : FlatTold). SameSensor (slice_get (flat_told t (flat_messages b xs t cut)).states d) (slice_get z.states d))
+                  (sym (told_is is ys)) (alike is).2));
+            }
+
+    -- another device is as it was
+    granted_others : (k : ℕ) → (k ≡ d → ⊥) → slice_get (flat b xs t cut).states k ≡ slice_get xs k
+    granted_others k ne = by (barred b t cut) refl
+      where
+        by : (o : Option Errno) → barred b t cut ≡ o → slice_get (flat b xs t cut).states k ≡ slice_get xs k
+        by (Some e) is = ap (λ (z : FlatTold). slice_get z.states k) (barred_is b t cut e is xs)
+        by None is = leaves-left b t cut k (other is k ne) xs
+
   module _ (r : SensorRegister) (cut : Cut) where
     abbrev t : TransferView
     t = register_read v r
@@ -249,20 +283,11 @@ module _ (b : BoardView) (tree : IsTree b) (cached : ℕ → Bool) (d : ℕ) (v 
       here_is : flat b xs t cut ≡ here_told
       here_is = ap (λ (o : Option Errno). flat_by b xs t cut o) none
 
-      there_is : flat b ys t cut ≡ there_told
-      there_is = ap (λ (o : Option Errno). flat_by b ys t cut o) none
-
       state_here : slice_get here_told.states d ≡ Some (Lm75 (record (s.view) { phase = Idle; pointer = facts.p }))
       state_here = beside_here.now.state ∙ ap (λ (x : Lm75View). Some (Lm75 x)) facts.left
 
       state_there : slice_get there_told.states d ≡ Some (Lm75 (record (s.view) { phase = Idle; pointer = facts.q }))
       state_there = beside_there.now.state ∙ ap (λ (x : Lm75View). Some (Lm75 x)) facts.other
-
-      replies_same : here_told.reply ≡ there_told.reply
-      replies_same =
-          ap (λ z. or_done (errno_of z) t (flat_messages b xs t cut).bytes) (beside_here.end ∙ facts.end ∙ sym beside_there.end)
-          ∙ ap (λ (bytes : List ℕ). or_done (errno_of (flat_messages b ys t cut).end) t bytes)
-          (beside_here.bytes ∙ facts.bytes ∙ sym beside_there.bytes)
 
       sensor_same : SameSensor (slice_get here_told.states d) (slice_get there_told.states d)
       sensor_same =
@@ -272,15 +297,6 @@ module _ (b : BoardView) (tree : IsTree b) (cached : ℕ → Bool) (d : ℕ) (v 
             here = state_here;
             pointer = facts.q;
             there = state_there;
-          }
-
-      through_steps : StepsAlike cached (flat b xs t cut) (flat b ys t cut)
-      through_steps =
-          record {
-            reply_is = ap (λ (z : FlatTold). z.reply) here_is ∙ replies_same ∙ sym (ap (λ (z : FlatTold). z.reply) there_is);
-            states = all_same t cut (read_other goes)
-                (subst (λ (z : FlatTold). SameSensor (slice_get z.states d) (slice_get (flat b ys t cut).states d)) (sym here_is)
-                (subst (λ (z : FlatTold). SameSensor (slice_get here_told.states d) (slice_get z.states d)) (sym there_is) sensor_same));
           }
 
       through_reads : Reading b v d s.view r (flat b xs t cut)
@@ -315,19 +331,14 @@ module _ (b : BoardView) (tree : IsTree b) (cached : ℕ → Bool) (d : ℕ) (v 
             ∙ read-whole s.view v.addr (block_limit b) r
 
     pub read_steps : StepsAlike cached (flat b xs t cut) (flat b ys t cut)
-    read_steps = by (barred b t cut) refl
-      where
-        by : (o : Option Errno) → barred b t cut ≡ o → StepsAlike cached (flat b xs t cut) (flat b ys t cut)
-        by (Some e) is = barred_steps b cached t cut e is xs ys same
-        by None is = through_steps is
+    read_steps = granted_steps t cut (λ none. read_other (goes none)) (λ none. (
+      (beside_here none).end ∙ (facts none).end ∙ sym (beside_there none).end,
+      (beside_here none).bytes ∙ (facts none).bytes ∙ sym (beside_there none).bytes,
+      sensor_same none,
+    ))
 
-    -- another device is as it was
     pub read_others : (k : ℕ) → (k ≡ d → ⊥) → slice_get (flat b xs t cut).states k ≡ slice_get xs k
-    read_others k ne = by (barred b t cut) refl
-      where
-        by : (o : Option Errno) → barred b t cut ≡ o → slice_get (flat b xs t cut).states k ≡ slice_get xs k
-        by (Some e) is = ap (λ (z : FlatTold). slice_get z.states k) (barred_is b t cut e is xs)
-        by None is = leaves-left b t cut k (read_other (goes is) k ne) xs
+    read_others = granted_others t cut (λ none. read_other (goes none))
 
     pub read_reads : Reading b v d s.view r (flat b xs t cut)
     read_reads = by (barred b t cut) refl
@@ -383,9 +394,6 @@ module _ (b : BoardView) (tree : IsTree b) (cached : ℕ → Bool) (d : ℕ) (v 
       here_is_written : flat b xs u cut ≡ here_told_written
       here_is_written = ap (λ (o : Option Errno). flat_by b xs u cut o) none
 
-      there_is_written : flat b ys u cut ≡ there_told_written
-      there_is_written = ap (λ (o : Option Errno). flat_by b ys u cut o) none
-
       state_here_written : slice_get here_told_written.states d ≡ Some
           (Lm75 (with_word (record (s.view) { phase = Idle; pointer = tells.p }) r tells.word))
       state_here_written = beside_here_written.now.state ∙ ap (λ (x : Lm75View). Some (Lm75 x)) tells.left
@@ -393,13 +401,6 @@ module _ (b : BoardView) (tree : IsTree b) (cached : ℕ → Bool) (d : ℕ) (v 
       state_there_written : slice_get there_told_written.states d ≡ Some
           (Lm75 (with_word (record (s.view) { phase = Idle; pointer = tells.q }) r tells.word))
       state_there_written = beside_there_written.now.state ∙ ap (λ (x : Lm75View). Some (Lm75 x)) tells.other
-
-      replies_same_written : here_told_written.reply ≡ there_told_written.reply
-      replies_same_written =
-          ap (λ z. or_done (errno_of z) u (flat_messages b xs u cut).bytes) (beside_here_written.end ∙ tells.end
-          ∙ sym beside_there_written.end)
-          ∙ ap (λ (bytes : List ℕ). or_done (errno_of (flat_messages b ys u cut).end) u bytes)
-          (beside_here_written.bytes ∙ tells.bytes ∙ sym beside_there_written.bytes)
 
       sensor_same_written : SameSensor (slice_get here_told_written.states d) (slice_get there_told_written.states d)
       sensor_same_written =
@@ -410,17 +411,6 @@ module _ (b : BoardView) (tree : IsTree b) (cached : ℕ → Bool) (d : ℕ) (v 
             pointer = tells.q;
             there = state_there_written ∙ ap (λ (x : Lm75View). Some (Lm75 x)) (pointer_with
                 (record (s.view) { phase = Idle; pointer = tells.p }) r tells.word tells.q);
-          }
-
-      through_steps_written : StepsAlike cached (flat b xs u cut) (flat b ys u cut)
-      through_steps_written =
-          record {
-            reply_is = ap (λ (z : FlatTold). z.reply) here_is_written ∙ replies_same_written
-                ∙ sym (ap (λ (z : FlatTold). z.reply) there_is_written);
-            states = all_same u cut (write_other gets)
-                (subst (λ (z : FlatTold). SameSensor (slice_get z.states d) (slice_get (flat b ys u cut).states d)) (sym here_is_written)
-                (subst (λ (z : FlatTold). SameSensor (slice_get here_told_written.states d) (slice_get z.states d))
-                (sym there_is_written) sensor_same_written));
           }
 
       through_writes : Writing b v d s.view r high low (flat b xs u cut)
@@ -441,19 +431,14 @@ module _ (b : BoardView) (tree : IsTree b) (cached : ℕ → Bool) (d : ℕ) (v 
           })
 
     pub write_steps : StepsAlike cached (flat b xs u cut) (flat b ys u cut)
-    write_steps = by (barred b u cut) refl
-      where
-        by : (o : Option Errno) → barred b u cut ≡ o → StepsAlike cached (flat b xs u cut) (flat b ys u cut)
-        by (Some e) is = barred_steps b cached u cut e is xs ys same
-        by None is = through_steps_written is
+    write_steps = granted_steps u cut (λ none. write_other (gets none)) (λ none. (
+      (beside_here_written none).end ∙ (tells none).end ∙ sym (beside_there_written none).end,
+      (beside_here_written none).bytes ∙ (tells none).bytes ∙ sym (beside_there_written none).bytes,
+      sensor_same_written none,
+    ))
 
-    -- another device is as it was
     pub write_others : (k : ℕ) → (k ≡ d → ⊥) → slice_get (flat b xs u cut).states k ≡ slice_get xs k
-    write_others k ne = by (barred b u cut) refl
-      where
-        by : (o : Option Errno) → barred b u cut ≡ o → slice_get (flat b xs u cut).states k ≡ slice_get xs k
-        by (Some e) is = ap (λ (z : FlatTold). slice_get z.states k) (barred_is b u cut e is xs)
-        by None is = leaves-left b u cut k (write_other (gets is) k ne) xs
+    write_others = granted_others u cut (λ none. write_other (gets none))
 
     pub write_writes : Writing b v d s.view r high low (flat b xs u cut)
     write_writes = by (barred b u cut) refl
