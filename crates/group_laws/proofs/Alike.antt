@@ -22,7 +22,7 @@ use Rattle.bus_spec.specs.Slots.{Slots, answer_to}
 use Rattle.bus_spec.specs.Grammar.{seen, is_over, first_act, first_note, rest_of}
 use Rattle.bus_spec.specs.Readings.{MessageEntry, caller_of, cut_told, is_lock}
 use Rattle.bus_spec.specs.Past.{Now, begun, current, is_due, step, moved, taken, freed, without, settled_by, with_due, sent_by, lined_by}
-use Rattle.bus_spec.specs.Past.{talk_of, cut_of, got_after, inside_after, line_call}
+use Rattle.bus_spec.specs.Past.{talk_of, cut_of, got_after, inside_after, line_call, held_by}
 use Rattle.bus_spec.specs.Stepwise.{May, IsBelow, reply_by}
 use Rattle.bus_spec.specs.Tells.{TellsMessage, HearsIn}
 use Rattle.i2c_spec.specs.World.{after}
@@ -113,37 +113,29 @@ module _ (b : BoardView) (roots who : ℕ → Bool) where
             inside = al.inside;
           }
 
-      taken-alike : (l : LockId) → IsAlike b roots who (taken n c l) (taken m c l)
-      taken-alike l =
+      -- .. and so is a lock
+      lock-alike : (l : LockId) (who_has : Option ℕ) (held held2 : List LockId) → held ≡ held2
+          → IsAlike b roots who (record n { held = changed_at n.held c held; holder = held_by n.holder l who_has })
+          (record m { held = changed_at m.held c held2; holder = held_by m.holder l who_has })
+      lock-alike l who_has held held2 same =
           record {
             walk = al.walk;
-            held = λ d k. changed-alike n.held m.held c (l ∷ n.held c) (l ∷ m.held c) d (al.held d k)
-                (ap (λ (ls : List LockId). l ∷ ls) (al.held c own));
+            held = λ d k. changed-alike n.held m.held c held held2 d (al.held d k) same;
             settled = al.settled;
             got = al.got;
             cut = al.cut;
-            holder = λ k g. ap (λ (o : Option ℕ). cond (is_lock l k) (Some c) o) (al.holder k g);
+            holder = λ k g. ap (λ (o : Option ℕ). cond (is_lock l k) who_has o) (al.holder k g);
             slot = al.slot;
             worlds = al.worlds;
             calls = al.calls;
             inside = al.inside;
           }
 
+      taken-alike : (l : LockId) → IsAlike b roots who (taken n c l) (taken m c l)
+      taken-alike l = lock-alike l (Some c) (l ∷ n.held c) (l ∷ m.held c) (ap (λ (ls : List LockId). l ∷ ls) (al.held c own))
+
       freed-alike : (l : LockId) → IsAlike b roots who (freed n c l) (freed m c l)
-      freed-alike l =
-          record {
-            walk = al.walk;
-            held = λ d k. changed-alike n.held m.held c (without l (n.held c)) (without l (m.held c)) d (al.held d k)
-                (ap (without l) (al.held c own));
-            settled = al.settled;
-            got = al.got;
-            cut = al.cut;
-            holder = λ k g. ap (λ (o : Option ℕ). cond (is_lock l k) None o) (al.holder k g);
-            slot = al.slot;
-            worlds = al.worlds;
-            calls = al.calls;
-            inside = al.inside;
-          }
+      freed-alike l = lock-alike l None (without l (n.held c)) (without l (m.held c)) (ap (without l) (al.held c own))
 
       settled-alike : (r : Reply) → IsAlike b roots who (settled_by n c r) (settled_by m c r)
       settled-alike r =

@@ -6,15 +6,16 @@ use Rattle.i2c_base.specs.declared.entry.End.{End}
 use Rattle.i2c_base.specs.declared.entry.End.TheVariants as end
 use Rattle.i2c_base.specs.declared.entry.Entry.{Entry}
 use Rattle.i2c_base.specs.declared.entry.Entry.TheVariants as entry
+use Rattle.i2c_base.specs.declared.reply.Cut.{Cut}
 use Rattle.i2c_base.specs.Board.{BoardView}
 use Rattle.i2c_spec.specs.Tree.{Hop, root_of}
-use Rattle.i2c_spec.specs.History.{Asks}
+use Rattle.i2c_spec.specs.History.{Asks, changed_at}
 use Rattle.bus_spec.specs.Walk.{Mark, Job, Call, Select, SwitchOff, off_bus, off_mux, Act, Take, Free, Send, Shift, Settle, ActOutcome}
 use Rattle.bus_spec.specs.Walk.{Passed, Sent, Lined, Note, job_bus}
 use Rattle.bus_spec.specs.Slots.{Slots, MuxSlot, Clean, turned, set_marks, polled_slot, select_told, after_select, after_off, after_job}
-use Rattle.bus_spec.specs.Grammar.{first_act, first_note}
-use Rattle.bus_spec.specs.Readings.{caller_of, is_lock}
-use Rattle.bus_spec.specs.Past.{Now, current, step, sent_by, lined_by}
+use Rattle.bus_spec.specs.Grammar.{first_act, first_note, rest_of}
+use Rattle.bus_spec.specs.Readings.{caller_of, cut_told, is_lock}
+use Rattle.bus_spec.specs.Past.{Now, current, step, sent_by, lined_by, held_by, without}
 use Rattle.bus_laws.specs.Runs.{IsUnmarked}
 use Rattle.bus_laws.proofs.tree.Slots.{turned-other, set_marks-other}
 use Rattle.bus_laws.proofs.past.StandsStep.{at_other, lock_tells}
@@ -146,6 +147,29 @@ module _ (b : BoardView) (roots who others whose : ℕ → Bool) (apart : AreApa
         | inr not ↦ ap (λ (t : Bool). cond t who_has old) not.0
       ]
 
+  -- a lock on the group's roots that is taken or freed
+  lock_stays : (all : Asks) (n : Now) (c : ℕ) → who c ≡ true → (l : LockId) → roots (root_of_lock b l) ≡ true → (held : List LockId)
+      (who_has : Option ℕ) (cut : Cut)
+      → Stay n (record n {
+        walk = changed_at n.walk c (rest_of (current b all n c) Passed);
+        held = changed_at n.held c held;
+        holder = held_by n.holder l who_has;
+        cut = changed_at n.cut c cut;
+      })
+  lock_stays all n c own l mine held who_has cut al =
+      record {
+        walk = λ d k. at_other n.walk c _ d (other-number who whose strange c d own k) ∙ al.walk d k;
+        held = λ d k. at_other n.held c _ d (other-number who whose strange c d own k) ∙ al.held d k;
+        settled = al.settled;
+        got = al.got;
+        cut = λ d k. at_other n.cut c _ d (other-number who whose strange c d own k) ∙ al.cut d k;
+        holder = λ k g. other_lock l k who_has (n.holder k) mine g ∙ al.holder k g;
+        slot = al.slot;
+        worlds = al.worlds;
+        calls = al.calls;
+        inside = al.inside;
+      }
+
   -- A STEP of one of the group's callers, which acts on the group's roots
   pub step-stays : (all : Asks) (n : Now) (e : Entry) → who (caller_of e) ≡ true
       → ((act : Act) → first_act (current b all n (caller_of e)) ≡ Some act → ActIn b roots act
@@ -153,33 +177,9 @@ module _ (b : BoardView) (roots who others whose : ℕ → Bool) (apart : AreApa
       → ((l : LockId) (c : ℕ) → (e ≡ entry.Take c l) ⊎ (e ≡ entry.Free c l) → roots (root_of_lock b l) ≡ true)
       → Stay n (step b all n e)
   step-stays all n (entry.Take c l) own on lock al =
-      let mine = lock l c (inl refl) in
-      record {
-        walk = λ d k. at_other n.walk c _ d (other-number who whose strange c d own k) ∙ al.walk d k;
-        held = λ d k. at_other n.held c _ d (other-number who whose strange c d own k) ∙ al.held d k;
-        settled = al.settled;
-        got = al.got;
-        cut = λ d k. at_other n.cut c _ d (other-number who whose strange c d own k) ∙ al.cut d k;
-        holder = λ k g. other_lock l k (Some c) (n.holder k) mine g ∙ al.holder k g;
-        slot = al.slot;
-        worlds = al.worlds;
-        calls = al.calls;
-        inside = al.inside;
-      }
+      lock_stays all n c own l (lock l c (inl refl)) (l ∷ n.held c) (Some c) (cut_told (entry.Take c l)) al
   step-stays all n (entry.Free c l) own on lock al =
-      let mine = lock l c (inr refl) in
-      record {
-        walk = λ d k. at_other n.walk c _ d (other-number who whose strange c d own k) ∙ al.walk d k;
-        held = λ d k. at_other n.held c _ d (other-number who whose strange c d own k) ∙ al.held d k;
-        settled = al.settled;
-        got = al.got;
-        cut = λ d k. at_other n.cut c _ d (other-number who whose strange c d own k) ∙ al.cut d k;
-        holder = λ k g. other_lock l k None (n.holder k) mine g ∙ al.holder k g;
-        slot = al.slot;
-        worlds = al.worlds;
-        calls = al.calls;
-        inside = al.inside;
-      }
+      lock_stays all n c own l (lock l c (inr refl)) (without l (n.held c)) None (cut_told (entry.Free c l)) al
   step-stays all n (entry.Settle c r at) own on lock al =
       record {
         walk = λ d k. at_other n.walk c _ d (other-number who whose strange c d own k) ∙ al.walk d k;
