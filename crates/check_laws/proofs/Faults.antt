@@ -175,6 +175,32 @@ module _ (b : BoardView) (tree : IsTree b) (plain : IsPlainBoard b) (lines : Lin
     calls : (now b asks (e ∷ past)).calls r ≡ new ++ (now b asks past).calls r
     by : IsBy new (gaps_from b r 0 (e ∷ later)) (gaps_from b r 0 later)
 
+  -- the calls of an entry at one root
+  adds-at : (past : List Entry) (e : Entry) (later : List Entry) (r root at : ℕ) (made : List PortCall) → is_on_root b r e ≡ (root == r)
+      → at ≡ root → (now b asks (e ∷ past)).calls r ≡ changed_at (now b asks past).calls at (made ++ (now b asks past).calls at) r
+      → (is_on_root b r e ≡ true → IsBy made (gaps_from b r 0 (e ∷ later)) (gaps_from b r 0 later)) → Adds past e later r
+  adds-at past e later r root at made on_root root_is called own =
+      elim (eqb_tells root r) [
+        | inl h ↦ record {
+          new = made;
+          calls = called ∙ subst (λ (k : ℕ). changed_at n.calls at (made ++ n.calls at) k ≡ made ++ n.calls k) (root_is ∙ h.1)
+              (at_same n.calls at (made ++ n.calls at));
+          by = own (on_root ∙ h.0);
+        }
+        | inr h ↦ record {
+          new = [];
+          calls = called ∙ at_other n.calls at (made ++ n.calls at) r (λ same. h.1 (sym root_is ∙ sym same));
+          by = subst (λ (gs : List ℕ). IsBy [] gs (gaps_from b r 0 later))
+              (sym (ap (λ (t : Bool). cond t (gap_told 0 (call_failed e) ++ gaps_from b r (since_told 0 (calls_made e)
+              (call_failed e)) later)
+              (gaps_from b r 0 later)) (on_root ∙ h.0)))
+              (none-by (gaps_from b r 0 later));
+        }
+      ]
+    where
+      n : Now
+      n = now b asks past
+
   adds : (past : List Entry) → IsStepwise b callers asks past → (e : Entry) → May b callers asks (now b asks past) e
       → (later : List Entry) (r : ℕ)
       → Adds past e later r
@@ -182,26 +208,8 @@ module _ (b : BoardView) (tree : IsTree b) (plain : IsPlainBoard b) (lines : Lin
   adds past steps (entry.Free c l) may later r = record { new = []; calls = refl; by = none-by (gaps_from b r 0 later) }
   adds past steps (entry.Settle c x cut) may later r = record { new = []; calls = refl; by = none-by (gaps_from b r 0 later) }
   adds past steps (entry.Message c bus why part parts addr reading bytes heard x) may later r =
-      elim (eqb_tells (root_of b bus) r) [
-        | inl h ↦ record {
-          new = (talk_of b n job left x).calls;
-          calls = sent ∙ subst (λ (k : ℕ). changed_at n.calls (root_of b (job_bus job)) ((talk_of b n job left x).calls ++ n.calls
-              (root_of b (job_bus job))) k
-              ≡ (talk_of b n job left x).calls ++ n.calls k) (root_is ∙ h.1)
-              (at_same n.calls (root_of b (job_bus job)) ((talk_of b n job left x).calls ++ n.calls (root_of b (job_bus job))));
-          by = talk-by past steps job left _ may.2.2 may.2.3 r h.0 later;
-        }
-        | inr h ↦ record {
-          new = [];
-          calls = sent ∙ at_other n.calls (root_of b (job_bus job)) ((talk_of b n job left x).calls ++ n.calls (root_of b (job_bus job))) r
-              (λ same. h.1 (sym root_is ∙ sym same));
-          by = subst (λ (gs : List ℕ). IsBy [] gs (gaps_from b r 0 later))
-              (sym (ap (λ (t : Bool). cond t (gap_told 0 (call_failed e) ++ gaps_from b r (since_told 0 (calls_made e)
-              (call_failed e)) later)
-              (gaps_from b r 0 later)) h.0))
-              (none-by (gaps_from b r 0 later));
-        }
-      ]
+      adds-at past (entry.Message c bus why part parts addr reading bytes heard x) later r (root_of b bus) (root_of b (job_bus job))
+      (talk_of b n job left x).calls refl root_is sent (λ on. talk-by past steps job left _ may.2.2 may.2.3 r on later)
     where
       n : Now
       n = now b asks past
@@ -222,26 +230,8 @@ module _ (b : BoardView) (tree : IsTree b) (plain : IsPlainBoard b) (lines : Lin
           ≡ changed_at n.calls (root_of b (job_bus job)) ((talk_of b n job left x).calls ++ n.calls (root_of b (job_bus job))) r
       sent = ap (λ (o : Option Act). (sent_by b n c o (first_note (current b asks n c)) reading bytes x).calls r) may.2.2
   adds past steps (entry.Line c mux level failed) may later r =
-      elim (eqb_tells (root_of b (home_of_mux b mux)) r) [
-        | inl h ↦ record {
-          new = line_call job failed ∷ [];
-          calls = lined ∙ subst (λ (k : ℕ). changed_at n.calls (root_of b (job_bus job)) (line_call job failed ∷ n.calls
-              (root_of b (job_bus job))) k
-              ≡ line_call job failed ∷ n.calls k) (root_is ∙ h.1)
-              (at_same n.calls (root_of b (job_bus job)) (line_call job failed ∷ n.calls (root_of b (job_bus job))));
-          by = line-by job c mux level failed r h.0 later;
-        }
-        | inr h ↦ record {
-          new = [];
-          calls = lined ∙ at_other n.calls (root_of b (job_bus job)) (line_call job failed ∷ n.calls (root_of b (job_bus job))) r
-              (λ same. h.1 (sym root_is ∙ sym same));
-          by = subst (λ (gs : List ℕ). IsBy [] gs (gaps_from b r 0 later))
-              (sym (ap (λ (t : Bool). cond t (gap_told 0 (call_failed e) ++ gaps_from b r (since_told 0 (calls_made e)
-              (call_failed e)) later)
-              (gaps_from b r 0 later)) h.0))
-              (none-by (gaps_from b r 0 later));
-        }
-      ]
+      adds-at past (entry.Line c mux level failed) later r (root_of b (home_of_mux b mux)) (root_of b (job_bus job))
+      (line_call job failed ∷ []) refl root_is lined (λ on. line-by job c mux level failed r on later)
     where
       n : Now
       n = now b asks past
