@@ -60,6 +60,18 @@ Splits T Q = (k : JobOutcome → WalkTree) (steps : List PathStep) → IsPath st
 abbrev pub Leads : Task → (List PathStep → JobOutcome → Type 0) → Type 0
 Leads T Q = (steps : List PathStep) (out : JobOutcome) → Q steps out → (k : JobOutcome → WalkTree) → IsPath steps (T k) (k out)
 
+-- one path after the other, and what both come to
+splits-on : {P Q R : List PathStep → JobOutcome → Type 0} {j k : JobOutcome → WalkTree} {steps : List PathStep} (s : Split P j steps)
+    (t : Split Q k s.rest) → R (s.done ++ t.done) t.out → Split R k steps
+splits-on s t both = record {
+  out = t.out;
+  done = s.done ++ t.done;
+  rest = t.rest;
+  all = s.all ∙ ap (λ (xs : List PathStep). s.done ++ xs) t.all ∙ sym (append_assoc s.done t.done t.rest);
+  kept = both;
+  goes_on = t.goes_on;
+}
+
 -- one step, and what follows each outcome
 abbrev StepThen : Deed → (ActOutcome → List PathStep → JobOutcome → Type 0) → List PathStep → JobOutcome → Type 0
 StepThen deed Q [] out = ⊥
@@ -480,14 +492,7 @@ module _ (on : Doer) (rule : Rule) (keeps : Keeps on rule) where
       let s = keeps.splits (Select h) (job ∷ whose) (λ o. if_good o (opened h on job (note_of job whose) k) k) steps path in
       let t = splits-if_good s.out (opened h on job (note_of job whose)) (IsOpened h rule job whose)
       (splits-opened h job whose) k s.rest s.goes_on in
-      record {
-        out = t.out;
-        done = s.done ++ t.done;
-        rest = t.rest;
-        all = s.all ∙ ap (λ (xs : List PathStep). s.done ++ xs) t.all ∙ sym (append_assoc s.done t.done t.rest);
-        kept = record { selected = s.done; rest = t.done; came = s.out; all = refl; select_done = s.kept; goes_on = t.kept };
-        goes_on = t.goes_on;
-      }
+      splits-on s t (record { selected = s.done; rest = t.done; came = s.out; all = refl; select_done = s.kept; goes_on = t.kept })
 
   leads-chosen : (h : Hop) (job : Job) (whose : List Job) → Leads (chosen h on job (note_of job whose)) (IsChosen h rule job whose)
   leads-chosen h job whose steps out kept k =
@@ -562,14 +567,7 @@ module _ (on : Doer) (rule : Rule) (keeps : Keeps on rule) where
         (λ o. if_sent o (passing h job whose k) k) steps path in
         let t = splits-if_sent s.out (passing h job whose) (IsPassed h rule job whose)
         (splits-passed h job whose) k s.rest s.goes_on in
-        record {
-          out = t.out;
-          done = s.done ++ t.done;
-          rest = t.rest;
-          all = s.all ∙ ap (λ (xs : List PathStep). s.done ++ xs) t.all ∙ sym (append_assoc s.done t.done t.rest);
-          kept = record { closed = s.done; rest = t.done; came = s.out; all = refl; close_done = s.kept; goes_on = t.kept };
-          goes_on = t.goes_on;
-        }
+        splits-on s t (record { closed = s.done; rest = t.done; came = s.out; all = refl; close_done = s.kept; goes_on = t.kept })
 
     leads-closing : (mark : Option ℕ) → Leads (λ k. closing b h on (note_of job whose) k (passing h job whose k) mark) (ClosedThen mark)
     leads-closing None steps out kept k =
