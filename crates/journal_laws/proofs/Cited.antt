@@ -1,7 +1,7 @@
 -- The names that several proofs of this crate cite, passed on from one place. Declares nothing.
 pub use Rattle.std.proofs.Common.{◌≡◌, ℕ, zero, suc, ◌+◌, ◌*◌, ◌-◌, ◌<◌, ◌≤◌, Bool, true, false, cond, List, [], ◌∷◌, ◌++◌, length, Option}
 pub use Rattle.std.proofs.Common.{Some, refl, sym, ◌∙◌, ap, subst, ◌⊎◌, inl, inr, arith, ◌&&◌, eqb, reverse, ◌||◌, None, append_assoc}
-pub use Rattle.std.proofs.Common.{nat_lt, not, length-append, append-nil, ◌≢◌}
+pub use Rattle.std.proofs.Common.{nat_lt, not, length-append, append-nil, ◌≢◌, rules}
 pub use Rattle.std.proofs.lemmas.Bool.{eq-eqb, ne_eqb, and_parts, ltb-true}
 pub use Rattle.std.proofs.lemmas.Bool.Decides.{eqb_tells, leb_tells}
 pub use Rattle.std.proofs.lemmas.List.{reverse-append, length-reverse}

@@ -15,6 +15,7 @@ use Rattle.i2c_base.specs.declared.entry.Entry.TheVariants as entry
 use Rattle.i2c_base.specs.Fitting.{FitsReads}
 use Rattle.bus_laws.specs.Settles.{FollowsSend}
 use Rattle.bus_laws.specs.Jobs.{EachJob}
+use Rattle.i2c_spec.specs.History.{changed_at}
 use Rattle.bus_laws.specs.Calls.{FirstCalls}
 use Rattle.journal_laws.specs.Spent.{FitsAt}
 use Rattle.i2c_spec.proofs.MessageLemmas.{length-messages}
@@ -385,6 +386,17 @@ module _ (b : BoardView) (asks : Asks) (some : AsksForMessages asks) (callers : 
       by true over = subst (λ (o : Option TransferView). ReadsAt past c (begun b o)) refl (begin over (asks c (n.settled c)) refl)
       by false over = was
 
+  -- a lock that is taken or freed
+  lock_reads : (n : Now) (c : ℕ) (w : WalkTree) (is : IsReading b (asks c) w (n.settled c) (n.got c)) (act : Act)
+      → first_act (seen n.slot w) ≡ Some act → ((job : Job) (left : ℕ) → act ≡ Send job left → ⊥)
+      → ((verdict : Option Errno) → act ≡ Settle verdict → ⊥)
+      → NoSettle (rest_of (seen n.slot w) Passed) × Settles is.done (rest_of (seen n.slot w) Passed)
+      → (FirstCalls w → FirstCalls (rest_of (seen n.slot w) Passed))
+      → IsReading b (asks c) (changed_at n.walk c (rest_of (seen n.slot w) Passed) c) (n.settled c) (n.got c)
+  lock_reads n c w is act first no_send no_settle settles firsts =
+      subst (λ (x : WalkTree). IsReading b (asks c) x (n.settled c) (n.got c)) (sym (at_same n.walk c (rest_of (seen n.slot w) Passed)))
+      (passed b (asks c) n.slot w (n.settled c) (n.got c) is act first no_send no_settle settles.0 settles.1 firsts)
+
   -- the caller's own entry
   own_reads : (past : List Entry) → IsStepwise b callers asks past → (e : Entry) → May b callers asks (now b asks past) e
       → ReadsAt past (caller_of e) (ahead b asks (now b asks past) (caller_of e))
@@ -392,19 +404,15 @@ module _ (b : BoardView) (asks : Asks) (some : AsksForMessages asks) (callers : 
   own_reads past steps (entry.Take c l) may is =
       let n : Now = now b asks past in
       let w : WalkTree = ahead b asks n c in
-      let s = settles-taken is.done n.slot w is.settles l may.2 in
-      subst (λ (x : WalkTree). IsReading b (asks c) x (n.settled c) (n.got c)) (sym (at_same n.walk c (rest_of (seen n.slot w) Passed)))
-      (passed b (asks c) n.slot w (n.settled c) (n.got c) is (Take l) may.2 (λ job left f. let g : Take l ≡ Send job left = f in cc)
-      (λ verdict f. let g : Take l ≡ Settle verdict = f in cc) s.0 s.1
-      (λ firsts. first-taken n.slot w firsts l may.2))
+      lock_reads n c w is (Take l) may.2 (λ job left f. let g : Take l ≡ Send job left = f in cc)
+      (λ verdict f. let g : Take l ≡ Settle verdict = f in cc) (settles-taken is.done n.slot w is.settles l may.2)
+      (λ firsts. first-taken n.slot w firsts l may.2)
   own_reads past steps (entry.Free c l) may is =
       let n : Now = now b asks past in
       let w : WalkTree = ahead b asks n c in
-      let s = settles-freed is.done n.slot w is.settles l may.2 in
-      subst (λ (x : WalkTree). IsReading b (asks c) x (n.settled c) (n.got c)) (sym (at_same n.walk c (rest_of (seen n.slot w) Passed)))
-      (passed b (asks c) n.slot w (n.settled c) (n.got c) is (Free l) may.2 (λ job left f. let g : Free l ≡ Send job left = f in cc)
-      (λ verdict f. let g : Free l ≡ Settle verdict = f in cc) s.0 s.1
-      (λ firsts. first-freed n.slot w firsts l may.2))
+      lock_reads n c w is (Free l) may.2 (λ job left f. let g : Free l ≡ Send job left = f in cc)
+      (λ verdict f. let g : Free l ≡ Settle verdict = f in cc) (settles-freed is.done n.slot w is.settles l may.2)
+      (λ firsts. first-freed n.slot w firsts l may.2)
   own_reads past steps (entry.Settle c r cut) may is =
       let n : Now = now b asks past in
       let w : WalkTree = ahead b asks n c in
