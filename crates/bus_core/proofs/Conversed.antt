@@ -1,9 +1,9 @@
 -- After a message of the caller at a place: the settle that it decides, and all that is kept.
 use Rattle.bus_core.proofs.Cited.{◌≡◌, ◌⊎◌, ℕ, ◌+◌, ◌≤◌, Bool, true, false, List, [], ◌∷◌, ◌++◌, length, reverse, set, Option, Some, refl}
-use Rattle.bus_core.proofs.Cited.{sym, ◌∙◌, ap, subst, arith, inl, inr, slice_get, reverse-append, append_assoc, Entry, Errno, Reply, Fits}
+use Rattle.bus_core.proofs.Cited.{sym, ◌∙◌, ap, subst, arith, inl, inr, reverse-append, append_assoc, Entry, Errno, Reply, Fits}
 use Rattle.bus_core.proofs.Cited.{FitsReads, TransferView, MessageView, JournalView, first_act, rest_of, got_after, message_cut, reply_by}
-use Rattle.bus_core.proofs.Cited.{Job, Call, Send, Settle, Passed, WalkTree, root_ports, RootPort, MsgResult, SeenView, slots_of, LocksView}
-use Rattle.bus_core.proofs.Cited.{Place, has_reply, IsLeft, IsDecided, NextMsg, IsMessageOf, gone_after, turned_to, next_of, behind_of}
+use Rattle.bus_core.proofs.Cited.{Call, Settle, Passed, WalkTree, root_ports, RootPort, MsgResult, SeenView, slots_of, LocksView}
+use Rattle.bus_core.proofs.Cited.{Place, has_reply, IsLeft, IsDecided, NextMsg, gone_after, turned_to, next_of, behind_of}
 use Rattle.bus_core.proofs.Cited.{roots_of, IsSeated, IsKept, HasStepped, walk_left, place_of, HasSpoken, HasHeard, MaySettle, IsSettledIn}
 use Rattle.bus_core.proofs.Cited.{CoreInside, Seat, bytes_given}
 use Rattle.std.proofs.Common.{take}
@@ -15,23 +15,21 @@ use Rattle.bus_spec.specs.Walk as walk
 use Rattle.bus_laws.proofs.walk.Next.{quiet-next}
 use Rattle.core_laws.specs.Behind.{message_entry, spoken}
 use Rattle.core_laws.proofs.Laws.{sent-leaves, core-message, core-settled, room-message, bytes-settle}
-use Rattle.bus_core.proofs.Kept.{standing, fair, seated-here, kept-whole, stepped-one}
-use Rattle.bus_core.proofs.Converse.{goes, on-bus, calls, call-left, few, words2, is-sent}
+use Rattle.bus_core.proofs.Kept.{standing, fair, seated-here, kept-whole, one-kept}
+use Rattle.bus_core.proofs.Converse.{ComesNext, goes, on-bus, calls, call-left, few, words2, is-sent}
 use Rattle.bus_core.proofs.Heard.{heard-place, heard-got, heard-seated, settle-first, settled-place}
 use Rattle.bus_core.proofs.Reseating.{seated_settled}
 use Rattle.bus_core.proofs.Stepped.{roots-stay, stepped-two}
 
-module _ {P C S : Type 0} (g : PortGhosts P) (c : CallerGhosts C S) (x : CoreInside P C) (kept : IsKept g c x) (place : ℕ) (s : Seat C)
-    (here : slice_get x.seats.items place ≡ Some s)
-    (job : Job) (more : ℕ) (next : NextMsg) (first : next_of x.locks (walk_left s) ≡ Some (Send job more))
-    (of : IsMessageOf job more next)
-    (sockets2 : List RootPort) (bytes : List ℕ) (sent : MsgResult)
+module _ {P C S : Type 0} {g : PortGhosts P} {c : CallerGhosts C S} {x : CoreInside P C} {place : ℕ} {next : NextMsg} {s : Seat C}
+    (kept : IsKept g c x) (m : ComesNext x place next s) {sockets2 : List RootPort} {bytes : List ℕ} {sent : MsgResult}
     (said : HasSpoken x.board g.tells next (root_ports g x.ports.items) sockets2 bytes sent s)
-    (t : Seat C) (heard : HasHeard x.locks next bytes sent s t) where
+    {t : Seat C} (heard : HasHeard x.locks next bytes sent s t) where
+  open m use {job, more, here, first, of}
   open standing g c x kept place s here use {run, whole, p, at, ls, n}
 
   abbrev words : SeenView
-  words = words2 g c x kept place s here job more next first of sockets2 bytes sent said
+  words = words2 kept m said
 
   abbrev pub locks2 : LocksView
   locks2 = turned_to x.locks words
@@ -46,22 +44,19 @@ module _ {P C S : Type 0} (g : PortGhosts P) (c : CallerGhosts C S) (x : CoreIns
   gone = gone_after s.sent job sent.end
 
   none : (bus : ℕ) (ms : List MessageView) → job ≡ Call bus ms → has_reply p.owed ≡ false
-  none bus ms is = (calls g c x kept place s here job more next first of bus ms is).0
+  none bus ms is = (calls kept m bus ms is).0
 
   leaves : (IsLeft run.board p.transfer (has_reply p.owed) gone behind × (p.owed ≡ [] → FitsReads (take gone p.transfer.msgs) got))
       ⊎ ((has_reply p.owed ≡ false) × (verdict : Option Errno) × IsDecided run.board p.transfer verdict behind
       × ((reply : Reply) → reply ≡ reply_by verdict (Some p.transfer) got → Fits p.transfer reply))
-  leaves = sent-leaves run whole kept.kept place p at job more next s.port said.before said.after bytes sent words
-      (is-sent g c x kept place s here job more next first of sockets2 bytes sent said)
+  leaves = sent-leaves run whole kept.kept place p at job more next s.port said.before said.after bytes sent words (is-sent kept m said)
 
   place-is : place_of c t ≡ spoken whole p job next bytes sent gone
   place-is = heard-place c x.board x.locks (roots_of x.ports.items) job more next of bytes sent s t heard none
 
   seated : IsSeated c x.board (roots_of x.ports.items) t
   seated = heard-seated c x.board x.locks (roots_of x.ports.items) job more next of bytes sent s t heard none
-      (seated-here g c x kept place s here)
-      (goes g c x kept place s here job more next first of) (on-bus g c x kept place s here job more next first of)
-      (λ e. (call-left g c x kept place s here job more next first of e).1)
+      (seated-here g c x kept place s here) (goes kept m) (on-bus kept m) (λ e. (call-left kept m e).1)
 
   reply-is : has_reply p.owed ≡ false → (verdict : Option Errno)
       → reply_by verdict (Some t.transfer) t.replies.got ≡ reply_by verdict (Some p.transfer) got
@@ -86,8 +81,7 @@ module _ {P C S : Type 0} (g : PortGhosts P) (c : CallerGhosts C S) (x : CoreIns
         | inl is ↦ absurd (quiet is.0 verdict comes)
         | inr d ↦ (let two : 2 ≤ x.journal.room = room-message run whole kept.kept place p at job more first d.0 in
             let fit : length bytes + length (bytes_given (reply_by verdict (Some p.transfer) got)) ≤ x.journal.room_bytes =
-            bytes-settle run whole kept.kept place p at job more first bytes
-            (few g c x kept place s here job more next first of sockets2 bytes sent said) sent.reading verdict
+            bytes-settle run whole kept.kept place p at job more first bytes (few kept m said) sent.reading verdict
             (reply_by verdict (Some p.transfer) got) refl in
             let same : length (bytes_given (reply_by verdict (Some t.transfer) t.replies.got)) ≡ length
             (bytes_given (reply_by verdict (Some p.transfer) got)) = ap (λ (r : Reply). length (bytes_given r))
@@ -119,20 +113,13 @@ module _ {P C S : Type 0} (g : PortGhosts P) (c : CallerGhosts C S) (x : CoreIns
           by left partway =
               let core = core-message run (fair g c x kept) whole kept.kept place p ls n
               (standing g c x kept place s here).stands j.room job more next s.port said.before said.after bytes sent words
-              (is-sent g c x kept place s here job more next first of sockets2 bytes sent said) gone left partway (sym room) j.room_bytes
-              (sym room_bytes) in
+              (is-sent kept m said) gone left partway (sym room) j.room_bytes (sym room_bytes) in
               let number : t.number ≡ s.number = ap (λ (y : Seat C). y.number) heard.same in
               let script : c.script t.caller ≡ c.script s.caller = ap (λ (y : Seat C). c.script y.caller) heard.same in
-              let all = ap (λ (y : JournalView). y.entries) journal ∙ entries in (
-                kept-whole g c x kept place s here new t same_board seats number script roots seated _ core
-                    (ap reverse all ∙ reverse-append x.journal.entries
-                    (message_entry s.number next bytes sent ∷ []))
-                    (ap (λ (y : JournalView). y.room) journal) (ap (λ (y : JournalView). y.room_bytes) journal)
-                    (ap (set whole.places place) place-is) locks sockets,
-                stepped-one g c x kept place s here new t same_board seats number script roots start places
-                    (message_entry s.number next bytes sent) all
-                    (ap (λ (y : JournalView). y.room + 1) journal ∙ room) refl refl (λ tell. (core.told tell).stepwise),
-              )
+              one-kept g c x kept place s here new t same_board seats number script roots seated _ core
+              (message_entry s.number next bytes sent) (ap (λ (y : JournalView). y.entries) journal ∙ entries) refl
+              (ap (λ (y : JournalView). y.room) journal) (ap (λ (y : JournalView). y.room + 1) journal ∙ room)
+              (ap (λ (y : JournalView). y.room_bytes) journal) (ap (set whole.places place) place-is) locks sockets start places refl refl
 
       -- THE SETTLE came
       pub conversed-settled : (verdict : Option Errno) (u : Seat C) → new.seats.items ≡ set x.seats.items place u
@@ -161,7 +148,7 @@ module _ {P C S : Type 0} (g : PortGhosts P) (c : CallerGhosts C S) (x : CoreIns
               let rooms : x.journal.room ≡ new.journal.room + 2 = (let a = made.room in omega (arith, a, room)) in
               let core = core-settled run (fair g c x kept) whole kept.kept place p ls n
               (standing g c x kept place s here).stands new.journal.room job more next s.port said.before said.after bytes sent words
-              (is-sent g c x kept place s here job more next first of sockets2 bytes sent said) gone due decides unsettled reply decided
+              (is-sent kept m said) gone due decides unsettled reply decided
               (fits reply decided) rooms new.journal.room_bytes
               (let a = made.room_bytes in omega (arith, a, room_bytes)) in
               let number : u.number ≡ s.number = ap (λ (y : Seat C). y.number) made.settled.same

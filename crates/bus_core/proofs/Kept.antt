@@ -2,8 +2,9 @@
 use Rattle.bus_core.proofs.Cited.{◌≡◌, ℕ, zero, suc, ◌+◌, ◌<◌, ◌≤◌, Bool, true, false, IsTrue, List, [], ◌∷◌, ◌++◌, length, reverse, set}
 use Rattle.bus_core.proofs.Cited.{Option, Some, None, refl, sym, ◌∙◌, ap, subst, arith, inl, inr, slice_get, if◌then◌else◌, option_map_or}
 use Rattle.bus_core.proofs.Cited.{eqb_tells, Entry, LockId, Reply, BoardView, MOST_CALLERS, TransferView, buses, root_of, is_settle}
-use Rattle.bus_core.proofs.Cited.{caller_of, IsStepwise, root_ports, RootPort, Place, Run, IsFairRun, Whole, CoreKept, map-set}
-use Rattle.bus_core.proofs.Cited.{length-append, set_same, at_set, locks-here, owes-here, stands-here, LocksView, roots_of, IsSeated}
+use Rattle.bus_core.proofs.Cited.{caller_of, IsStepwise, root_ports, Place, Run, IsFairRun, Whole, CoreKept, map-set}
+use Rattle.bus_core.proofs.Cited.{length-append, set_same, at_set, locks-here, owes-here, stands-here, roots_of, IsSeated}
+use Rattle.bus_core.proofs.Cited.{reverse-append}
 use Rattle.bus_core.proofs.Cited.{asks_in, run_of, whole_of, IsKept, HasStepped, IsSetUp, HasRoot, place_of, places_of, script_of}
 use Rattle.bus_core.proofs.Cited.{scripts_of, script_at, asks_of, CoreInside, Seat, map_at}
 use Rattle.std.proofs.Common.{◌==◌}
@@ -189,38 +190,27 @@ module _ {P C S : Type 0} (g : PortGhosts P) (c : CallerGhosts C S) (x : CoreIns
           → set whole.places place (place_of c t) ≡ w.places
           → new.locks ≡ w.locks → root_ports g new.ports.items ≡ w.sockets → IsKept g c new
       kept-whole seated w core past room room_bytes places locks sockets =
-          kept-by seated w.held w.owes
-          (subst (λ (y : List Entry). CoreKept (run_of g c x)
-          (record w {
-            past = y;
+          kept-by seated w.held w.owes (subst (λ (y : Whole). CoreKept (run_of g c x) y) same core)
+        where
+          same : w ≡ record w {
+            past = reverse new.journal.entries;
             room = new.journal.room;
             room_bytes = new.journal.room_bytes;
             places = set whole.places place (place_of c t);
             locks = new.locks;
             sockets = root_ports g new.ports.items;
-          })) (sym past)
-          (subst (λ (y : ℕ). CoreKept (run_of g c x)
-          (record w {
-            room = y;
-            room_bytes = new.journal.room_bytes;
-            places = set whole.places place (place_of c t);
-            locks = new.locks;
-            sockets = root_ports g new.ports.items;
-          })) (sym room)
-          (subst (λ (y : ℕ). CoreKept (run_of g c x)
-          (record w {
-            room_bytes = y;
-            places = set whole.places place (place_of c t);
-            locks = new.locks;
-            sockets = root_ports g new.ports.items;
-          })) (sym room_bytes)
-          (subst (λ (y : List Place). CoreKept (run_of g c x)
-          (record w { places = y; locks = new.locks; sockets = root_ports g new.ports.items })) (sym places)
-          (subst (λ (y : LocksView). CoreKept (run_of g c x) (record w { locks = y; sockets = root_ports g new.ports.items })) (sym locks)
-          (subst (λ (y : List RootPort). CoreKept (run_of g c x) (record w { sockets = y })) (sym sockets) core))))))
+          }
+          same = λ i. record w {
+            past = sym past i;
+            room = sym room i;
+            room_bytes = sym room_bytes i;
+            places = sym places i;
+            locks = sym locks i;
+            sockets = sym sockets i;
+          }
 
       -- A STEP of one entry, which isn't a settle
-      pub stepped-one : new.start ≡ x.start → new.places ≡ x.places → (e : Entry) → new.journal.entries ≡ x.journal.entries ++ e ∷ []
+      stepped-one : new.start ≡ x.start → new.places ≡ x.places → (e : Entry) → new.journal.entries ≡ x.journal.entries ++ e ∷ []
           → new.journal.room + 1 ≡ x.journal.room
           → is_settle e ≡ false → caller_of e ≡ s.number
           → (IsTrue g.tells → IsStepwise board MOST_CALLERS (asks_in c x) (e ∷ reverse x.journal.entries)) → HasStepped g c place x new
@@ -244,6 +234,19 @@ module _ {P C S : Type 0} (g : PortGhosts P) (c : CallerGhosts C S) (x : CoreIns
                   entries = entries;
                 };
           }
+
+      -- .. where the plain lists after it are these
+      pub one-kept : IsSeated c board (roots_of x.ports.items) t → (w : Whole) → CoreKept (run_of g c x) w
+          → (e : Entry) → new.journal.entries ≡ x.journal.entries ++ e ∷ [] → e ∷ whole.past ≡ w.past
+          → new.journal.room ≡ w.room → new.journal.room + 1 ≡ x.journal.room → new.journal.room_bytes ≡ w.room_bytes
+          → set whole.places place (place_of c t) ≡ w.places → new.locks ≡ w.locks → root_ports g new.ports.items ≡ w.sockets
+          → new.start ≡ x.start → new.places ≡ x.places → is_settle e ≡ false → caller_of e ≡ s.number
+          → IsKept g c new × HasStepped g c place x new
+      one-kept seated w core e entries past room less room_bytes at locks sockets start places none own = (
+        kept-whole seated w core (ap reverse entries ∙ reverse-append x.journal.entries (e ∷ []) ∙ past) room room_bytes at locks sockets,
+        stepped-one start places e entries less none own
+            (λ tell. subst (λ (es : List Entry). IsStepwise board MOST_CALLERS (asks_in c x) es) (sym past) (core.told tell).stepwise),
+      )
 
 -- THE CALLER AT A PLACE, as the laws of the core speak of it: the run, where all stand, its own place, the locks that it has, and
 -- what it owes

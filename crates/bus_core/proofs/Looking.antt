@@ -3,14 +3,14 @@ use Rattle.bus_core.proofs.Cited.{◌≡◌, ℕ, List, Some, set, refl, sym, �
 use Rattle.bus_core.proofs.Cited.{first_note, rest_of, Act, ActOutcome, WalkTree, IsLooked, RouteView, SeenView, slots_of, NextMsg}
 use Rattle.bus_core.proofs.Cited.{LocksView, with_holder, seen_of, turned_to, next_of, behind_of, at_set, MsgResult, run_of, whole_of}
 use Rattle.bus_core.proofs.Cited.{IsKept, IsLookedAt, AreLooked, words_after, walk_left, place_of, HasHeard, IsOn, WentOn, updates_ahead}
-use Rattle.bus_core.proofs.Cited.{updates_of, CoreInside, Seat}
+use Rattle.bus_core.proofs.Cited.{updates_of, CoreInside, Seat, MuxUpdate}
 use Rattle.i2c_base.specs.declared.caller.Caller.{Ghosts as CallerGhosts}
 use Rattle.i2c_base.specs.declared.ids.LockId.TheVariants as lock
 use Rattle.ports.specs.declared.port.Port.{Ghosts as PortGhosts}
 use Rattle.mux_plan.specs.Marks.{updates_after}
 use Rattle.mux_plan.specs.Plans.{looked_of}
 use Rattle.core_laws.proofs.Laws.{looks-stay}
-use Rattle.bus_core.proofs.Kept.{place-here}
+use Rattle.bus_core.proofs.Kept.{place-here, seated-here}
 
 -- what comes next is what the walk begins with, its looks answered
 pub next-looked : {C : Type 0} (v : LocksView) (s : Seat C) → IsLookedAt v s
@@ -79,15 +79,26 @@ went-looked v out cut s m t went same walk route =
 pub route-on : {C : Type 0} (b : BoardView) (s t : Seat C) → t.walk.route ≡ s.walk.route → IsOn b s → IsOn b t
 route-on b s t route on = ap (λ (r : RouteView). r.board) route ∙ on
 
+pub still-on : {P C S : Type 0} {g : PortGhosts P} {c : CallerGhosts C S} {x : CoreInside P C} → IsKept g c x → (place : ℕ) {s : Seat C}
+    → slice_get x.seats.items place ≡ Some s → (t : Seat C) → t.walk.route ≡ s.walk.route → IsOn x.board t
+still-on {g = g} {c = c} {x = x} kept place {s} here t route = route-on x.board s t route (seated-here g c x kept place s here).on
+
+-- the lock words after a step of a seat with this outcome
+abbrev pub turned : {C : Type 0} → LocksView → ActOutcome → Seat C → LocksView
+turned v out s = turned_to v (words_after (updates_of v out s) (seen_of v))
+
+-- .. which are those with the marks that it changes by the looks that are answered
+pub turned-by : {C : Type 0} {w : LocksView} {ds : List MuxUpdate} (v : LocksView) (s : Seat C) (out : ActOutcome) → IsLookedAt v s
+    → w ≡ turned_to v (words_after ds (seen_of v)) → ds ≡ updates_ahead out s → w ≡ turned v out s
+turned-by v s out looked is are =
+    is ∙ ap (λ (es : List MuxUpdate). turned_to v (words_after es (seen_of v))) (are ∙ updates-looked v s out looked)
+
 module _ {P C S : Type 0} (g : PortGhosts P) (c : CallerGhosts C S) (x : CoreInside P C) (kept : IsKept g c x) (place : ℕ) (s : Seat C)
     (here : slice_get x.seats.items place ≡ Some s) (act : Act) (first : next_of x.locks (walk_left s) ≡ Some act)
     (out : ActOutcome) where
-  abbrev pub turned : LocksView
-  turned = turned_to x.locks (words_after (updates_of x.locks out s) (seen_of x.locks))
-
   -- THE MARKS that a step changes leave the looks of the others
-  pub others-stay : (i : ℕ) (q : Seat C) → slice_get x.seats.items i ≡ Some q → (i ≡ place → ⊥) → IsLookedAt x.locks q
-      → IsLookedAt turned q
+  others-stay : (i : ℕ) (q : Seat C) → slice_get x.seats.items i ≡ Some q → (i ≡ place → ⊥) → IsLookedAt x.locks q
+      → IsLookedAt (turned x.locks out s) q
   others-stay i q at other looked = record {
     step = looked.step;
     same = looked.same
@@ -95,6 +106,8 @@ module _ {P C S : Type 0} (g : PortGhosts P) (c : CallerGhosts C S) (x : CoreIns
         (place-here g c x kept place s here) act first out i (place_of c q) (place-here g c x kept i q at) other);
   }
 
-  pub looked-turned : (t : Seat C) → AreLooked x.locks x.seats.items → IsLookedAt turned t
-      → AreLooked turned (set x.seats.items place t)
-  looked-turned t all own = looked-set x.locks turned x.seats.items place t all own others-stay
+  pub looked-turned : (w : LocksView) → w ≡ turned x.locks out s → (t : Seat C) → AreLooked x.locks x.seats.items → IsLookedAt w t
+      → AreLooked w (set x.seats.items place t)
+  looked-turned w is t all own =
+      subst (λ (v : LocksView). AreLooked v (set x.seats.items place t)) (sym is)
+      (looked-set x.locks (turned x.locks out s) x.seats.items place t all (subst (λ (v : LocksView). IsLookedAt v t) is own) others-stay)

@@ -5,10 +5,10 @@ use Rattle.bus_core.proofs.Cited.{Errno, Reply, BoardView, MOST_CALLERS, Transfe
 use Rattle.bus_core.proofs.Cited.{first_note, is_over, rest_of, seen, now, reply_by, Act, Job, Shift, Settle, Lined, Passed, WalkTree}
 use Rattle.bus_core.proofs.Cited.{line_mux, line_level, IsJobOf, root_ports, MayShift, Shifted, RootPort, tells-after, on-after, MayMark}
 use Rattle.bus_core.proofs.Cited.{SeenView, slots_of, LocksView, Place, has_reply, IsLeft, IsDecided, seen_of, turned_to, WantsIn, next_of}
-use Rattle.bus_core.proofs.Cited.{behind_of, AreMarked, lone_act, locks-here, not_over, kept-after, length-applied_kept, room-one}
+use Rattle.bus_core.proofs.Cited.{behind_of, AreMarked, lone_act, locks-here, not_over, kept-after, length-applied_kept}
 use Rattle.bus_core.proofs.Cited.{held-wants, next-same, roots_of, IsSeated, IsKept, HasStepped, AreHeld, words_after, walk_left, place_of}
 use Rattle.bus_core.proofs.Cited.{WentOn, MaySettle, IsSettledIn, updates_of, cut_of_line, CoreInside, Seat, bytes_given}
-use Rattle.std.specs.Prelude.{unwrap_or}
+use Rattle.std.specs.Prelude.{unwrap_or, get_or}
 use Rattle.std.specs.Option.{option_map}
 use Rattle.i2c_base.specs.declared.board.MuxKind.{MuxKind}
 use Rattle.i2c_base.specs.declared.board.MuxKind.TheVariants.{Gpio}
@@ -29,11 +29,13 @@ use Rattle.bus_laws.proofs.past.Laws.{past-stands}
 use Rattle.core_laws.specs.Behind.{line_entry, switched}
 use Rattle.core_laws.specs.Core.{IsShifted}
 use Rattle.core_laws.proofs.Laws.{lined-leaves, core-lined, core-line-settled, room-line, log-line, line-wants, shift-wants, shift-root}
-use Rattle.bus_core.proofs.Kept.{standing, fair, seated-here, kept-whole, stepped-one}
+use Rattle.bus_core.proofs.Kept.{standing, fair, seated-here, kept-whole, one-kept}
 use Rattle.bus_core.proofs.Converse.{port, length-applied, holds_mux, updates-held, switched-on, marks-on}
 use Rattle.bus_core.proofs.Heard.{went-on-place, settle-first, settled-place}
 use Rattle.bus_core.proofs.Reseating.{seated_on, seated_settled}
+use Rattle.bus_core.proofs.SeatLemmas.{read_comes}
 use Rattle.bus_core.proofs.Stepped.{roots-stay, stepped-two}
+use Rattle.bus_core.specs.Kept.{HasShift}
 
 -- a gpio mux is switched by a line
 by-line : (o : Option MuxSpec) → unwrap_or (option_map (λ (m : MuxSpec). Some m.kind) o) None ≡ Some Gpio
@@ -54,9 +56,23 @@ no-bytes : (verdict : Option Errno) (err : Errno) (t : Option TransferView) (got
     → length (bytes_given (reply_by verdict t got)) ≡ 0
 no-bytes verdict err t got is = ap (λ (o : Option Errno). length (bytes_given (reply_by o t got))) is
 
-module _ {P C S : Type 0} (g : PortGhosts P) (c : CallerGhosts C S) (x : CoreInside P C) (kept : IsKept g c x) (place : ℕ) (s : Seat C)
-    (here : slice_get x.seats.items place ≡ Some s)
-    (job : Job) (first : next_of x.locks (walk_left s) ≡ Some (Shift job)) where
+-- THE LINE STEP that comes next of the seat at a place
+pub record ComesShift {P C : Type 0} (x : CoreInside P C) (place mux level : ℕ) (s : Seat C) : Type 0 where
+  pub job : Job
+  pub here : slice_get x.seats.items place ≡ Some s
+  pub first : next_of x.locks (walk_left s) ≡ Some (Shift job)
+  pub of_mux : line_mux job ≡ mux
+  pub to_level : line_level job ≡ level
+
+pub shift-next : {P C : Type 0} {x : CoreInside P C} {place mux level : ℕ} {s : Seat C} → HasShift x place mux level
+    → s ≡ get_or x.seats.items place s → ComesShift x place mux level s
+shift-next {x = x} {place = place} {s = s} need read =
+    let comes = read_comes x place (Shift need.job) need.comes s read in
+    record { job = need.job; here = comes.0; first = comes.1; of_mux = need.of_mux; to_level = need.to_level }
+
+module _ {P C S : Type 0} {g : PortGhosts P} {c : CallerGhosts C S} {x : CoreInside P C} {place mux level : ℕ} {s : Seat C}
+    (kept : IsKept g c x) (m : ComesShift x place mux level s) where
+  open m use {job, here, first}
   open standing g c x kept place s here use {run, whole, p, at, ls, n}
 
   its : IsSeated c x.board (roots_of x.ports.items) s
@@ -94,16 +110,13 @@ module _ {P C S : Type 0} (g : PortGhosts P) (c : CallerGhosts C S) (x : CoreIns
       line-in x.board plug.0.world (line_mux job) (line_level job) board
       (subst (λ (r : ℕ). HasLineIn x.board r (line_mux job) (line_level job)) (sym (root ∙ rooted)) has)
 
-  pub may-shift : (mux level : ℕ) → line_mux job ≡ mux → line_level job ≡ level → MayShift g.tells mux level plug.0
-  may-shift mux level of_mux to_level = record {
+  pub may-shift : MayShift g.tells mux level plug.0
+  may-shift = record {
     idle = line-wants run whole kept.kept place p at job first s.port plug.0 plug.1 rooted;
-    has = λ tell. subst (λ (l : ℕ). HasLine plug.0.world mux l) to_level
-        (subst (λ (m : ℕ). HasLine plug.0.world m (line_level job)) of_mux (line-there tell));
+    has = λ tell. subst (λ (l : ℕ). HasLine plug.0.world mux l) m.to_level
+        (subst (λ (i : ℕ). HasLine plug.0.world i (line_level job)) m.of_mux (line-there tell));
     room = λ tell. (let room = log-line run whole kept.kept place p at job first tell s.port plug.0 plug.1 in omega (arith, room));
   }
-
-  pub line-room : 1 ≤ x.journal.room
-  line-room = room-one run whole kept.kept place p at (Shift job) first
 
   -- IT WAS DONE
   module _ (failed : Bool) where
@@ -136,7 +149,7 @@ module _ {P C S : Type 0} (g : PortGhosts P) (c : CallerGhosts C S) (x : CoreIns
         ⊎ ((has_reply p.owed ≡ false) × (err : Errno) × IsDecided run.board p.transfer (Some err) behind)
     leaves = lined-leaves run whole kept.kept place p at job first failed
 
-    module _ (t : Seat C) (went : WentOn x.locks (Lined failed) (cut_of_line failed) s t) where
+    module _ {t : Seat C} (went : WentOn x.locks (Lined failed) (cut_of_line failed) s t) where
       place-is : place_of c t ≡ switched whole p job failed
       place-is = went-on-place c x.board x.locks (roots_of x.ports.items) (Lined failed) (cut_of_line failed) s t went
 
@@ -156,8 +169,16 @@ module _ {P C S : Type 0} (g : PortGhosts P) (c : CallerGhosts C S) (x : CoreIns
           (let f : Some (Settle verdict) ≡ Some (Settle (Some err)) = sym comes2
           ∙ (settle-first locks2 behind (Some err) decides.first).0 in cc)
 
-      module _ (j : JournalView) (entries : j.entries ≡ x.journal.entries ++ line_entry p job failed ∷ [])
-          (room : j.room + 1 ≡ x.journal.room) (room_bytes : j.room_bytes ≡ x.journal.room_bytes) where
+      module _ (j : JournalView) (pushed : j.entries ≡ x.journal.entries ++ entry.Line s.number mux level failed ∷ [])
+          (room : j.room + 1 ≡ x.journal.room) (room_bytes : j.room_bytes + 0 ≡ x.journal.room_bytes) where
+        entries : j.entries ≡ x.journal.entries ++ line_entry p job failed ∷ []
+        entries = pushed
+            ∙ ap (λ (i : ℕ). x.journal.entries ++ entry.Line s.number i level failed ∷ []) (sym m.of_mux)
+            ∙ ap (λ (l : ℕ). x.journal.entries ++ entry.Line s.number (line_mux job) l failed ∷ []) (sym m.to_level)
+
+        same_bytes : j.room_bytes ≡ x.journal.room_bytes
+        same_bytes = omega (arith, room_bytes)
+
         -- THE SETTLE may be made
         pub line-may-settle : MaySettle locks2 j t
         line-may-settle = record {
@@ -173,8 +194,12 @@ module _ {P C S : Type 0} (g : PortGhosts P) (c : CallerGhosts C S) (x : CoreIns
         module _ (new : CoreInside P C) (same_board : new.board ≡ x.board) (locks : new.locks ≡ locks2) (old : RootPort) (now : RootPort)
             (port_here : slice_get (root_ports g x.ports.items) s.port ≡ Some old)
             (sockets : root_ports g new.ports.items ≡ set (root_ports g x.ports.items) s.port now)
-            (shifted : Shifted g.tells (line_mux job) (line_level job) failed old now) (start : new.start ≡ x.start)
+            (was : Shifted g.tells mux level failed old now) (start : new.start ≡ x.start)
             (places : new.places ≡ x.places) where
+          shifted : Shifted g.tells (line_mux job) (line_level job) failed old now
+          shifted = subst (λ (l : ℕ). Shifted g.tells (line_mux job) l failed old now) (sym m.to_level)
+              (subst (λ (i : ℕ). Shifted g.tells i level failed old now) (sym m.of_mux) was)
+
           roots : roots_of new.ports.items ≡ roots_of x.ports.items
           roots = roots-stay g x.ports.items new.ports.items s.port old now port_here sockets shifted.root
 
@@ -222,15 +247,11 @@ module _ {P C S : Type 0} (g : PortGhosts P) (c : CallerGhosts C S) (x : CoreIns
                   (standing g c x kept place s here).stands j.room job s.port old now failed words is-shifted left (sym room) in
                   let number : t.number ≡ s.number = ap (λ (y : Seat C). y.number) went.same in
                   let script : c.script t.caller ≡ c.script s.caller = ap (λ (y : Seat C). c.script y.caller) went.same in
-                  let all = ap (λ (y : JournalView). y.entries) journal ∙ entries in (
-                    kept-whole g c x kept place s here new t same_board seats number script roots seated _ core
-                        (ap reverse all ∙ reverse-append x.journal.entries (line_entry p job failed ∷ []))
-                        (ap (λ (y : JournalView). y.room) journal) (ap (λ (y : JournalView). y.room_bytes) journal ∙ room_bytes)
-                        (ap (set whole.places place) place-is) locks sockets,
-                    stepped-one g c x kept place s here new t same_board seats number script roots start places
-                        (line_entry p job failed) all
-                        (ap (λ (y : JournalView). y.room + 1) journal ∙ room) refl refl (λ tell. (core.told tell).stepwise),
-                  )
+                  one-kept g c x kept place s here new t same_board seats number script roots seated _ core
+                  (line_entry p job failed) (ap (λ (y : JournalView). y.entries) journal ∙ entries) refl
+                  (ap (λ (y : JournalView). y.room) journal) (ap (λ (y : JournalView). y.room + 1) journal ∙ room)
+                  (ap (λ (y : JournalView). y.room_bytes) journal ∙ same_bytes) (ap (set whole.places place) place-is)
+                  locks sockets start places refl refl
 
           -- THE SETTLE came
           switched-settled : (verdict : Option Errno) (u : Seat C) → new.seats.items ≡ set x.seats.items place u

@@ -6,7 +6,7 @@ use Rattle.bus_core.proofs.Cited.{spot_of, next_of, holder_in, HasAdded, WaitsFo
 use Rattle.bus_core.proofs.Cited.{roots_of, run_of, whole_of, IsKept, IsCore, ArePlaced, HasStepped, HasCome, walk_left, owed_by, place_of}
 use Rattle.bus_core.proofs.Cited.{places_of, script_of, scripts_of, HasPlace, HasMade, RepliesView, reply_decided, CoreState, CoreTold}
 use Rattle.bus_core.proofs.Cited.{has_caller, logs_of, roots_in, state_of, IsBlockedAt, HasEndedAt, CoreInside, Decided, Seat, StepAnswer}
-use Rattle.bus_core.proofs.Cited.{map_from, map_at}
+use Rattle.bus_core.proofs.Cited.{map_from, map_at, get_or, slice_get_within, GoesOnBy, AllThrough}
 use Rattle.std.proofs.Common.{append-nil}
 use Rattle.std.specs.Option.{is_some}
 use Rattle.i2c_base.specs.declared.caller.Caller.{Ghosts as CallerGhosts}
@@ -21,6 +21,7 @@ use Rattle.bus_core.proofs.Advances.{numbered, over-none, has-made}
 use Rattle.bus_core.proofs.Kept.{place-here}
 use Rattle.bus_core.proofs.Locks.{same_seat}
 use Rattle.bus_core.proofs.Loops.{come-refl, stuck-below, walk-ended}
+use Rattle.bus_core.proofs.SeatLemmas.{number_read}
 
 -- a number that a caller has stands at a place
 pub has-at : {S : Type 0} (scripts : List (ℕ × S)) (n : ℕ) → has_caller scripts n ≡ true
@@ -149,6 +150,20 @@ module _ {P C S : Type 0} (g : PortGhosts P) (c : CallerGhosts C S) (x : CoreIns
   pub placed-of : (n : ℕ) → has_caller (scripts_of c x.seats.items) n ≡ true → HasPlace x.places.items n
   placed-of n has = (let t = has-at (scripts_of c x.seats.items) n has in record { place = t.0; at = core.placed.named t.0 n t.1 t.2 })
 
+  -- what was read at the place of the numbers that a caller has
+  pub placed-read : {v : CoreState S} → state ≡ v → (n : ℕ) → has_caller v.opening.scripts n ≡ true → {m : ℕ} → m ≡ n
+      → {r o : Option ℕ} → r ≡ get_or x.places.items m r → r ≡ o → slice_get x.places.items n ≡ Some o
+  placed-read is n has from read told =
+      let place = placed-of n (subst (λ (u : CoreState S). has_caller u.opening.scripts n ≡ true) (sym is) has) in
+      number_read x.places.items n _ _ _ from (slice_get_within x.places.items n (Some place.place) place.at) read told
+
+  pub never-none : {v : CoreState S} → state ≡ v → (n : ℕ) → has_caller v.opening.scripts n ≡ true → {m : ℕ} → m ≡ n
+      → {r : Option ℕ} → r ≡ get_or x.places.items m r → r ≡ None → ⊥
+  never-none is n has from read told =
+      let place = placed-of n (subst (λ (u : CoreState S). has_caller u.opening.scripts n ≡ true) (sym is) has) in
+      let f : Some None ≡ Some (Some place.place) = sym (placed-read is n has from read told) ∙ place.at in
+      cc
+
   pub of-placed : (n place : ℕ) → slice_get x.places.items n ≡ Some (Some place) → has_caller (scripts_of c x.seats.items) n ≡ true
   of-placed n place at = (let s = core.placed.there n place at in has-by (scripts_of c x.seats.items) place n s.0 s.1)
 
@@ -240,3 +255,22 @@ module _ {P C S : Type 0} (g : PortGhosts P) (c : CallerGhosts C S) (x : CoreIns
             (sym (numbered g c x core.kept core.placed n ready.place ready.at ready.can.seat ready.can.here)) stuck);
         before = λ tell d low. stuck-below g c x core n ready.place ready.at ready.before tell d low;
       }
+
+-- what a core tells after it went on by these words
+pub went-by : {P C S : Type 0} (g : PortGhosts P) (c : CallerGhosts C S) (x new : CoreInside P C) (v : CoreState S) (words : List ℕ)
+    → state_of g c x ≡ v → IsCore g c new → HasCome g c x new → AllThrough c.asked g.tells (state_of g c new)
+    → (IsTrue g.tells → GoesOnBy words x.journal.entries new.journal.entries)
+    → record {
+      opening : (state_of g c new).opening ≡ v.opening;
+      roots : roots_in (state_of g c new) ≡ roots_in v;
+      told : IsTrue g.tells → CoreTold c.asked (state_of g c new);
+      through : AllThrough c.asked g.tells (state_of g c new);
+      follows : IsTrue g.tells → GoesOnBy words v.journal.entries new.journal.entries;
+    }
+went-by g c x new v words is core come through follows = record {
+  opening = opening-same g c x new come ∙ ap (λ (u : CoreState _). u.opening) is;
+  roots = roots-same g c x new come ∙ ap roots_in is;
+  told = core-told g c new core;
+  through = through;
+  follows = λ tell. subst (λ (u : CoreState _). GoesOnBy words u.journal.entries new.journal.entries) is (follows tell);
+}
