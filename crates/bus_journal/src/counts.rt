@@ -4,7 +4,7 @@ ghost use Rattle.bus_journal.specs.Guess.{reply_of, settle_of, entry_of};
 ghost use Rattle.bus_journal.specs.Tallies.{errors_of, bytes_of, tally_of};
 
 use crate::Tally;
-use crate::front::{behind, behind_number, byte_at, bytes_at};
+use crate::front::{behind_number, byte_at, bytes_at, rest_after};
 
 /// No count.
 pub const NONE: Tally = Tally {
@@ -23,7 +23,7 @@ fn reply_counts(text: &[u8]) -> (u64, u64)
 {
     match byte_at(text, 0) {
         b'd' => (0, 0),
-        b'r' => (0, bytes_at(behind(text, 4))),
+        b'r' => (0, bytes_at(rest_after(text, 4))),
         _ => (1, 0),
     }
 }
@@ -33,7 +33,7 @@ fn reply_counts(text: &[u8]) -> (u64, u64)
 fn settle_counts(text: &[u8]) -> Tally
     ensures { result ≡ tally_of (settle_of text.now ∷ []) }
 {
-    let (errors, bytes) = reply_counts(behind(behind_number(text), 1));
+    let (errors, bytes) = reply_counts(rest_after(behind_number(text), 1));
     Tally {
         transfers: 1,
         errors,
@@ -54,6 +54,6 @@ pub fn tally_of_line(line: &[u8]) -> Tally
             ..NONE
         },
         b'f' | b'l' => NONE,
-        _ => settle_counts(behind(line, 7)),
+        _ => settle_counts(rest_after(line, 7)),
     }
 }

@@ -1,7 +1,8 @@
 //! A text that is read from its front, byte by byte and number by number.
 ghost use Rattle.std.specs.Prelude.{◌≡◌, ◌<◌, ◌≤◌, ◌-◌, ◌%◌, true, false, [], ◌∷◌, length, take, drop, None, IfSome, OnSome};
-ghost use Rattle.bus_journal.specs.Guess.{byte_at, is_digit, is_hex, hex_value, number_from, number_of, behind_number, bytes_of, behind_bytes};
+ghost use Rattle.bus_journal.specs.Guess.{byte_at, is_hex, hex_value, number_from, number_of, behind_number, bytes_of, behind_bytes};
 
+use crate::front::{digit_value, rest_after};
 use i2c_base::Bytes;
 use std::marker::Model;
 
@@ -17,30 +18,6 @@ impl<'a> Model for Cursor<'a> {
     ghost Value = { List ℕ };
 
     ghost view = { λ c. c.rest.now };
-}
-
-// The text after its first so many bytes.
-fn behind(text: &[u8], count: usize) -> &[u8]
-    ensures { result.now ≡ drop count text.now }
-{
-    if count < text.len() {
-        &text[count..]
-    } else {
-        b""
-    }
-}
-
-// The value of a digit, or none where it is no digit.
-fn digit_value(digit: u8) -> Option<u8>
-    ensures some { IfSome result (λ v. (v ≡ digit - 48) × (v < 10)) }
-    ensures is { OnSome result (is_digit digit ≡ true) }
-    ensures none { result ≡ None → is_digit digit ≡ false }
-{
-    if b'0' <= digit && digit <= b'9' {
-        Some(digit - b'0')
-    } else {
-        None
-    }
 }
 
 // The value of a hexadecimal digit, or none where it is no such digit.
@@ -77,7 +54,7 @@ impl<'a> Cursor<'a> {
     pub fn skip(&mut self, count: usize)
         ensures { self.new ≡ drop count self.old }
     {
-        self.rest = behind(self.rest, count);
+        self.rest = rest_after(self.rest, count);
     }
 
     // The number with the digit that stands next, if one does.

@@ -1,5 +1,5 @@
 //! What stands at the front of a text.
-ghost use Rattle.std.specs.Prelude.{◌≡◌, ◌≤◌, ◌∷◌, ◌++◌, ℕ, List, length, take, drop};
+ghost use Rattle.std.specs.Prelude.{◌≡◌, ◌-◌, ◌<◌, ◌≤◌, ◌∷◌, ◌++◌, true, false, ℕ, List, length, take, drop, None, IfSome, OnSome};
 ghost use Rattle.bus_journal.specs.Guess.{byte_at, is_digit, is_hex, behind_number, bytes_of};
 ghost use Rattle.bus_journal.specs.Reports.{IsLine};
 ghost use Rattle.bus_journal.specs.Fronts.{begins_with_byte};
@@ -16,13 +16,26 @@ pub fn byte_at(text: &[u8], place: usize) -> u8
 }
 
 /// The text after its first so many bytes.
-pub fn behind(text: &[u8], count: usize) -> &[u8]
+pub fn rest_after(text: &[u8], count: usize) -> &[u8]
     ensures { result.now ≡ drop count text.now }
 {
     if count < text.len() {
         &text[count..]
     } else {
         b""
+    }
+}
+
+/// The value of a digit, or none where it is no digit.
+pub fn digit_value(digit: u8) -> Option<u8>
+    ensures some { IfSome result (λ v. (v ≡ digit - 48) × (v < 10)) }
+    ensures is { OnSome result (is_digit digit ≡ true) }
+    ensures none { result ≡ None → is_digit digit ≡ false }
+{
+    if b'0' <= digit && digit <= b'9' {
+        Some(digit - b'0')
+    } else {
+        None
     }
 }
 
@@ -45,7 +58,7 @@ pub fn behind_number(text: &[u8]) -> &[u8]
 {
     let mut rest = text;
     while is_digit(byte_at(rest, 0)) {
-        rest = behind(rest, 1);
+        rest = rest_after(rest, 1);
     }
     rest
 }
@@ -65,7 +78,7 @@ pub fn bytes_at(text: &[u8]) -> u64
     let mut rest = text;
     let mut count = 0usize;
     while begins_with_byte(rest) {
-        rest = behind(rest, 3);
+        rest = rest_after(rest, 3);
         count += 1;
     }
     count.min(MOST_BYTES) as u64
@@ -77,5 +90,5 @@ pub fn split_line(text: &[u8]) -> (&[u8], &[u8])
     ensures shorter { length result.1.now ≤ length text.now }
 {
     let feed = memchr(b'\n', text).unwrap_or(text.len());
-    (&text[..feed], behind(text, feed + 1))
+    (&text[..feed], rest_after(text, feed + 1))
 }

@@ -20,6 +20,7 @@ mod tally;
 mod text;
 
 pub use borrowed::{EntryRef, Head};
+pub use front::{byte_at, digit_value, rest_after};
 pub use journal::Journal;
 pub use laws::{a_line_tells_its_entry, a_report_tells_its_journal};
 pub use line::{entry_text, errno_name};

@@ -21,10 +21,11 @@ ghost use Rattle.check_laws.specs.Wrong.{IsFirstWrong, first_step};
 ghost use Rattle.journal_check.specs.Checks.{HasFollowed};
 ghost use Rattle.journal_check.specs.Steps.{AreLines, asks_on};
 
-use crate::front::{behind, byte_at, caller_of_line, first_line};
+use crate::front::{caller_of_line, first_line};
 use crate::steps::follow_told;
 use crate::told_port::FailsAsTold;
 use bus_core::{BusCore, ClosedCore};
+use bus_journal::{byte_at, rest_after};
 use check_laws::{
     the_failed_calls_are_told, the_roots_tell_each_call, where_a_step_differs_a_journal_is_wrong,
 };
@@ -66,7 +67,7 @@ fn first_step(text: &[u8]) -> usize
     ensures few { result ≤ 2 }
 {
     let line = first_line(text);
-    let rest = behind(text, line.len() + 1);
+    let rest = rest_after(text, line.len() + 1);
     if !rest.is_empty() && belongs(line, first_line(rest)) {
         2
     } else {
@@ -114,5 +115,5 @@ pub fn follow_journal<'b, P: FailsAsTold, C: Caller>(
     where_a_step_differs_a_journal_is_wrong();
     let ClosedCore { ports, .. } = core.take_apart();
     all_fail_as_told(ports.as_slice());
-    Err(place.before + first_step(behind(lines, place.at)) - 1)
+    Err(place.before + first_step(rest_after(lines, place.at)) - 1)
 }

@@ -7,9 +7,8 @@ ghost use Rattle.journal_check.specs.Forms.{EndAt, FirstOffence, HasAdded, Headi
 ghost use Rattle.journal_check.specs.Gaps.{AreGapsOf};
 ghost use Rattle.journal_check.specs.declared.form.FormFault.TheVariants as fault;
 
-use crate::front::behind;
 use crate::gaps::{RootGaps, add_entry};
-use bus_journal::{EntryRef, LineReader};
+use bus_journal::{EntryRef, LineReader, rest_after};
 use i2c_board::Accepted;
 use memchr::memchr;
 use std::alloc::Global;
@@ -58,7 +57,7 @@ pub fn behind_heading(text: &[u8]) -> Result<LineAt, u32>
     let mut rest = text;
     let mut number = 1u32;
     while let Some(line) = ended_line(rest) {
-        rest = behind(rest, line.len() + 1);
+        rest = rest_after(rest, line.len() + 1);
         number += 1;
         if is_line(line, b"journal") {
             return Ok(LineAt {
@@ -117,7 +116,7 @@ pub fn read_entries(
     let mut rest = text;
     let mut number = first;
     while let Some(line) = ended_line(rest) {
-        let next = behind(rest, line.len() + 1);
+        let next = rest_after(rest, line.len() + 1);
         if is_line(line, b"end") {
             if !next.is_empty() {
                 return Err(FormFault::Line(number + 1));

@@ -1,31 +1,14 @@
 //! What stands at the front of a text.
-ghost use Rattle.std.specs.Prelude.{◌≡◌, ◌-◌, ◌<◌, ◌≤◌, ◌++◌, ◌∷◌, ◌%◌, true, false, ℕ, List, length, drop, None, IfSome, OnSome};
+ghost use Rattle.std.specs.Prelude.{◌≡◌, ◌<◌, ◌≤◌, ◌++◌, ◌∷◌, ◌%◌, true, false, ℕ, List, length, drop, None, IfSome, OnSome};
 ghost use Rattle.i2c_base.specs.declared.entry.Entry.{Entry};
 ghost use Rattle.bus_spec.specs.Readings.{caller_of};
 ghost use Rattle.bus_spec.specs.Report.{ended_line};
-ghost use Rattle.bus_journal.specs.Guess.{byte_at, entry_of, is_digit, number_from, number_of};
+ghost use Rattle.bus_journal.specs.Guess.{entry_of, number_from, number_of};
 ghost use Rattle.bus_journal.specs.Ranges.{IsEntry};
 ghost use Rattle.bus_journal.specs.Reports.{IsLine};
 
+use bus_journal::{byte_at, digit_value, rest_after};
 use memchr::memchr;
-
-/// The byte at a place, 0 past the end.
-pub fn byte_at(text: &[u8], place: usize) -> u8
-    ensures { result ≡ byte_at place text.now }
-{
-    if place < text.len() { text[place] } else { 0 }
-}
-
-/// The text after its first so many bytes.
-pub fn behind(text: &[u8], count: usize) -> &[u8]
-    ensures { result.now ≡ drop count text.now }
-{
-    if count < text.len() {
-        &text[count..]
-    } else {
-        b""
-    }
-}
 
 /// A text begins with another.
 #[inline(always)]
@@ -43,19 +26,6 @@ pub fn first_line(text: &[u8]) -> &[u8]
 {
     let feed = memchr(b'\n', text).unwrap_or(text.len());
     &text[..feed]
-}
-
-// The value of a digit, or none where it is no digit.
-fn digit_value(digit: u8) -> Option<u8>
-    ensures some { IfSome result (λ v. (v ≡ digit - 48) × (v < 10)) }
-    ensures is { OnSome result (is_digit digit ≡ true) }
-    ensures none { result ≡ None → is_digit digit ≡ false }
-{
-    if b'0' <= digit && digit <= b'9' {
-        Some(digit - b'0')
-    } else {
-        None
-    }
 }
 
 // The number with the digit that stands next, if one does.
@@ -79,7 +49,7 @@ fn small_at(text: &[u8]) -> u8
     let mut number = 0;
     while let Some(longer) = longer(rest, number) {
         number = longer;
-        rest = behind(rest, 1);
+        rest = rest_after(rest, 1);
     }
     (number % 256) as u8
 }
@@ -90,9 +60,9 @@ pub fn caller_of_line(line: &[u8]) -> u8
     ensures { result ≡ caller_of (entry_of line.now) }
 {
     match byte_at(line, 0) {
-        b't' | b'f' | b'l' => small_at(behind(line, 5)),
-        b'm' => small_at(behind(line, 4)),
-        _ => small_at(behind(line, 7)),
+        b't' | b'f' | b'l' => small_at(rest_after(line, 5)),
+        b'm' => small_at(rest_after(line, 4)),
+        _ => small_at(rest_after(line, 7)),
     }
 }
 

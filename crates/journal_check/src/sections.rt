@@ -5,7 +5,8 @@ ghost use Rattle.journal_check.specs.Forms.{lines_of};
 ghost use Rattle.journal_check.specs.Texts.{FirstOther, GoesOn, GoesOtherwise, IsWhole};
 
 use crate::form::ended_line;
-use crate::front::{begins_with, behind};
+use crate::front::begins_with;
+use bus_journal::rest_after;
 
 /// What is left of the sections, and the number of the line that comes next.
 #[derive(Clone, Copy)]
@@ -29,8 +30,8 @@ pub fn goes_on<'t>(sections: &'t [u8], first: u32, due: &[u8]) -> Result<LinesLe
         if !begins_with(rest, &more[..count]) {
             return Err(number);
         }
-        rest = behind(rest, count);
-        more = behind(more, count);
+        rest = rest_after(rest, count);
+        more = rest_after(more, count);
         number += 1;
     }
     Ok(LinesLeft { rest, number })

@@ -4,8 +4,9 @@ ghost use Rattle.bus_core.specs.State.{CoreTold, has_caller, roots_in};
 ghost use Rattle.bus_journal.specs.Told.{entries_of};
 ghost use Rattle.journal_check.specs.Steps.{AreLines, Differs, HasMadeElse, HasMadeTold, IsSteady};
 
-use crate::front::{begins_with, behind, caller_told};
+use crate::front::{begins_with, caller_told};
 use bus_core::{BusCore, StepAnswer};
+use bus_journal::rest_after;
 use i2c_base::Caller;
 use ports::Port;
 
@@ -36,7 +37,7 @@ fn step_told<P: Port, C: Caller>(
     match core.step(caller) {
         StepAnswer::Stepped => {
             core.journal().entries_are_in_range();
-            let made = behind(core.journal().text(), at);
+            let made = rest_after(core.journal().text(), at);
             if begins_with(text, made) {
                 Some(made.len())
             } else {
@@ -73,7 +74,7 @@ pub fn follow_told<P: Port, C: Caller>(
             });
         }
         match step_told(core, caller, rest) {
-            Some(count) => rest = behind(rest, count),
+            Some(count) => rest = rest_after(rest, count),
             None => {
                 return Some(JournalPlace {
                     before,

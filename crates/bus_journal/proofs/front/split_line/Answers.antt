@@ -12,5 +12,5 @@ returns-clause-parts c =
     ∙ ap (λ (o : Option ℕ). unwrap_or o (length c.args.text.now)) found in
     let next : c.unwrap_or-feed.result + 1 ≡ suc (length line) = omega (arith, feed) in (
       ap (λ (n : ℕ). take n c.args.text.now) feed ∙ ap (take (length line)) same ∙ take_line line more,
-      c.behind.ensures ∙ ap (λ (n : ℕ). drop n c.args.text.now) next ∙ ap (drop (suc (length line))) same ∙ drop_line line more,
+      c.rest_after.ensures ∙ ap (λ (n : ℕ). drop n c.args.text.now) next ∙ ap (drop (suc (length line))) same ∙ drop_line line more,
     )

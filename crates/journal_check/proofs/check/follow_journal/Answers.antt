@@ -35,4 +35,4 @@ returns-clause-wrong g c =
     (asks_on g.C.Caller.asked c.args.core.opening) (entries_of c.args.lines.now) i c.requires.plain c.requires.rules c.requires.some
     c.requires.limits
     c.requires.few c.requires.silent first)
-    c.behind.result.now c.behind.ensures c.first_step.result c.first_step.ensures.step
+    c.rest_after.result.now c.rest_after.ensures c.first_step.result c.first_step.ensures.step

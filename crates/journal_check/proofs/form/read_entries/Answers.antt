@@ -12,7 +12,7 @@ returns-then-not-is_empty-clause-wrong c =
       refl,
       behind-end c.args.board.now c.args.text.now c.loop-line.rest.now c.in-Some.line.now c.args.first c.loop-line.number c.loop-line.gaps
           c.loop-line.invariant.0 found.0 found.1 test
-          (ap (λ (xs : List ℕ). (length xs == 0)) (sym c.behind-next.ensures) ∙ sym c.is_empty.ensures ∙ c.if-not-is_empty.true),
+          (ap (λ (xs : List ℕ). (length xs == 0)) (sym c.rest_after-next.ensures) ∙ sym c.is_empty.ensures ∙ c.if-not-is_empty.true),
     )
 
 pub returns-then-is_line-clause-ok : goal.returns-then-is_line-clause-ok
@@ -21,7 +21,7 @@ returns-then-is_line-clause-ok c =
     let found = c.in-Some.ensures.some in
     end-at c.args.board.now c.args.text.now c.loop-line.rest.now c.in-Some.line.now c.args.first c.loop-line.number c.loop-line.gaps
     c.loop-line.invariant.0 found.0 found.1 ((bytes_eq-Decides c.in-Some.line.now (codes "end")).0 test)
-    (ap (λ (xs : List ℕ). (length xs == 0)) (sym c.behind-next.ensures) ∙ sym c.is_empty.ensures ∙ c.if-not-is_empty.false)
+    (ap (λ (xs : List ℕ). (length xs == 0)) (sym c.rest_after-next.ensures) ∙ sym c.is_empty.ensures ∙ c.if-not-is_empty.false)
     (length c.args.text.now - length c.loop-line.rest.now) refl
 
 pub loop-line-preserved : goal.loop-line-preserved
@@ -29,7 +29,7 @@ loop-line-preserved c =
     let test : bytes_eq c.in-Some.line.now (codes "end") ≡ false = sym c.is_line.ensures ∙ c.if-is_line.false in
     let found = c.in-Some.ensures.some in (
       subst (λ (xs : List ℕ). IsTelling c.args.board.now c.args.text.now xs c.args.first (c.loop-line.number + 1) c.add_line.new.gaps)
-          (sym c.behind-next.ensures)
+          (sym c.rest_after-next.ensures)
           (tells-more c.args.board.now c.args.text.now c.loop-line.rest.now c.in-Some.line.now c.args.first c.loop-line.number
           c.loop-line.gaps
           c.loop-line.invariant.0 found.0 found.1 c.add_line.new.gaps test c.in-Ok-add_line.ensures.ok),

@@ -12,11 +12,11 @@ returns-then-not-begins_with-clause-other c =
 pub loop-line-preserved : goal.loop-line-preserved
 loop-line-preserved c =
     let found = c.in-Some.ensures.some in
-    subst (λ (xs : List ℕ). IsBeside c.args.due.now c.args.sections.now c.args.first xs c.behind-more.result.now (c.loop-line.number + 1))
-    (sym c.behind-rest.ensures)
+    subst (λ (xs : List ℕ). IsBeside c.args.due.now c.args.sections.now c.args.first xs c.rest_after-more.result.now (c.loop-line.number + 1))
+    (sym c.rest_after-rest.ensures)
     (subst (λ (xs : List ℕ). IsBeside c.args.due.now c.args.sections.now c.args.first (drop
     (length c.in-Some.line.now + 1) c.loop-line.rest.now) xs (c.loop-line.number + 1))
-    (sym c.behind-more.ensures)
+    (sym c.rest_after-more.ensures)
     (same-here c.args.due.now c.args.sections.now c.args.first c.loop-line.rest.now c.loop-line.more.now c.in-Some.line.now
     c.loop-line.number
     c.loop-line.invariant found.0 found.1 (c.begins_with.ensures.yes c.if-not-begins_with.false)))

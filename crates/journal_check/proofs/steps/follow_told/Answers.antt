@@ -23,7 +23,7 @@ loop-rest-preserved g c =
       follows = subst (λ (rest : List ℕ). IsFollowing g.C.Caller.asked c.args.core.now.opening c.args.lines.now
           (entries_of c.args.lines.now)
           c.step_told.new.core rest)
-          (sym c.behind-rest.ensures)
+          (sym c.rest_after-rest.ensures)
           (goes-on g.C.Caller.asked c.args.core.now.opening c.args.lines.now
           (entries_of c.args.lines.now) c.loop-rest.core c.step_told.new.core
           c.loop-rest.rest.now c.loop-rest.invariant.follows c.caller_told-caller.result c.in-Some.count c.step_told.ensures.opening

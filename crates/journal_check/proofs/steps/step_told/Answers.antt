@@ -11,13 +11,13 @@ returns-then-begins_with-clause-some g c =
     let added = c.step.ensures.stepped c.in-Stepped.is in
     let made = added.turn c.requires.tells in
     let old : List Entry = c.args.core.now.journal.entries in
-    let lines : c.behind-made.result.now ≡ flat_map ended_line made.turn.entries =
+    let lines : c.rest_after-made.result.now ≡ flat_map ended_line made.turn.entries =
     lines-behind c.args.core.now.journal.entries made.turn.entries c.step.new.self.journal.entries c.text.result.now
-    c.behind-made.result.now
+    c.rest_after-made.result.now
     (length c.text-at.result.now) made.entries
     (c.text.ensures ∙ ap (λ (j : JournalView). flat_map ended_line j.entries) c.journal-in-Stepped-2.ensures)
     (ap (λ (xs : List ℕ). length xs) (c.text-at.ensures ∙ ap (λ (j : JournalView). flat_map ended_line j.entries) c.journal.ensures))
-    c.behind-made.ensures in
+    c.rest_after-made.ensures in
     record {
       room = added.room;
       made = made;
@@ -28,20 +28,20 @@ returns-then-begins_with-clause-some g c =
           (All-drop IsEntry (length c.args.core.now.journal.entries) c.journal-in-Stepped.result.now.entries
           c.entries_are_in_range.ensures);
       stands = c.begins_with.ensures.yes c.if-begins_with.true
-          ∙ ap (λ (xs : List ℕ). xs ++ drop (length c.behind-made.result.now) c.args.text.now) lines;
+          ∙ ap (λ (xs : List ℕ). xs ++ drop (length c.rest_after-made.result.now) c.args.text.now) lines;
     }
 
 pub returns-else-begins_with-clause-none : goal.returns-else-begins_with-clause-none
 returns-else-begins_with-clause-none g c is =
     let added = c.step.ensures.stepped c.in-Stepped.is in
     let made = added.turn c.requires.tells in
-    let lines : c.behind-made.result.now ≡ flat_map ended_line made.turn.entries =
+    let lines : c.rest_after-made.result.now ≡ flat_map ended_line made.turn.entries =
     lines-behind c.args.core.now.journal.entries made.turn.entries c.step.new.self.journal.entries c.text.result.now
-    c.behind-made.result.now
+    c.rest_after-made.result.now
     (length c.text-at.result.now) made.entries
     (c.text.ensures ∙ ap (λ (j : JournalView). flat_map ended_line j.entries) c.journal-in-Stepped-2.ensures)
     (ap (λ (xs : List ℕ). length xs) (c.text-at.ensures ∙ ap (λ (j : JournalView). flat_map ended_line j.entries) c.journal.ensures))
-    c.behind-made.ensures in
+    c.rest_after-made.ensures in
     inr (record {
       made = made;
       differs = λ more stands. c.begins_with.ensures.no c.if-begins_with.false more
