@@ -6,5 +6,6 @@ pub mod Same
 pub mod Grant
 pub mod Stops
 pub mod Stay
+pub mod Alike
 pub mod Reach
 pub mod Past

@@ -29,7 +29,8 @@ use Rattle.cache_laws.specs.Order.{SensorRegister, Temperature, Hysteresis, Limi
 use Rattle.cache_laws.specs.Order.{SameSensor, SameButPointers}
 use Rattle.cache_laws.proofs.One.{one_listener, alone, read_messages, write_messages, word_of, with_word, bytes_of, HasRead, HasWritten}
 use Rattle.cache_laws.proofs.One.{read-facts, read-whole, write-facts}
-use Rattle.cache_laws.proofs.Alike.{AllAlike, IsBeside, flat_all-alike, all-unnamed, all-beside, all-messages, none-all}
+use Rattle.bus_laws.proofs.device.Alike.{AllAlike}
+use Rattle.cache_laws.proofs.Alike.{IsBeside, flat_all-alike, all-unnamed, all-beside, all-messages, none-all}
 use Rattle.cache_laws.proofs.Gate.{IsOpen, GoesThrough, read-goes, write-goes}
 
 -- what both worlds come to

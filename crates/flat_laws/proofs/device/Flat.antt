@@ -1,33 +1,24 @@
 -- A transfer in the flat world has to do with the devices of its own root alone. The inductions go over hops, and over
 -- the messages.
-use Rattle.flat_laws.proofs.Cited.{◌≡◌, ℕ, ◌+◌, Bool, true, false, cond, ◌&&◌, List, [], ◌∷◌, ◌++◌, Option, Some, None, eqb, refl, sym, ◌∙◌}
-use Rattle.flat_laws.proofs.Cited.{ap, zero-add, slice_get, unwrap_or, AllByRecursion, option_map, option_map_or, Errno, PortCall, Cut}
-use Rattle.flat_laws.proofs.Cited.{BoardView, DeviceView, TransferView, root_of, IsTree, TargetState, state_table, MessageView, messages_of}
-use Rattle.flat_laws.proofs.Cited.{World, FlatListener, idle, flat_start, to_current, to_named, flat_after, flat_listener, granted_on}
-use Rattle.flat_laws.proofs.Cited.{block_limit, cut_in, errno_of, or_done, barred, flat_by, flat_messages, flat, TalkTold, AllTold, talk}
+use Rattle.flat_laws.proofs.Cited.{◌≡◌, ℕ, ◌+◌, Bool, true, false, cond, ◌&&◌, List, [], ◌∷◌, Option, Some, None, eqb, refl, sym, ◌∙◌}
+use Rattle.flat_laws.proofs.Cited.{ap, zero-add, slice_get, unwrap_or, AllByRecursion, option_map, Errno, Cut}
+use Rattle.flat_laws.proofs.Cited.{BoardView, DeviceView, TransferView, root_of, IsTree, TargetState, MessageView, messages_of}
+use Rattle.flat_laws.proofs.Cited.{World, FlatListener, idle, flat_listener, granted_on}
+use Rattle.flat_laws.proofs.Cited.{block_limit, cut_in, errno_of, or_done, barred, flat_by, flat_messages, flat, TalkTold, talk}
 use Rattle.flat_laws.proofs.Cited.{talk_all, is_empty, is_good, with_read, IsOf, Same, ToldAlike, talk_part}
 use Rattle.std.proofs.Common.{not, ◌||◌}
 use Rattle.std.specs.List.{position_from}
-use Rattle.i2c_base.specs.declared.event.Event.{Event}
-use Rattle.i2c_base.specs.declared.event.Event.TheVariants as event
-use Rattle.i2c_base.specs.declared.event.Answer.{Answer}
-use Rattle.i2c_base.specs.declared.event.Answer.TheVariants as answer
-use Rattle.i2c_base.specs.declared.port.PortCall.TheVariants as call
 use Rattle.i2c_base.specs.declared.tree.Grant.TheVariants as grant
 use Rattle.i2c_spec.specs.Tree.{is_below, is_on_path, is_aside}
 use Rattle.i2c_spec.specs.Grant.{some_chip, some_device, some_bound, named_by, named_of}
-use Rattle.i2c_spec.specs.Targets.{state_answer}
-use Rattle.i2c_base.specs.Table.{byte_of}
-use Rattle.i2c_spec.specs.World.{feed, has_heard, is_ack}
-use Rattle.i2c_spec.specs.Flat.{is_member, put_named, answer_of, acknowledged}
+use Rattle.i2c_spec.specs.Flat.{is_member}
 use Rattle.i2c_spec.specs.Conversation.{is_it}
-use Rattle.bus_laws.specs.Alike.{listening, IsUnnamed}
+use Rattle.bus_laws.specs.Alike.{listening}
 use Rattle.flat_laws.specs.Parts.{FlatSame}
-use Rattle.bus_laws.proofs.device.Talk.{talk-alike}
-use Rattle.bus_laws.proofs.device.Hears.{fed_alike}
+use Rattle.bus_laws.proofs.device.Alike.{AllAlike, Any, FlatAlike, all-alike, all-any, cond-all, flat_all-unnamed, flat_talk-alike}
+use Rattle.bus_laws.proofs.device.Alike.{read-alike}
 use Rattle.bus_laws.proofs.device.Grant.{path_over, position_at}
-use Rattle.i2c_spec.proofs.MessageLemmas.{is_it-some, IsFollowing}
-use Rattle.bus_laws.proofs.device.Stay.{talk-unnamed}
+use Rattle.i2c_spec.proofs.MessageLemmas.{is_it-some}
 use Rattle.i2c_base.proofs.Booleans.{and_last}
 use Rattle.bus_laws.proofs.world.Reach.{root_over}
 
@@ -53,16 +44,8 @@ granted-own b tree s a force d e =
     ap (λ (o : Option DeviceView). root_of b (unwrap_or (option_map (λ (x : DeviceView). x.bus) o) 0)) at
     ∙ root_over b tree s r.1.bus (path_over b s r.1.bus (and_last (eqb r.1.addr a) (is_on_path b s r.1.bus) r.4))
 
--- TWO FLAT WORLDS
--- they have the same devices of a root, and name the same
-pub record FlatAlike (b : BoardView) (r : ℕ) (f g : FlatListener) : Type 0 where
-  pub states : (d : ℕ) → IsOf b r d → slice_get f.states d ≡ slice_get g.states d
-  pub named : f.named ≡ g.named
-  pub current : f.current ≡ g.current
-  pub own : (d : ℕ) → f.current ≡ Some d → IsOf b r d
-
--- a world is the same beside each of the two
-pub same-alike : (b : BoardView) (r : ℕ) (w : World) (f g : FlatListener) → Same b r w f → FlatAlike b r f g → Same b r w g
+-- TWO FLAT WORLDS that have the same devices of a root: a world is the same beside each of them
+pub same-alike : (b : BoardView) (r : ℕ) (w : World) (f g : FlatListener) → Same b r w f → FlatAlike (IsOf b r) f g → Same b r w g
 same-alike b r w f g s alike =
     record {
       board = s.board;
@@ -76,130 +59,32 @@ same-alike b r w f g s alike =
     }
 
 module _ (b : BoardView) (r : ℕ) (granted : ℕ → Option ℕ) (granted_own : (a d : ℕ) → granted a ≡ Some d → IsOf b r d) where
-  answer_alike : (f g : FlatListener) (o : Option ℕ) (e : Event) → ((d : ℕ) → IsOf b r d → slice_get f.states d ≡ slice_get g.states d)
-      → ((d : ℕ) → o ≡ Some d → IsOf b r d)
-      → answer_of f.states o e ≡ answer_of g.states o e
-  answer_alike f g None e states own = refl
-  answer_alike f g (Some k) e states own = ap
-      (λ (x : Option TargetState). option_map_or (λ (z : TargetState). state_answer z e) x answer.Nothing) (states k (own k refl))
-
-  current_alike : (f g : FlatListener) (e : Event) → FlatAlike b r f g → answer_of f.states f.current e ≡ answer_of g.states g.current e
-  current_alike f g e s = answer_alike f g f.current e s.states s.own ∙ ap (λ (o : Option ℕ). answer_of g.states o e) s.current
-
-  start_alike : (f g : FlatListener) (a : ℕ) (reading : Bool) → FlatAlike b r f g
-      → answer_of f.states (granted a) (event.Start reading) ≡ answer_of g.states (granted a) (event.Start reading)
-  start_alike f g a reading s = answer_alike f g (granted a) (event.Start reading) s.states (granted_own a)
-
-  started_own : (h : Bool) (a d : ℕ) → cond h (granted a) None ≡ Some d → IsOf b r d
-  started_own true a d e = granted_own a d e
-  started_own false a d e = absurd (let f : None ≡ Some d = e in cc)
-
-  started : (f g : FlatListener) (a : ℕ) (reading : Bool) → FlatAlike b r f g
-      → FlatAlike b r (flat_after granted f (call.Start a reading)) (flat_after granted g (call.Start a reading))
-  started f g a reading s =
-      record {
-        states = λ d own. fed_alike (flat_start (granted a) f.named reading) (flat_start (granted a) g.named reading) f.states g.states d
-            (s.states d own)
-            (ap (λ (ds : List ℕ). flat_start (granted a) ds reading d) s.named);
-        named = ap (λ (ds : List ℕ). put_named (granted a) ds) s.named;
-        current = ap (λ (x : Answer). cond (has_heard x) (granted a) None) (start_alike f g a reading s);
-        own = λ d e. started_own (has_heard (answer_of f.states (granted a) (event.Start reading))) a d e;
-      }
-
-  sent_alike : (f g : FlatListener) (e : Event) → FlatAlike b r f g
-      → FlatAlike b r (record f { states = feed state_table (to_current f.current e) 0 f.states })
-      (record g { states = feed state_table (to_current g.current e) 0 g.states })
-  sent_alike f g e s =
-      record {
-        states = λ d own. fed_alike (to_current f.current e) (to_current g.current e) f.states g.states d (s.states d own)
-            (ap (λ (o : Option ℕ). to_current o e d) s.current);
-        named = s.named;
-        current = s.current;
-        own = s.own;
-      }
-
-  stopped_alike : (f g : FlatListener) → FlatAlike b r f g → FlatAlike b r (flat_after granted f call.Stop) (flat_after granted g call.Stop)
-  stopped_alike f g s =
-      record {
-        states = λ d own. fed_alike (to_named f.named event.Stop) (to_named g.named event.Stop) f.states g.states d (s.states d own)
-            (ap (λ (ds : List ℕ). to_named ds event.Stop d) s.named);
-        named = refl;
-        current = refl;
-        own = λ d e. absurd (let z : None ≡ Some d = e in cc);
-      }
-
-  abbrev AnyByte : ℕ → Type 0
-  AnyByte byte = Unit {0}
-
-  all_any : (xs : List ℕ) → AllByRecursion AnyByte xs
-  all_any [] = tt
-  all_any (x ∷ xs) = (tt, all_any xs)
-
-  following_alike : (f g : FlatListener) (c : PortCall) → IsFollowing AnyByte c → FlatAlike b r f g
-      → FlatAlike b r (flat_after granted f c) (flat_after granted g c)
-  following_alike f g (call.Start a reading) fit s = absurd fit
-  following_alike f g (call.Line m level) fit s = absurd fit
-  following_alike f g (call.Put byte) fit s = sent_alike f g (event.Put byte) s
-  following_alike f g (call.Get ack) fit s = sent_alike f g (event.Get ack) s
-  following_alike f g call.Stop fit s = stopped_alike f g s
-  following_alike f g call.Fault fit s = stopped_alike f g s
-
-  flat_talk-alike : (limit : ℕ) (f g : FlatListener) (m : MessageView) (last : Bool) (cut : Option ℕ) → FlatAlike b r f g
-      → ToldAlike (FlatAlike b r) (talk (flat_listener granted) limit f m last cut) (talk (flat_listener granted) limit g m last cut)
-  flat_talk-alike limit f g m last cut s =
-      talk-alike (flat_listener granted) (flat_listener granted) (FlatAlike b r) AnyByte following_alike
-      (λ u v byte same. ap (λ (x : Answer). is_ack x) (current_alike u v (event.Put byte) same))
-      (λ u v same. ap (λ (x : Answer). byte_of x) (current_alike u v (event.Get true) same))
-      limit f g m last cut (all_any m.bytes) (stopped_alike f g s) (started f g m.addr m.reading s)
-      (ap (λ (x : Answer). acknowledged x) (start_alike f g m.addr m.reading s))
+  -- what one message comes to over the two
+  alike_each : (limit : ℕ) (f g : FlatListener) (m : MessageView) (last : Bool) (cut : Option ℕ) → FlatAlike (IsOf b r) f g
+      → ToldAlike (FlatAlike (IsOf b r)) (talk (flat_listener granted) limit f m last cut) (talk (flat_listener granted) limit g m last cut)
+  alike_each limit f g m last cut s = flat_talk-alike (IsOf b r) granted limit f g m last cut (granted_own m.addr) s
 
   -- all messages of a transfer
-  pub record AllAlike (x y : AllTold FlatListener) : Type 0 where
-    pub bytes : x.bytes ≡ y.bytes
-    pub end : x.end ≡ y.end
-    pub now : FlatAlike b r x.now y.now
-
-  cond_all : (p q : Bool) (x y x2 y2 : AllTold FlatListener) → p ≡ q → AllAlike x x2 → AllAlike y y2 → AllAlike (cond p x y) (cond q x2 y2)
-  cond_all true true x y x2 y2 e hx hy = hx
-  cond_all false false x y x2 y2 e hx hy = hy
-  cond_all true false x y x2 y2 e hx hy = absurd (cc)
-  cond_all false true x y x2 y2 e hx hy = absurd (cc)
-
-  read_alike : (m : MessageView) (got more : List ℕ) (t u : TalkTold FlatListener) → got ≡ more → t.bytes ≡ u.bytes
-      → with_read got m t ≡ with_read more m u
-  read_alike m got more t u e same =
-      ap (λ (xs : List ℕ). cond m.reading (xs ++ t.bytes) xs) e ∙ ap (λ (ys : List ℕ). cond m.reading (more ++ ys) more) same
-
   flat_all-alike : (limit : ℕ) (f g : FlatListener) (ms : List MessageView) (i : ℕ) (cuts : ℕ → Option ℕ) (got more : List ℕ) → got ≡ more
-      → FlatAlike b r f g
-      → AllAlike (talk_all (flat_listener granted) limit f ms i cuts got) (talk_all (flat_listener granted) limit g ms i cuts more)
-  flat_all-alike limit f g [] i cuts got more e s = record { bytes = e; end = refl; now = s }
-  flat_all-alike limit f g (m ∷ ms) i cuts got more e s =
-      let t : TalkTold FlatListener = talk (flat_listener granted) limit f m (is_empty ms) (cuts i) in
-      let u : TalkTold FlatListener = talk (flat_listener granted) limit g m (is_empty ms) (cuts i) in
-      let alike : ToldAlike (FlatAlike b r) t u = flat_talk-alike limit f g m (is_empty ms) (cuts i) s in
-      let read : with_read got m t ≡ with_read more m u = read_alike m got more t u e alike.bytes in
-      cond_all (is_good t.end) (is_good u.end)
-      (talk_all (flat_listener granted) limit t.now ms (i + 1) cuts (with_read got m t))
-      (record { bytes = with_read got m t; now = t.now; end = t.end })
-      (talk_all (flat_listener granted) limit u.now ms (i + 1) cuts (with_read more m u))
-      (record { bytes = with_read more m u; now = u.now; end = u.end })
-      (ap (λ z. is_good z) alike.end)
-      (flat_all-alike limit t.now u.now ms (i + 1) cuts (with_read got m t) (with_read more m u) read alike.now)
-      (record { bytes = read; end = alike.end; now = alike.now })
+      → FlatAlike (IsOf b r) f g
+      → AllAlike (FlatAlike (IsOf b r)) (talk_all (flat_listener granted) limit f ms i cuts got)
+      (talk_all (flat_listener granted) limit g ms i cuts more)
+  flat_all-alike limit f g ms i cuts got more =
+      all-alike (flat_listener granted) (flat_listener granted) limit (FlatAlike (IsOf b r)) (λ (m : MessageView). Any m)
+      (λ u v m last cut any s. alike_each limit u v m last cut s) f g ms i cuts got more (all-any ms)
 
   -- so many of them
   pub flat_part-alike : (limit : ℕ) (f g : FlatListener) (ms : List MessageView) (ends : Bool) (i : ℕ) (cuts : ℕ → Option ℕ)
-      (got more : List ℕ) → got ≡ more → FlatAlike b r f g
-      → AllAlike (talk_part (flat_listener granted) limit f ms ends i cuts got)
+      (got more : List ℕ) → got ≡ more → FlatAlike (IsOf b r) f g
+      → AllAlike (FlatAlike (IsOf b r)) (talk_part (flat_listener granted) limit f ms ends i cuts got)
       (talk_part (flat_listener granted) limit g ms ends i cuts more)
   flat_part-alike limit f g [] ends i cuts got more e s = record { bytes = e; end = refl; now = s }
   flat_part-alike limit f g (m ∷ ms) ends i cuts got more e s =
       let t : TalkTold FlatListener = talk (flat_listener granted) limit f m (is_empty ms && ends) (cuts i) in
       let u : TalkTold FlatListener = talk (flat_listener granted) limit g m (is_empty ms && ends) (cuts i) in
-      let alike : ToldAlike (FlatAlike b r) t u = flat_talk-alike limit f g m (is_empty ms && ends) (cuts i) s in
-      let read : with_read got m t ≡ with_read more m u = read_alike m got more t u e alike.bytes in
-      cond_all (is_good t.end) (is_good u.end)
+      let alike : ToldAlike (FlatAlike (IsOf b r)) t u = alike_each limit f g m (is_empty ms && ends) (cuts i) s in
+      let read : with_read got m t ≡ with_read more m u = read-alike m got more t u e alike.bytes in
+      cond-all (FlatAlike (IsOf b r)) (is_good t.end) (is_good u.end)
       (talk_part (flat_listener granted) limit t.now ms ends (i + 1) cuts (with_read got m t))
       (record { bytes = with_read got m t; now = t.now; end = t.end })
       (talk_part (flat_listener granted) limit u.now ms ends (i + 1) cuts (with_read more m u))
@@ -209,25 +94,14 @@ module _ (b : BoardView) (r : ℕ) (granted : ℕ → Option ℕ) (granted_own :
       (record { bytes = read; end = alike.end; now = alike.now })
 
   -- a device that isn't the root's is left alone
-  flat_all-unnamed : (limit d : ℕ) (o : Option TargetState) → (IsOf b r d → ⊥)
-      → (f : FlatListener) (ms : List MessageView) (i : ℕ) (cuts : ℕ → Option ℕ) (got : List ℕ) → IsUnnamed d o f
-      → IsUnnamed d o (talk_all (flat_listener granted) limit f ms i cuts got).now
-  flat_all-unnamed limit d o other f [] i cuts got u = u
-  flat_all-unnamed limit d o other f (m ∷ ms) i cuts got u =
-      let t : TalkTold FlatListener = talk (flat_listener granted) limit f m (is_empty ms) (cuts i) in
-      let left : IsUnnamed d o t.now = talk-unnamed d o granted limit f m (is_empty ms) (cuts i)
-      (not_granted (is_it (granted m.addr) d) refl) u in
-      by (is_good t.end) (talk_all (flat_listener granted) limit t.now ms (i + 1) cuts (with_read got m t))
-      (record { bytes = with_read got m t; now = t.now; end = t.end })
-      (flat_all-unnamed limit d o other t.now ms (i + 1) cuts (with_read got m t) left) left
+  all_others : (d : ℕ) → (IsOf b r d → ⊥) → (ms : List MessageView)
+      → AllByRecursion (λ (m : MessageView). is_it (granted m.addr) d ≡ false) ms
+  all_others d other [] = tt
+  all_others d other (m ∷ ms) = (not_granted (is_it (granted m.addr) d) refl, all_others d other ms)
     where
       not_granted : (z : Bool) → is_it (granted m.addr) d ≡ z → z ≡ false
       not_granted false e = refl
       not_granted true e = absurd (other (granted_own m.addr d (is_it-some (granted m.addr) d e)))
-
-      by : (z : Bool) (x y : AllTold FlatListener) → IsUnnamed d o x.now → IsUnnamed d o y.now → IsUnnamed d o (cond z x y).now
-      by true x y hx hy = hx
-      by false x y hx hy = hy
 
 -- ONE TRANSFER
 -- it depends on the devices of its root alone
@@ -260,6 +134,6 @@ flat-elsewhere b tree xs t cut d other = by (barred b t cut)
     by : (o : Option Errno) → slice_get (flat_by b xs t cut o).states d ≡ slice_get xs d
     by (Some e) = refl
     by None =
-        (flat_all-unnamed b (root_of b t.bus) (granted_on b t.bus t.force) (λ a k e. granted-own b tree t.bus a t.force k e)
-        (block_limit b) d (slice_get xs d) other (idle xs)
-        (messages_of t) 0 (cut_in cut) [] (refl, refl, refl)).2
+        (flat_all-unnamed (granted_on b t.bus t.force) (block_limit b) d (slice_get xs d) (idle xs) (messages_of t) 0 (cut_in cut) []
+        (all_others b (root_of b t.bus) (granted_on b t.bus t.force) (λ a k e. granted-own b tree t.bus a t.force k e) d other
+        (messages_of t)) (refl, refl, refl)).2
