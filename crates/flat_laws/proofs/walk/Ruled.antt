@@ -5,6 +5,7 @@ use Rattle.flat_laws.proofs.Cited.{eq-eqb, ne_eqb, eqb_tells, map_push, same_Som
 use Rattle.flat_laws.proofs.Cited.{Asks, Act, Take, Free, Send, Shift, Settle, WalkTree, Ends, Look, Then, first_act, first_note, caller_of}
 use Rattle.flat_laws.proofs.Cited.{Now, current, step, now, sent_by, lined_by, Deed, PathStep, Saw, Did, Step, deed_next, step_next}
 use Rattle.flat_laws.proofs.Cited.{replies_in, TellsAct, AreTold, AreTransfers, no_more, under_way, steps_in, IsLegal}
+use Rattle.std.proofs.Common.{rules}
 use Rattle.std.proofs.lemmas.List.{map-append}
 use Rattle.i2c_base.specs.declared.entry.Entry.TheVariants as entry
 use Rattle.bus_spec.specs.Readings.{OfMessage}
@@ -73,17 +74,7 @@ says b n act (entry.Message c bus purpose part parts addr reading bytes heard e)
   tells.0,
   tells.1,
   same_Some act (Send tells.0 tells.1) tells.2,
-  record {
-    on_bus = tells.3.on_bus;
-    for_purpose = tells.3.for_purpose;
-    as_part = tells.3.as_part;
-    of_parts = tells.3.of_parts;
-    to_addr = tells.3.to_addr;
-    in_direction = tells.3.in_direction;
-    bytes_told = tells.3.bytes_told;
-    end_told = tells.3.end_told;
-    heard_told = tells.3.heard_told;
-  },
+  search rules,
 )
 
 are-said : (b : BoardView) (ps : List PathStep) (steps : List Step) → AreTold b ps steps → AreSaid b ps (map doing_of steps)

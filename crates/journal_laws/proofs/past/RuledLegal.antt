@@ -5,7 +5,7 @@ use Rattle.journal_laws.proofs.Cited.{subst, inl, inr, append_assoc, append-nil,
 use Rattle.journal_laws.proofs.Cited.{TransferView, root_of, Asks, Act, ActOutcome, WalkTree, Ends, Look, Then, Slots, walk_for, seen}
 use Rattle.journal_laws.proofs.Cited.{is_over, rest_of, OfMessage, caller_of, Now, current, now, calls_of, transfer_at, outcome_of, Deed}
 use Rattle.journal_laws.proofs.Cited.{Step, deed_next, step_next, AreTransfers, steps_in, Stand, IsLegal, IsRuled, reply_at, walk-path}
-use Rattle.journal_laws.proofs.Cited.{front-path}
+use Rattle.journal_laws.proofs.Cited.{front-path, rules}
 use Rattle.std.proofs.Common.{map}
 use Rattle.std.proofs.lemmas.List.{map_push}
 use Rattle.i2c_base.specs.declared.entry.Entry.TheVariants as entry
@@ -222,17 +222,7 @@ tells b n act (entry.Message c bus purpose part parts addr reading bytes heard e
   says.0,
   says.1,
   ap Some says.2,
-  record {
-    on_bus = says.3.on_bus;
-    for_purpose = says.3.for_purpose;
-    as_part = says.3.as_part;
-    of_parts = says.3.of_parts;
-    to_addr = says.3.to_addr;
-    in_direction = says.3.in_direction;
-    bytes_told = says.3.bytes_told;
-    end_told = says.3.end_told;
-    heard_told = says.3.heard_told;
-  },
+  search rules,
 )
 
 none_left : (steps : List Step) → map doing_of steps ≡ [] → steps ≡ []
