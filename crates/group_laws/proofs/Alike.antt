@@ -1,7 +1,7 @@
 -- A step of one of a group's callers, after a past of others as in the group's own journal. No induction but over the looks
 -- in front of a walk.
 use Rattle.std.proofs.Common.{◌≡◌, ◌==◌, ◌<◌, ℕ, Bool, true, false, cond, List, [], ◌∷◌, ◌++◌, Option, Some, None, refl, sym, ◌∙◌, ap}
-use Rattle.std.proofs.Common.{subst, inl, inr}
+use Rattle.std.proofs.Common.{subst, inl, inr, rules}
 use Rattle.i2c_base.specs.declared.ids.LockId.{LockId}
 use Rattle.i2c_base.specs.declared.entry.End.{End}
 use Rattle.i2c_base.specs.declared.entry.Entry.{Entry}
@@ -155,19 +155,7 @@ module _ (b : BoardView) (roots who : ℕ → Bool) where
 
   -- the settle that is due is no part of it
   due-alike : (n m : Now) (c : ℕ) → IsAlike b roots who n m → IsAlike b roots who (with_due c n) (with_due c m)
-  due-alike n m c al =
-      record {
-        walk = al.walk;
-        held = al.held;
-        settled = al.settled;
-        got = al.got;
-        cut = al.cut;
-        holder = al.holder;
-        slot = al.slot;
-        worlds = al.worlds;
-        calls = al.calls;
-        inside = al.inside;
-      }
+  due-alike n m c al = search rules
 
   module _ (all own : Asks) (n m : Now) (al : IsAlike b roots who n m) (c : ℕ) (cur : current b all n c ≡ current b own m c) where
     moved-alike : (new fresh : Now) (e : Entry) (out : ActOutcome) → IsAlike b roots who new fresh

@@ -15,7 +15,7 @@ use Rattle.bus_spec.specs.Walk.{Passed, Sent, Lined, Note, job_bus}
 use Rattle.bus_spec.specs.Slots.{Slots, MuxSlot, Clean, turned, set_marks, polled_slot, select_told, after_select, after_off, after_job}
 use Rattle.bus_spec.specs.Grammar.{first_act, first_note, rest_of}
 use Rattle.bus_spec.specs.Readings.{caller_of, cut_told, is_lock}
-use Rattle.bus_spec.specs.Past.{Now, current, step, sent_by, lined_by, held_by, without}
+use Rattle.bus_spec.specs.Past.{Now, current, step, sent_by, lined_by, held_by, without, moved, with_due}
 use Rattle.bus_laws.specs.Runs.{IsUnmarked}
 use Rattle.bus_laws.proofs.tree.Slots.{turned-other, set_marks-other}
 use Rattle.bus_laws.proofs.past.StandsStep.{at_other, lock_tells}
@@ -170,6 +170,23 @@ module _ (b : BoardView) (roots who others whose : ℕ → Bool) (apart : AreApa
         inside = al.inside;
       }
 
+  -- a message or a line step, and the settle that is due after it
+  moved_stays : (all : Asks) (n m : Now) (c : ℕ) → who c ≡ true → (e : Entry) (out : ActOutcome) → IsAlike b others whose m x
+      → Stay n (with_due c (moved b all n m c e out))
+  moved_stays all n m c own e out s al =
+      record {
+        walk = λ d k. at_other n.walk c _ d (other-number who whose strange c d own k) ∙ al.walk d k;
+        held = s.held;
+        settled = s.settled;
+        got = s.got;
+        cut = λ d k. at_other n.cut c _ d (other-number who whose strange c d own k) ∙ al.cut d k;
+        holder = s.holder;
+        slot = s.slot;
+        worlds = s.worlds;
+        calls = s.calls;
+        inside = s.inside;
+      }
+
   -- A STEP of one of the group's callers, which acts on the group's roots
   pub step-stays : (all : Asks) (n : Now) (e : Entry) → who (caller_of e) ≡ true
       → ((act : Act) → first_act (current b all n (caller_of e)) ≡ Some act → ActIn b roots act
@@ -194,32 +211,10 @@ module _ (b : BoardView) (roots who others whose : ℕ → Bool) (apart : AreApa
         inside = al.inside;
       }
   step-stays all n (entry.Line c mux level failed) own on lock al =
-      let s : IsAlike b others whose (lined_by b n (first_act (current b all n c)) (first_note (current b all n c)) failed) x =
-      lined_stays n c own (first_act (current b all n c)) (first_note (current b all n c)) failed on al in
-      record {
-        walk = λ d k. at_other n.walk c _ d (other-number who whose strange c d own k) ∙ al.walk d k;
-        held = s.held;
-        settled = s.settled;
-        got = s.got;
-        cut = λ d k. at_other n.cut c _ d (other-number who whose strange c d own k) ∙ al.cut d k;
-        holder = s.holder;
-        slot = s.slot;
-        worlds = s.worlds;
-        calls = s.calls;
-        inside = s.inside;
-      }
+      moved_stays all n (lined_by b n (first_act (current b all n c)) (first_note (current b all n c)) failed) c own
+      (entry.Line c mux level failed) (Lined failed)
+      (lined_stays n c own (first_act (current b all n c)) (first_note (current b all n c)) failed on al) al
   step-stays all n (entry.Message c bus why part parts addr reading bytes heard e) own on lock al =
-      let s : IsAlike b others whose (sent_by b n c (first_act (current b all n c)) (first_note (current b all n c)) reading bytes e) x =
-      sent_stays n c own (first_act (current b all n c)) (first_note (current b all n c)) reading bytes e on al in
-      record {
-        walk = λ d k. at_other n.walk c _ d (other-number who whose strange c d own k) ∙ al.walk d k;
-        held = s.held;
-        settled = s.settled;
-        got = s.got;
-        cut = λ d k. at_other n.cut c _ d (other-number who whose strange c d own k) ∙ al.cut d k;
-        holder = s.holder;
-        slot = s.slot;
-        worlds = s.worlds;
-        calls = s.calls;
-        inside = s.inside;
-      }
+      moved_stays all n (sent_by b n c (first_act (current b all n c)) (first_note (current b all n c)) reading bytes e) c own
+      (entry.Message c bus why part parts addr reading bytes heard e) (Sent e bytes)
+      (sent_stays n c own (first_act (current b all n c)) (first_note (current b all n c)) reading bytes e on al) al

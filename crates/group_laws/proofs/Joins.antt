@@ -1,5 +1,5 @@
 -- The journals of groups, one after the other. The induction goes over the groups.
-use Rattle.std.proofs.Common.{◌≡◌, ℕ, Bool, true, false, List, [], ◌∷◌, ◌++◌, reverse, None, refl, sym, ◌∙◌, ap, subst}
+use Rattle.std.proofs.Common.{◌≡◌, ℕ, Bool, true, false, List, [], ◌∷◌, ◌++◌, reverse, None, refl, sym, ◌∙◌, ap, subst, rules}
 use Rattle.std.proofs.lemmas.List.{append-nil, append_assoc, reverse-append}
 use Rattle.i2c_base.specs.declared.entry.Entry.{Entry}
 use Rattle.i2c_base.specs.Board.{BoardView}
@@ -67,21 +67,7 @@ module _ (b : BoardView) (tree : IsTree b) (callers : ℕ) (all : Asks) where
 
   all-fresh : (ps : List Part) → AreFresh (opening b) ps
   all-fresh [] = tt
-  all-fresh (p ∷ ps) = (
-    record {
-      walk = λ c k. refl;
-      held = λ c k. refl;
-      settled = λ c k. refl;
-      got = λ c k. refl;
-      cut = λ c k. refl;
-      holder = λ l g. refl;
-      slot = λ q g. refl;
-      worlds = λ r g. refl;
-      calls = λ r g. refl;
-      inside = λ r g. refl;
-    },
-    all-fresh ps,
-  )
+  all-fresh (p ∷ ps) = (search rules, all-fresh ps)
 
   all-own : (ps : List Part) → AreParts b callers all ps → AreOwn ps
   all-own [] parts = tt
