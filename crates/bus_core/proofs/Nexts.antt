@@ -18,14 +18,14 @@ pub record TellsNext {P C : Type 0} (x : CoreInside P C) (place : ℕ) (a : Acti
   pub here : slice_get x.seats.items place ≡ Some seat
   pub tells : action_of (next_of x.locks (walk_left seat)) ≡ a
 
-pub tells-next : {P C : Type 0} (x : CoreInside P C) (place : ℕ) (s : Seat C) (a : Action) → AreLooked x.locks x.seats.items
+pub tells-next : {P C : Type 0} (x : CoreInside P C) (place : ℕ) {s : Seat C} {a : Action} → AreLooked x.locks x.seats.items
     → place < length x.seats.items → s ≡ get_or x.seats.items place s
     → TellsAction a s → TellsNext x place a
-tells-next x place s a looked low read told =
+tells-next x place {s} looked low read told =
     let here = there_read x.seats.items place s low read in
     record { seat = s; here = here; tells = sym (told ∙ ap action_of (next-looked x.locks s (looked place s here))) }
 
-module _ {P C : Type 0} (x : CoreInside P C) (place : ℕ) (a : Action) (t : TellsNext x place a) where
+module _ {P C : Type 0} {x : CoreInside P C} {place : ℕ} {a : Action} (t : TellsNext x place a) where
   pub comes-take : (l : LockId) → a ≡ action.Take l → ComesAt x place (Take l)
   comes-take l is = record { seat = t.seat; here = t.here; next = take-of (next_of x.locks (walk_left t.seat)) l (t.tells ∙ is) }
 
@@ -50,8 +50,8 @@ module _ {P C : Type 0} (x : CoreInside P C) (place : ℕ) (a : Action) (t : Tel
       record { job = shifts.0; comes = record { seat = t.seat; here = t.here; next = shifts.1 }; of_mux = shifts.2; to_level = shifts.3 }
 
 -- the lock that comes next is one of the board's
-pub take-there : {P C S : Type 0} (g : PortGhosts P) (c : CallerGhosts C S) (x : CoreInside P C) (kept : IsKept g c x) (place : ℕ)
-    (l : LockId) → ComesAt x place (Take l) → IsLockIn x.locks l
-take-there g c x kept place l comes =
+pub take-there : {P C S : Type 0} {g : PortGhosts P} {c : CallerGhosts C S} {x : CoreInside P C} (kept : IsKept g c x) {place : ℕ}
+    {l : LockId} → ComesAt x place (Take l) → IsLockIn x.locks l
+take-there {g = g} {c = c} {x = x} kept {place} {l} comes =
     (take-wants (run_of g c x) (whole_of g c x kept.held kept.owes) kept.kept place (place_of c comes.seat)
     (place-here g c x kept place comes.seat comes.here) l comes.next).0

@@ -52,7 +52,7 @@ some-told None e = absurd (let f : false ≡ true = e in cc)
 some-told (Some x) e = (x, refl)
 
 -- what was read at a place of the numbers, whose number was converted
-pub number_read : (xs : List (Option ℕ)) (n m : ℕ) (r o : Option ℕ) → m ≡ n → n < length xs → r ≡ get_or xs m r → r ≡ o
+pub number_read : (xs : List (Option ℕ)) {n m : ℕ} {r o : Option ℕ} → m ≡ n → n < length xs → r ≡ get_or xs m r → r ≡ o
     → slice_get xs n ≡ Some o
-number_read xs n m r o from low read is =
+number_read xs {n} {m} {r} from low read is =
     slice_get-get_or xs n r low ∙ ap (λ (k : ℕ). Some (get_or xs k r)) (sym from) ∙ ap Some (sym read ∙ is)

@@ -155,7 +155,7 @@ module _ {P C S : Type 0} (g : PortGhosts P) (c : CallerGhosts C S) (x : CoreIns
       → {r o : Option ℕ} → r ≡ get_or x.places.items m r → r ≡ o → slice_get x.places.items n ≡ Some o
   placed-read is n has from read told =
       let place = placed-of n (subst (λ (u : CoreState S). has_caller u.opening.scripts n ≡ true) (sym is) has) in
-      number_read x.places.items n _ _ _ from (slice_get_within x.places.items n (Some place.place) place.at) read told
+      number_read x.places.items from (slice_get_within x.places.items n (Some place.place) place.at) read told
 
   pub never-none : {v : CoreState S} → state ≡ v → (n : ℕ) → has_caller v.opening.scripts n ≡ true → {m : ℕ} → m ≡ n
       → {r : Option ℕ} → r ≡ get_or x.places.items m r → r ≡ None → ⊥

@@ -11,8 +11,7 @@ pub step-requires-clause-there : goal.step-requires-clause-there
 step-requires-clause-there g c κs within =
     let x = c.args.parts.now in
     let low = slice_get_within x.places.items c.args.caller (Some c.requires.has.place) c.requires.has.at in
-    let at = number_read x.places.items c.args.caller c.from.result c.index.result.now
-    (Some c.in-Some.place) c.from.ensures low c.index.ensures c.in-Some.is in
+    let at = number_read x.places.items c.from.ensures low c.index.ensures c.in-Some.is in
     let inside = is_within g.P.Port g.C.Caller x c.requires.core.kept c.requires.core.placed c.args.caller c.in-Some.place at in
     omega (arith, inside, c.from-2.ensures)
 
@@ -20,8 +19,7 @@ pub returns-in-Stepped-clause-made : goal.returns-in-Stepped-clause-made
 returns-in-Stepped-clause-made g c is =
     let x = c.args.parts.now in
     let low = slice_get_within x.places.items c.args.caller (Some c.requires.has.place) c.requires.has.at in
-    let at = number_read x.places.items c.args.caller c.from.result c.index.result.now
-    (Some c.in-Some.place) c.from.ensures low c.index.ensures c.in-Some.is in
+    let at = number_read x.places.items c.from.ensures low c.index.ensures c.in-Some.is in
     has-made g.P.Port g.C.Caller x c.requires.core.kept c.requires.core.placed c.args.caller c.in-Some.place at c.step.new.parts
     (subst (λ (k : ℕ). HasStepped g.P.Port g.C.Caller k x c.step.new.parts) c.from-2.ensures (c.step.ensures.stepped c.in-Stepped.is))
 
@@ -29,24 +27,21 @@ pub returns-in_default-clause-waited : goal.returns-in_default-clause-waited
 returns-in_default-clause-waited g c is =
     let x = c.args.parts.now in
     let low = slice_get_within x.places.items c.args.caller (Some c.requires.has.place) c.requires.has.at in
-    let at = number_read x.places.items c.args.caller c.from.result c.index.result.now None c.from.ensures low c.index.ensures
-    c.in_default.is in
+    let at = number_read x.places.items c.from.ensures low c.index.ensures c.in_default.is in
     absurd (let f : Some None ≡ Some (Some c.requires.has.place) = sym at ∙ c.requires.has.at in cc)
 
 pub returns-in_default-clause-held_up : goal.returns-in_default-clause-held_up
 returns-in_default-clause-held_up g c is place here =
     let x = c.args.parts.now in
     let low = slice_get_within x.places.items c.args.caller (Some c.requires.has.place) c.requires.has.at in
-    let at = number_read x.places.items c.args.caller c.from.result c.index.result.now None c.from.ensures low c.index.ensures
-    c.in_default.is in
+    let at = number_read x.places.items c.from.ensures low c.index.ensures c.in_default.is in
     absurd (let f : Some None ≡ Some (Some place) = sym at ∙ here in cc)
 
 pub returns-in_default-step : goal.returns-in_default-step
 returns-in_default-step g c =
     let x = c.args.parts.now in
     let low = slice_get_within x.places.items c.args.caller (Some c.requires.has.place) c.requires.has.at in
-    let at = number_read x.places.items c.args.caller c.from.result c.index.result.now
-    (Some c.in-Some.place) c.from.ensures low c.index.ensures c.in-Some.is in
+    let at = number_read x.places.items c.from.ensures low c.index.ensures c.in-Some.is in
     let kept = c.requires.core.kept in
     let placed = c.requires.core.placed in
     let here = c.in-Some.place in

@@ -7,8 +7,7 @@ pub returns-in-Some-clause-through : goal.returns-in-Some-clause-through
 returns-in-Some-clause-through g c is place here =
     let x = c.args.parts.now in
     let low : c.args.number < length x.places.items = omega (arith, c.requires.core.placed.all, c.requires.known) in
-    let at = number_read x.places.items c.args.number c.from.result c.index.result.now
-    (Some c.in-Some.place) c.from.ensures low c.index.ensures c.in-Some.is in
+    let at = number_read x.places.items c.from.ensures low c.index.ensures c.in-Some.is in
     let same : c.in-Some.place ≡ place = (let f : Some (Some c.in-Some.place) ≡ Some (Some place) = sym at ∙ here in cc) in
     let inside = is_within g.P.Port g.C.Caller x c.requires.core.kept c.requires.core.placed c.args.number c.in-Some.place at in
     subst (λ (k : ℕ). IsHeldUpAt x k) same
@@ -26,14 +25,12 @@ returns-in-Some-clause-there g c is =
     let low : c.args.number < length x.places.items = omega (arith, c.requires.core.placed.all, c.requires.known) in
     record {
       place = c.in-Some.place;
-      at = number_read x.places.items c.args.number c.from.result c.index.result.now
-          (Some c.in-Some.place) c.from.ensures low c.index.ensures c.in-Some.is;
+      at = number_read x.places.items c.from.ensures low c.index.ensures c.in-Some.is;
     }
 
 pub returns-in-None-clause-through : goal.returns-in-None-clause-through
 returns-in-None-clause-through g c is place here =
     let x = c.args.parts.now in
     let low : c.args.number < length x.places.items = omega (arith, c.requires.core.placed.all, c.requires.known) in
-    let at = number_read x.places.items c.args.number c.from.result c.index.result.now None c.from.ensures low c.index.ensures c.in-None.is
-    in
+    let at = number_read x.places.items c.from.ensures low c.index.ensures c.in-None.is in
     absurd (let f : Some None ≡ Some (Some place) = sym at ∙ here in cc)

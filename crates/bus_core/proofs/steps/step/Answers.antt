@@ -2,9 +2,10 @@ use Rattle.bus_core.proofs.Cited.{◌≡◌, ◌<◌, ℕ, Some, refl, sym, ◌�
 use Rattle.mux_plan.specs.declared.task.Action.TheVariants as action
 use Rattle.bus_core.specs.Kept.{IsResting}
 use Rattle.bus_core.specs.declared.steps.StepAnswer.TheVariants as answer
-use Rattle.bus_core.proofs.Nexts.{tells-next, take-there, comes-take, comes-free, comes-settle, comes-message, comes-shift}
+use Rattle.bus_core.proofs.Nexts.{TellsNext, tells-next, take-there, comes-take, comes-free, comes-settle, comes-message, comes-shift}
 use Rattle.bus_core.proofs.SeatLemmas.{there_read}
-use Rattle.bus_core.proofs.steps.step.Goals.{in-Take+in_default, in-Free, in-Send, in-Line, in-Settle}
+use Rattle.bus_core.proofs.steps.step.Given.{Over}
+use Rattle.bus_core.proofs.steps.step.Goals.{After-next-next, in-Take+in_default, in-Free, in-Send, in-Line, in-Settle}
 use Rattle.bus_core.proofs.steps.step.Goals as goal
 
 pub index-requires : goal.index-requires
@@ -22,57 +23,45 @@ returns-in-Done-clause-finished g c is =
     let here = there_read x.seats.items c.args.place c.index.result.now c.requires.there c.index.ensures in
     (refl, record { seat = c.index.result.now; here = here; over = c.next-next.ensures.over c.in-Done.is })
 
+-- what comes next of the caller at the place
+next : (g : Over) (c : After-next-next g) → TellsNext c.args.parts.now c.args.place c.next-next.result
+next g c = tells-next c.args.parts.now c.args.place c.requires.rests.looked c.requires.there c.index.ensures c.next-next.ensures.first
+
 pub holder-requires : goal.holder-requires
 holder-requires g c =
-    let next = tells-next c.args.parts.now c.args.place c.index.result.now c.next-next.result c.requires.rests.looked c.requires.there
-    c.index.ensures c.next-next.ensures.first in
-    let x = c.args.parts.now in
-    take-there g.P.Port g.C.Caller x c.requires.rests.kept c.args.place c.in-Take.lock
-    (comes-take x c.args.place c.next-next.result next c.in-Take.lock c.in-Take.is)
+    take-there c.requires.rests.kept (comes-take (next g (goal.at.holder-requires g c).After-next-next) c.in-Take.lock c.in-Take.is)
 
 pub returns-in-Some-clause-blocked : goal.returns-in-Some-clause-blocked
 returns-in-Some-clause-blocked g c l h e =
-    let next = tells-next c.args.parts.now c.args.place c.index.result.now c.next-next.result c.requires.rests.looked c.requires.there
-    c.index.ensures c.next-next.ensures.first in
-    let x = c.args.parts.now in
     let lock : c.in-Take.lock ≡ l = (let f : answer.Blocked c.in-Take.lock c.in-Some.holder ≡ answer.Blocked l h = e in cc) in
     let who : c.in-Some.holder ≡ h = (let f : answer.Blocked c.in-Take.lock c.in-Some.holder ≡ answer.Blocked l h = e in cc) in (
       refl,
       record {
-        comes = comes-take x c.args.place c.next-next.result next l (c.in-Take.is ∙ ap (λ (k : LockId). action.Take k) lock);
-        held = ap (holder_in x.locks) (sym lock) ∙ sym c.holder.ensures ∙ c.in-Some.is ∙ ap Some who;
+        comes = comes-take (next g (goal.at.returns-in-Some-clause-blocked g c).After-next-next) l
+            (c.in-Take.is ∙ ap (λ (k : LockId). action.Take k) lock);
+        held = ap (holder_in c.args.parts.now.locks) (sym lock) ∙ sym c.holder.ensures ∙ c.in-Some.is ∙ ap Some who;
       },
     )
 
 pub take-requires-clause-next : goal.take-requires-clause-next
 take-requires-clause-next g c κs within =
-    let next = tells-next c.args.parts.now c.args.place c.index.result.now c.next-next.result c.requires.rests.looked c.requires.there
-    c.index.ensures c.next-next.ensures.first in
-    comes-take c.args.parts.now c.args.place c.next-next.result next c.in-Take.lock c.in-Take.is
+    comes-take (next g (goal.at.take-requires-clause-next g c).After-next-next) c.in-Take.lock c.in-Take.is
 
 pub free-requires-clause-next : goal.free-requires-clause-next
 free-requires-clause-next g c κs within =
-    let next = tells-next c.args.parts.now c.args.place c.index.result.now c.next-next.result c.requires.rests.looked c.requires.there
-    c.index.ensures c.next-next.ensures.first in
-    comes-free c.args.parts.now c.args.place c.next-next.result next c.in-Free.lock c.in-Free.is
+    comes-free (next g (goal.at.free-requires-clause-next g c).After-next-next) c.in-Free.lock c.in-Free.is
 
 pub send_and_record-requires-clause-next : goal.send_and_record-requires-clause-next
 send_and_record-requires-clause-next g c κs within =
-    let next = tells-next c.args.parts.now c.args.place c.index.result.now c.next-next.result c.requires.rests.looked c.requires.there
-    c.index.ensures c.next-next.ensures.first in
-    comes-message c.args.parts.now c.args.place c.next-next.result next _ c.in-Send.is
+    comes-message (next g (goal.at.send_and_record-requires-clause-next g c).After-next-next) _ c.in-Send.is
 
 pub switch-requires-clause-next : goal.switch-requires-clause-next
 switch-requires-clause-next g c κs within =
-    let next = tells-next c.args.parts.now c.args.place c.index.result.now c.next-next.result c.requires.rests.looked c.requires.there
-    c.index.ensures c.next-next.ensures.first in
-    comes-shift c.args.parts.now c.args.place c.next-next.result next c.in-Line.mux c.in-Line.level c.in-Line.is
+    comes-shift (next g (goal.at.switch-requires-clause-next g c).After-next-next) c.in-Line.mux c.in-Line.level c.in-Line.is
 
 pub refuse-requires-clause-next : goal.refuse-requires-clause-next
 refuse-requires-clause-next g c κs within =
-    let next = tells-next c.args.parts.now c.args.place c.index.result.now c.next-next.result c.requires.rests.looked c.requires.there
-    c.index.ensures c.next-next.ensures.first in
-    comes-settle c.args.parts.now c.args.place c.next-next.result next c.in-Settle.verdict c.in-Settle.is
+    comes-settle (next g (goal.at.refuse-requires-clause-next g c).After-next-next) c.in-Settle.verdict c.in-Settle.is
 
 pub returns-clause-stepped : goal.returns-clause-stepped
 returns-clause-stepped g c is =

@@ -12,8 +12,7 @@ returns-then-place-len g c =
     let low : c.args.caller < length x.places.items = omega (arith, all, c.len.ensures, c.from-place.ensures, c.if-place-len.true) in
     c.is_some.ensures
     ∙ placed-is g.P.Port g.C.Caller x c.self.invariant c.args.caller c.index.result.now
-    (number_read x.places.items c.args.caller c.from-place.result c.index.result.now c.index.result.now c.from-place.ensures low
-    c.index.ensures refl)
+    (number_read x.places.items c.from-place.ensures low c.index.ensures refl)
     ∙ ap (λ (v : CoreState _). has_caller v.opening.scripts c.args.caller) c.self.view_is
 
 pub returns-else-place-len : goal.returns-else-place-len
