@@ -177,7 +177,8 @@ fn open_ports(
     board: &Accepted,
     words: &Arc<Words, Global>,
 ) -> Result<Vec<HoldPort>, AllocError>
-    ensures { IfOk result (λ ports. ports.items ≡ map (opening_port board.now) (range_with_len 0 (length board.now.roots))) }
+    ensures opened { IfOk result (λ ports. ports.items ≡ map (opening_port board.now) (range_with_len 0 (length board.now.roots))) }
+    ensures count { IfOk result (λ ports. vec_len ports ≡ length board.now.roots) }
 {
     let count = board.board().roots().len() as u16;
     let mut ports = Vec::with_capacity(alloc, usize::from(count))?;

@@ -219,7 +219,8 @@ impl Rig for SimRig {
 
 /// The ports of the board's roots, in order.
 fn open_ports(alloc: Global, board: &Accepted) -> Result<Vec<SimPort>, AllocError>
-    ensures { IfOk result (λ ports. ports.items ≡ map (opening_port board.now) (range_with_len 0 (length board.now.roots))) }
+    ensures opened { IfOk result (λ ports. ports.items ≡ map (opening_port board.now) (range_with_len 0 (length board.now.roots))) }
+    ensures count { IfOk result (λ ports. vec_len ports ≡ length board.now.roots) }
 {
     let count = board.board().roots().len() as u16;
     let mut ports = Vec::with_capacity(alloc, usize::from(count))?;
