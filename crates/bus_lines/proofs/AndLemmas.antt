@@ -33,7 +33,7 @@ and_same p q k (x ∷ xs) same =
     sym (ones_first (p k x) rest (and_ones p (k + 1) xs)) ∙ ap (λ a. bit_and a rest) (same k x)
     ∙ ones_first (q k x) rest (and_ones p (k + 1) xs) ∙ ap (bit_and (q k x)) (and_same p q (k + 1) xs same)
 
-and_nobody : {A : Type 0} (q : A → ℕ) (k : ℕ) (xs : List A) → and_by (given_by [] q) k xs ≡ 255
+pub and_nobody : {A : Type 0} (q : A → ℕ) (k : ℕ) (xs : List A) → and_by (given_by [] q) k xs ≡ 255
 and_nobody q k [] = refl
 and_nobody q k (x ∷ xs) = ap (bit_and 255) (and_nobody q (k + 1) xs) ∙ and_self 255
 

@@ -50,10 +50,10 @@ shared_gives_so : (n v : ℕ) (a : ℕ) (j h : Bool) (x : NodeState) (m : Mode) 
 shared_gives_so n v a true h x m k = refl
 shared_gives_so n v a false h x m k = refl
 
-pub gets_coming : (left v : ℕ) (ack : Bool) (bs : List (Bit NodeState)) → 0 < left
+pub gets_coming : (ack : Bool) (left v : ℕ) (bs : List (Bit NodeState)) → 0 < left
     → map (shared left v) bs ≡ map (where_joined (seen (Get ack))) (map (shared left v) bs)
-gets_coming zero v ack bs some = absurd (omega (arith, some))
-gets_coming (suc n) v ack bs some =
+gets_coming ack zero v bs some = absurd (omega (arith, some))
+gets_coming ack (suc n) v bs some =
     seen_each (shared (suc n) v) (shared (suc n) v) (where_joined (seen (Get ack))) bs
     (λ b. shared_gets_so n v ack b.site.addr b.site.joined b.site.heard b.site.state b.mode b.hold)
 

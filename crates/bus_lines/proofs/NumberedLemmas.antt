@@ -215,7 +215,7 @@ pub some_none : {A : Type 0} (p : A → Bool) (xs : List A) → ((i : ℕ) (x : 
 some_none p [] out = refl
 some_none p (x ∷ xs) out = rw (out 0 x refl) (some_none p xs (λ i y is. out (suc i) y is))
 
-nobody_by : {A : Type 0} (p : A → Bool) (k : ℕ) (xs : List A) → some_by (of_those [] p) k xs ≡ false
+pub nobody_by : {A : Type 0} (p : A → Bool) (k : ℕ) (xs : List A) → some_by (of_those [] p) k xs ≡ false
 nobody_by p k [] = refl
 nobody_by p k (x ∷ xs) = nobody_by p (k + 1) xs
 

@@ -45,10 +45,10 @@ shared_acks_so : (n v byte : ℕ) (a : ℕ) (j h : Bool) (x : NodeState) (m : Mo
 shared_acks_so n v byte a true h x m k = refl
 shared_acks_so n v byte a false h x m k = refl
 
-pub puts_coming : (left v byte : ℕ) (bs : List (Bit NodeState)) → 0 < left
+pub puts_coming : (byte left v : ℕ) (bs : List (Bit NodeState)) → 0 < left
     → map (shared left v) bs ≡ map (where_joined (seen (Put byte))) (map (shared left v) bs)
-puts_coming zero v byte bs some = absurd (omega (arith, some))
-puts_coming (suc n) v byte bs some =
+puts_coming byte zero v bs some = absurd (omega (arith, some))
+puts_coming byte (suc n) v bs some =
     seen_each (shared (suc n) v) (shared (suc n) v) (where_joined (seen (Put byte))) bs
     (λ b. shared_puts_so n v byte b.site.addr b.site.joined b.site.heard b.site.state b.mode b.hold)
 

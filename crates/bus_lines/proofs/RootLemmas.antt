@@ -9,13 +9,15 @@ use Rattle.bus_lines.specs.Known.{AreKept, AreListed, ListsJoined}
 use Rattle.bus_lines.specs.declared.root_targets.RootTargets.TheInside.{Inside}
 use Rattle.bus_lines.proofs.AwayLemmas.{units_away, whole_edge, whole_line, whole_rejoined}
 use Rattle.bus_lines.proofs.CalledLemmas.{none_is_slow}
-use Rattle.bus_lines.proofs.EnterLemmas.{mid_are, mid_called}
-use Rattle.bus_lines.proofs.InvariantLemmas.{nodes_fair, seen_as, told_view, called_view, rejoined_are, line_count, line_kinds, line_loose, line_seen}
+use Rattle.bus_lines.proofs.EnterLemmas.{held_none, mid_are, mid_called}
+use Rattle.bus_lines.proofs.InvariantLemmas.{nodes_fair, none_comes, some_comes, seen_as, told_view, called_view, rejoined_are, line_count, line_kinds, line_loose, line_seen}
 use Rattle.bus_lines.proofs.InvariantLemmas.{line_index}
 use Rattle.bus_lines.proofs.KeptLemmas.{edge_held, edge_freed, edge_told, edge_known, fresh_known, fresh_those, fresh_kept, fresh_joined}
 use Rattle.bus_lines.proofs.KeptLemmas.{call_known, call_kept, kept_anew}
 use Rattle.bus_lines.proofs.KnownLemmas.{any_known, anew_is_known}
+use Rattle.bus_lines.proofs.NumberedLemmas.{numbered_itself, nobody_by}
 use Rattle.bus_lines.proofs.UnitLemmas.{IsWithin}
+use Rattle.bus_lines.proofs.Cited.{◌==◌, ◌⊎◌, true, not, cond, inl, inr}
 
 abbrev pub rooted : Inside → Rooted
 rooted i = record { board = i.board.value; root = i.root }
@@ -39,6 +41,16 @@ pub seen_after : (i : Inside) (f : Bit NodeState → Bit NodeState) (count : Cou
     → targets_of (rooted i) xs n ≡ record old { bits = map (where_joined f) old.bits; counts = count old.counts }
 seen_after i f count e m view =
     seen_as (rooted i) e m ∙ ap (λ (v : TargetsView). record v { bits = map (where_joined f) v.bits; counts = count v.counts }) view
+
+-- those that are told are all in the message, or nobody
+told_by : (coming : Bool) (left : ℕ) (ns live : List ℕ) → coming ≡ not (left == 0) → ns ≡ cond coming [] live
+    → ((left ≡ 0) × (ns ≡ live)) ⊎ ((0 < left) × (ns ≡ []))
+told_by true left ns live comes is = inr (some_comes true left comes refl, is)
+told_by false left ns live comes is = inl (none_comes false left comes refl, is)
+
+pub told_either : (left : ℕ) (ns live : List ℕ) → ns ≡ cond (not (left == 0)) [] live
+    → ((left ≡ 0) × (ns ≡ live)) ⊎ ((0 < left) × (ns ≡ []))
+told_either left ns live is = told_by (not (left == 0)) left ns live refl is
 
 module _ (i : Inside) (was : AreListed (rooted i) i.places.items i.held i.address i.live i.started i.called i.at i.bits.items) where
   -- there is room to list all of them once more
@@ -92,6 +104,44 @@ module _ (i : Inside) (was : AreListed (rooted i) i.places.items i.held i.addres
         (told_view (rooted i) i.places.items i.held i.address i.live i.started i.at (bits_in i) was.kept.are e within none
         (known_on i.places.items new)
         (edge_known (rooted i) i.places.items i.held i.address i.live i.started i.at i.bits.items was.kept e within none ns those new is))
+
+  -- .. or to nobody, while an address comes in, to which it is nothing
+  module _ (e : Edge) (within : IsWithin e)
+      (quiet : (left v : ℕ) (bs : List (Bit NodeState)) → 0 < left
+      → map (shared left v) bs ≡ map (where_joined (seen e)) (map (shared left v) bs))
+      (ns : List ℕ) (those : ns ≡ cond (not (i.address.left == 0)) [] i.live.items)
+      (new : List (Bit NodeState)) (is : new ≡ by_number (to_those ns (where_joined (seen e))) 0 i.bits.items) where
+    stays : ns ≡ [] → new ≡ i.bits.items
+    stays none =
+        is ∙ ap (λ ms. by_number (to_those ms (where_joined (seen e))) 0 i.bits.items) none
+        ∙ numbered_itself (to_those [] (where_joined (seen e))) i.bits.items (λ j b here. refl)
+
+    pub edge_held_listed : ((b : Bit NodeState) → holds_line (where_joined (seen e) b) ≡ holds_line b)
+        → AreListed (rooted i) i.places.items i.held i.address i.live i.started i.called i.at new
+    edge_held_listed same =
+        elim (told_either i.address.left ns i.live.items those) [
+          | inl x ↦ held_listed e within x.0 ns x.1 new is same
+          | inr x ↦ subst (AreListed (rooted i) i.places.items i.held i.address i.live i.started i.called i.at) (sym (stays x.1)) was
+        ]
+
+    pub edge_told_listed : (h : Bool) → h ≡ some_by (of_those ns holds_line) 0 new
+        → AreListed (rooted i) i.places.items h i.address i.live i.started i.called i.at new
+    edge_told_listed h holds =
+        elim (told_either i.address.left ns i.live.items those) [
+          | inl x ↦ told_listed e within x.0 ns x.1 new is h holds
+          | inr x ↦ subst (λ (b : Bool). AreListed (rooted i) i.places.items b i.address i.live i.started i.called i.at new)
+              (held_none nodes_fair (rooted i) i.places.items i.held i.address i.live i.started i.at (bits_in i) was.kept.are x.0
+              ∙ sym (holds ∙ ap (λ ms. some_by (of_those ms holds_line) 0 new) x.1 ∙ nobody_by holds_line 0 new))
+              (subst (AreListed (rooted i) i.places.items i.held i.address i.live i.started i.called i.at) (sym (stays x.1)) was)
+        ]
+
+    pub edge_seen : (h : Bool) → AreListed (rooted i) i.places.items h i.address i.live i.started i.called i.at new
+        → seen_in i i.address new ≡ map (where_joined (seen e)) (seen_in i i.address i.bits.items)
+    edge_seen h now =
+        elim (told_either i.address.left ns i.live.items those) [
+          | inl x ↦ told_seen e within x.0 ns x.1 new is h now
+          | inr x ↦ ap (seen_in i i.address) (stays x.1) ∙ quiet i.address.left i.address.value (whole_in i) x.0
+        ]
 
   -- ---- who is joined is read anew of all, a line is set, and it is read anew again
   module _ (qs : List PlaceView) (slice : qs ≡ i.places.items) (all : List (Bit NodeState)) (all_is : all ≡ known_on qs i.bits.items)

@@ -1,5 +1,6 @@
 //! The targets of a root, on its two lines.
-ghost use Rattle.std.specs.Prelude.{◌≡◌, ◌⊎◌, IfOk, false, map, min};
+ghost use Rattle.std.specs.Prelude.{◌≡◌, ◌⊎◌, ◌==◌, IfOk, false, [], cond, map, min, not};
+ghost use Rattle.bus_lines.specs.Numbers.{AreNumbers};
 ghost use Rattle.ports.specs.Causes.{MOST};
 ghost use Rattle.wire_spec.specs.Wires.{rise, fall, tick, begin, finish};
 ghost use Rattle.wire_spec.specs.Roots.{some_one, pulls_line, where_joined, and_all};
@@ -69,6 +70,19 @@ impl Model for RootTargets {
     ghost invariant = { λ t. AreListed (record { board = t.board.value; root = t.root }) t.places.items t.held t.address t.live t.started t.called t.at t.bits.items };
 }
 
+/// Those that an edge within a message is told to: all that are in it, and nobody while an address comes in.
+#[inline(always)]
+fn told<'a>(address: &Register, live: &'a TargetNumbers) -> &'a [u16]
+    ensures value { result.now ≡ cond (not (address.now.left == 0)) [] live.now.items }
+    ensures numbers { AreNumbers live.now.room result.now }
+{
+    if address.is_coming() {
+        &[]
+    } else {
+        live.as_slice()
+    }
+}
+
 impl RootTargets {
     /// The targets of this root as the board is opened.
     pub fn open(alloc: Global, board: &Accepted, root: SegId) -> Result<Self, NoMemory>
@@ -126,10 +140,7 @@ impl RootTargets {
     pub fn pulls_data(&self) -> bool
         ensures { result ≡ some_one (pulls_line node_table) self.now.bits }
     {
-        if self.address.is_coming() {
-            return false;
-        }
-        some_pulls(self.bits.as_slice(), self.live.as_slice())
+        some_pulls(self.bits.as_slice(), told(&self.address, &self.live))
     }
 
     /// How often SCL rose, up to 2^64 - 1.
@@ -223,10 +234,7 @@ impl RootTargets {
         ensures after { self.new ≡ record self.old { bits = map (where_joined (seen (the.Put byte))) self.old.bits; counts = more_edges 9 self.old.counts } }
     {
         self.counter.add_nine();
-        if self.address.is_coming() {
-            return false;
-        }
-        put_all(&mut self.bits, self.live.as_slice(), byte)
+        put_all(&mut self.bits, told(&self.address, &self.live), byte)
     }
 
     /// A byte is read with the controller's answer, all nine clocks at once. The AND of what is sent.
@@ -236,21 +244,16 @@ impl RootTargets {
         ensures after { self.new ≡ record self.old { bits = map (where_joined (seen (the.Get ack))) self.old.bits; counts = more_edges 9 self.old.counts } }
     {
         self.counter.add_nine();
-        if self.address.is_coming() {
-            return 0xff;
-        }
-        get_all(&mut self.bits, self.live.as_slice(), ack)
+        get_all(&mut self.bits, told(&self.address, &self.live), ack)
     }
 
-    /// SCL falls, or was looked at and was low: that is nothing while an address comes in.
+    /// SCL falls, or was looked at and was low.
     #[inline(always)]
     fn see_low(&mut self, edge: Edge)
         requires { (edge ≡ the.Fall) ⊎ (edge ≡ the.Tick) }
         ensures { self.new ≡ record self.old { bits = map (where_joined (seen edge)) self.old.bits } }
     {
-        if !self.address.is_coming() {
-            self.held = tell(&mut self.bits, self.live.as_slice(), edge);
-        }
+        self.held = tell(&mut self.bits, told(&self.address, &self.live), edge);
     }
 
     /// SCL falls.
