@@ -1,6 +1,6 @@
 -- After a message of the caller at a place: the settle that it decides, and all that is kept.
-use Rattle.bus_core.proofs.Cited.{◌≡◌, ◌⊎◌, ℕ, ◌+◌, ◌≤◌, Bool, true, false, List, [], ◌∷◌, ◌++◌, length, reverse, set, Option, Some, refl}
-use Rattle.bus_core.proofs.Cited.{sym, ◌∙◌, ap, subst, arith, inl, inr, reverse-append, append_assoc, Entry, Errno, Reply, Fits}
+use Rattle.bus_core.proofs.Cited.{◌≡◌, ◌⊎◌, ℕ, ◌+◌, ◌≤◌, Bool, true, false, List, [], ◌∷◌, ◌++◌, length, set, Option, Some, refl}
+use Rattle.bus_core.proofs.Cited.{sym, ◌∙◌, ap, subst, arith, inl, inr, append_assoc, Entry, Errno, Reply, Fits}
 use Rattle.bus_core.proofs.Cited.{FitsReads, TransferView, MessageView, JournalView, first_act, rest_of, got_after, message_cut, reply_by}
 use Rattle.bus_core.proofs.Cited.{Call, Settle, Passed, WalkTree, root_ports, RootPort, MsgResult, SeenView, slots_of, LocksView}
 use Rattle.bus_core.proofs.Cited.{Place, has_reply, IsLeft, IsDecided, NextMsg, gone_after, turned_to, next_of, behind_of}
@@ -15,11 +15,11 @@ use Rattle.bus_spec.specs.Walk as walk
 use Rattle.bus_laws.proofs.walk.Next.{quiet-next}
 use Rattle.core_laws.specs.Behind.{message_entry, spoken}
 use Rattle.core_laws.proofs.Laws.{sent-leaves, core-message, core-settled, room-message, bytes-settle}
-use Rattle.bus_core.proofs.Kept.{standing, fair, seated-here, kept-whole, one-kept}
+use Rattle.bus_core.proofs.Kept.{standing, fair, seated-here, one-kept, two-kept}
 use Rattle.bus_core.proofs.Converse.{ComesNext, goes, on-bus, calls, call-left, few, words2, is-sent}
 use Rattle.bus_core.proofs.Heard.{heard-place, heard-got, heard-seated, settle-first, settled-place}
 use Rattle.bus_core.proofs.Reseating.{seated_settled}
-use Rattle.bus_core.proofs.Stepped.{roots-stay, stepped-two}
+use Rattle.bus_core.proofs.RootsStay.{roots-stay}
 
 module _ {P C S : Type 0} {g : PortGhosts P} {c : CallerGhosts C S} {x : CoreInside P C} {place : ℕ} {next : NextMsg} {s : Seat C}
     (kept : IsKept g c x) (m : ComesNext x place next s) {sockets2 : List RootPort} {bytes : List ℕ} {sent : MsgResult}
@@ -118,7 +118,7 @@ module _ {P C S : Type 0} {g : PortGhosts P} {c : CallerGhosts C S} {x : CoreIns
               let script : c.script t.caller ≡ c.script s.caller = ap (λ (y : Seat C). c.script y.caller) heard.same in
               one-kept g c x kept place s here new t same_board seats number script roots seated _ core
               (message_entry s.number next bytes sent) (ap (λ (y : JournalView). y.entries) journal ∙ entries) refl
-              (ap (λ (y : JournalView). y.room) journal) (ap (λ (y : JournalView). y.room + 1) journal ∙ room)
+              (ap (λ (y : JournalView). y.room + 1) journal ∙ room) (ap (λ (y : JournalView). y.room) journal)
               (ap (λ (y : JournalView). y.room_bytes) journal) (ap (set whole.places place) place-is) locks sockets start places refl refl
 
       -- THE SETTLE came
@@ -161,13 +161,9 @@ module _ {P C S : Type 0} {g : PortGhosts P} {c : CallerGhosts C S} {x : CoreIns
               ∙ ap (λ (y : Seat C). x.journal.entries ++ message ∷ entry.Settle y.number reply y.cut ∷ []) heard.same in
               let seated2 = seated_settled c x.board locks2 (roots_of x.ports.items) t u seated verdict made.settled in
               let place2 = settled-place c x.board locks2 (roots_of x.ports.items) verdict t u made.settled reply refl first2
-              ∙ ap (λ (q : Place). record q { tree = rest_of q.tree Passed; owed = reply ∷ []; got = []; cut = cut_at.No }) place-is in (
-                kept-whole g c x kept place s here new u same_board seats number script roots seated2 _ core
-                    (ap reverse all ∙ reverse-append x.journal.entries (message ∷ settle ∷ [])) refl refl
-                    (ap (set whole.places place) place2) locks sockets,
-                stepped-two g c x kept place s here new u same_board seats number script roots start places message settle all
-                    (sym rooms) refl refl refl refl (λ tell. (core.told tell).stepwise),
-              )
+              ∙ ap (λ (q : Place). record q { tree = rest_of q.tree Passed; owed = reply ∷ []; got = []; cut = cut_at.No }) place-is in
+              two-kept g c x kept place s here new u same_board seats number script roots seated2 _ core message settle all refl (sym rooms)
+              refl refl (ap (set whole.places place) place2) locks sockets start places refl refl refl refl
 
       -- EITHER, as it is told
       pub conversed : (u : Seat C) → new.seats.items ≡ set x.seats.items place u → (came : Bool)

@@ -14,7 +14,10 @@ use Rattle.i2c_spec.specs.Cost.{cost_of}
 use Rattle.i2c_spec.proofs.AddressLemmas.{tree_of}
 use Rattle.bus_laws.proofs.Laws.{lines-locked}
 use Rattle.core_laws.specs.Core.{StandsAt, numbers_of}
-use Rattle.core_laws.proofs.Laws.{turn-one}
+use Rattle.core_laws.proofs.Laws.{turn-one, turn-two}
+use Rattle.bus_spec.specs.Legal.{is_stepping}
+use Rattle.bus_spec.specs.Schedule.{Turn}
+use Rattle.bus_laws.specs.Coming.{IsTurn}
 use Rattle.bus_core.specs.Places.{left_of}
 
 -- of what a number names: it is one of the scripts
@@ -142,10 +145,10 @@ module _ {P C S : Type 0} (g : PortGhosts P) (c : CallerGhosts C S) (x : CoreIns
     module _ (new : CoreInside P C) (t : Seat C) (same_board : new.board ≡ x.board) (seats : new.seats.items ≡ set x.seats.items place t)
         (number : t.number ≡ s.number) (script : c.script t.caller ≡ c.script s.caller)
         (roots : roots_of new.ports.items ≡ roots_of x.ports.items) where
-      pub new-scripts : scripts_of c new.seats.items ≡ scripts_of c x.seats.items
+      new-scripts : scripts_of c new.seats.items ≡ scripts_of c x.seats.items
       new-scripts = ap (scripts_of c) seats ∙ same_scripts c x.seats.items place s t here number script
 
-      pub kept-by : IsSeated c board (roots_of x.ports.items) t → (held : List (List LockId)) (owes : List ℕ)
+      kept-by : IsSeated c board (roots_of x.ports.items) t → (held : List (List LockId)) (owes : List ℕ)
           → CoreKept (run_of g c x) (record {
             past = reverse new.journal.entries;
             room = new.journal.room;
@@ -185,7 +188,7 @@ module _ {P C S : Type 0} (g : PortGhosts P) (c : CallerGhosts C S) (x : CoreIns
           behind ps = record (whole_of g c new held owes) { places = ps }
 
       -- .. where the plain lists are these
-      pub kept-whole : IsSeated c board (roots_of x.ports.items) t → (w : Whole) → CoreKept (run_of g c x) w
+      kept-whole : IsSeated c board (roots_of x.ports.items) t → (w : Whole) → CoreKept (run_of g c x) w
           → reverse new.journal.entries ≡ w.past → new.journal.room ≡ w.room → new.journal.room_bytes ≡ w.room_bytes
           → set whole.places place (place_of c t) ≡ w.places
           → new.locks ≡ w.locks → root_ports g new.ports.items ≡ w.sockets → IsKept g c new
@@ -209,44 +212,58 @@ module _ {P C S : Type 0} (g : PortGhosts P) (c : CallerGhosts C S) (x : CoreIns
             sockets = sym sockets i;
           }
 
-      -- A STEP of one entry, which isn't a settle
-      stepped-one : new.start ≡ x.start → new.places ≡ x.places → (e : Entry) → new.journal.entries ≡ x.journal.entries ++ e ∷ []
-          → new.journal.room + 1 ≡ x.journal.room
-          → is_settle e ≡ false → caller_of e ≡ s.number
-          → (IsTrue g.tells → IsStepwise board MOST_CALLERS (asks_in c x) (e ∷ reverse x.journal.entries)) → HasStepped g c place x new
-      stepped-one start places e entries room none own steps =
-          let count : length new.journal.entries ≡ length x.journal.entries + 1 = ap length entries
-          ∙ length-append x.journal.entries (e ∷ []) in
-          record {
-            board = same_board;
-            start = start;
-            scripts = new-scripts;
-            roots = roots;
-            places = places;
-            room = omega (arith, room);
-            counted = omega (arith, room, count);
-            turn = λ tell s2 at.
-                let is : s ≡ s2 = (let f : Some s ≡ Some s2 = sym here ∙ at in cc) in
-                record {
-                  turn = record { caller = caller_of e; entries = e ∷ [] };
-                  own = own ∙ ap (λ (y : Seat C). y.number) is;
-                  comes = turn-one board MOST_CALLERS (asks_in c x) (reverse x.journal.entries) e (steps tell) none;
-                  entries = entries;
-                };
-          }
+      -- A STEP of the schedule that its caller made, where the plain lists after it are these
+      pub turn-kept : IsSeated c board (roots_of x.ports.items) t → (w : Whole) → CoreKept (run_of g c x) w → (made : Turn)
+          → made.caller ≡ s.number → new.journal.entries ≡ x.journal.entries ++ made.entries
+          → reverse (x.journal.entries ++ made.entries) ≡ w.past → 1 ≤ length made.entries
+          → new.journal.room + length made.entries ≡ x.journal.room → new.journal.room ≡ w.room → new.journal.room_bytes ≡ w.room_bytes
+          → set whole.places place (place_of c t) ≡ w.places → new.locks ≡ w.locks → root_ports g new.ports.items ≡ w.sockets
+          → new.start ≡ x.start → new.places ≡ x.places → (IsTrue g.tells → IsTurn board MOST_CALLERS (asks_in c x) whole.past made)
+          → IsKept g c new × HasStepped g c place x new
+      turn-kept seated w core made own entries past some less room room_bytes at locks sockets start places comes =
+          let count : length new.journal.entries ≡ length x.journal.entries + length made.entries = ap length entries
+          ∙ length-append x.journal.entries made.entries in (
+            kept-whole seated w core (ap reverse entries ∙ past) room room_bytes at locks sockets,
+            record {
+              board = same_board;
+              start = start;
+              scripts = new-scripts;
+              roots = roots;
+              places = places;
+              room = omega (arith, less, some);
+              counted = omega (arith, less, count);
+              turn = λ tell s2 to.
+                  let is : s ≡ s2 = (let f : Some s ≡ Some s2 = sym here ∙ to in cc) in
+                  record { turn = made; own = own ∙ ap (λ (y : Seat C). y.number) is; comes = comes tell; entries = entries };
+            },
+          )
 
-      -- .. where the plain lists after it are these
+      -- .. of one entry, which isn't a settle
       pub one-kept : IsSeated c board (roots_of x.ports.items) t → (w : Whole) → CoreKept (run_of g c x) w
           → (e : Entry) → new.journal.entries ≡ x.journal.entries ++ e ∷ [] → e ∷ whole.past ≡ w.past
-          → new.journal.room ≡ w.room → new.journal.room + 1 ≡ x.journal.room → new.journal.room_bytes ≡ w.room_bytes
+          → new.journal.room + 1 ≡ x.journal.room → new.journal.room ≡ w.room → new.journal.room_bytes ≡ w.room_bytes
           → set whole.places place (place_of c t) ≡ w.places → new.locks ≡ w.locks → root_ports g new.ports.items ≡ w.sockets
           → new.start ≡ x.start → new.places ≡ x.places → is_settle e ≡ false → caller_of e ≡ s.number
           → IsKept g c new × HasStepped g c place x new
-      one-kept seated w core e entries past room less room_bytes at locks sockets start places none own = (
-        kept-whole seated w core (ap reverse entries ∙ reverse-append x.journal.entries (e ∷ []) ∙ past) room room_bytes at locks sockets,
-        stepped-one start places e entries less none own
-            (λ tell. subst (λ (es : List Entry). IsStepwise board MOST_CALLERS (asks_in c x) es) (sym past) (core.told tell).stepwise),
-      )
+      one-kept seated w core e entries past less room room_bytes at locks sockets start places none own =
+          turn-kept seated w core (record { caller = caller_of e; entries = e ∷ [] }) own entries
+          (reverse-append x.journal.entries (e ∷ []) ∙ past) (omega arith) less room room_bytes at locks sockets start places
+          (λ tell. turn-one board MOST_CALLERS (asks_in c x) whole.past e
+          (subst (λ (es : List Entry). IsStepwise board MOST_CALLERS (asks_in c x) es) (sym past) (core.told tell).stepwise) none)
+
+      -- .. and of two, a message or a line step with its settle
+      pub two-kept : IsSeated c board (roots_of x.ports.items) t → (w : Whole) → CoreKept (run_of g c x) w
+          → (e f : Entry) → new.journal.entries ≡ x.journal.entries ++ e ∷ f ∷ [] → f ∷ e ∷ whole.past ≡ w.past
+          → new.journal.room + 2 ≡ x.journal.room → new.journal.room ≡ w.room → new.journal.room_bytes ≡ w.room_bytes
+          → set whole.places place (place_of c t) ≡ w.places → new.locks ≡ w.locks → root_ports g new.ports.items ≡ w.sockets
+          → new.start ≡ x.start → new.places ≡ x.places → is_stepping e ≡ true → is_settle f ≡ true → caller_of e ≡ s.number
+          → caller_of f ≡ s.number → IsKept g c new × HasStepped g c place x new
+      two-kept seated w core e f entries past less room room_bytes at locks sockets start places steps settles own owns =
+          turn-kept seated w core (record { caller = caller_of e; entries = e ∷ f ∷ [] }) own entries
+          (reverse-append x.journal.entries (e ∷ f ∷ []) ∙ past) (omega arith) less room room_bytes at locks sockets start places
+          (λ tell. turn-two board MOST_CALLERS (asks_in c x) whole.past e f
+          (subst (λ (es : List Entry). IsStepwise board MOST_CALLERS (asks_in c x) es) (sym past) (core.told tell).stepwise)
+          (owns ∙ sym own) steps settles)
 
 -- THE CALLER AT A PLACE, as the laws of the core speak of it: the run, where all stand, its own place, the locks that it has, and
 -- what it owes

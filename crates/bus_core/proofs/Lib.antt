@@ -12,7 +12,7 @@ pub mod Locks
 pub mod ReadsRoom
 pub mod Converse
 pub mod Heard
-pub mod Stepped
+pub mod RootsStay
 pub mod Conversed
 pub mod Refuse
 pub mod Switch

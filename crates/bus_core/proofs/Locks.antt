@@ -107,7 +107,7 @@ module _ {P C S : Type 0} {g : PortGhosts P} {c : CallerGhosts C S} {x : CoreIns
         let bytes : new.journal.room_bytes ≡ x.journal.room_bytes = omega (arith, room_bytes) in
         one-kept g c x kept place s here new t same_board seats (ap (λ (y : Seat C). y.number) went.same)
         (ap (λ (y : Seat C). c.script y.caller) went.same) (ap (λ (y : _). roots_of y.items) ports) seated _ core
-        (entry.Take s.number l) entries refl refl room bytes
+        (entry.Take s.number l) entries refl room refl bytes
         (ap (set whole.places place) (went-place c s t _ cut_at.No went.same went.walk)) locks
         (ap (λ (y : _). root_ports g y.items) ports) start places refl refl
 
@@ -164,7 +164,7 @@ module _ {P C S : Type 0} {g : PortGhosts P} {c : CallerGhosts C S} {x : CoreIns
     by-whole number script q is ks m core =
         let bytes : new.journal.room_bytes ≡ x.journal.room_bytes = omega (arith, room_bytes) in
         one-kept g c x kept place s here new t same_board seats number script (ap (λ (y : _). roots_of y.items) ports) freed.seated _ core
-        (entry.Free s.number l) entries refl refl room bytes (ap (set whole.places place) is) locks
+        (entry.Free s.number l) entries refl room refl bytes (ap (set whole.places place) is) locks
         (ap (λ (y : _). root_ports g y.items) ports) start places refl refl
 
     freed-on : is_over (behind_of x.locks (walk_left s) Passed) ≡ false → IsKept g c new × HasStepped g c place x new

@@ -1,7 +1,7 @@
 -- A refused transfer of the caller at a place: its lone settle, and the next one loaded.
-use Rattle.bus_core.proofs.Cited.{◌≡◌, ℕ, ◌+◌, ◌-◌, IsTrue, List, [], ◌∷◌, ◌++◌, length, reverse, set, Option, Some, None, refl, sym, ◌∙◌}
-use Rattle.bus_core.proofs.Cited.{ap, subst, arith, slice_get, reverse-append, length-append, Entry, Errno, LockId, Reply, MOST_CALLERS}
-use Rattle.bus_core.proofs.Cited.{TransferView, walk_for, IsStepwise, Settle, Then, Ends, root_ports, with_place, begun_with, Place, Whole}
+use Rattle.bus_core.proofs.Cited.{◌≡◌, ℕ, ◌+◌, ◌-◌, List, [], ◌∷◌, ◌++◌, set, Option, Some, None, refl, sym, ◌∙◌}
+use Rattle.bus_core.proofs.Cited.{ap, arith, slice_get, reverse-append, Entry, Errno, LockId, Reply, MOST_CALLERS}
+use Rattle.bus_core.proofs.Cited.{TransferView, walk_for, Settle, Then, Ends, root_ports, with_place, begun_with, Place}
 use Rattle.bus_core.proofs.Cited.{CoreKept, IsLone, next_of, settle-errs, going-asks, room-one, roots_of, IsKept, HasStepped, walk_left}
 use Rattle.bus_core.proofs.Cited.{place_of, MayRefuse, IsRefusedIn, CoreInside, Seat, over_ends}
 use Rattle.i2c_base.specs.declared.caller.Caller.{Ghosts as CallerGhosts}
@@ -10,7 +10,7 @@ use Rattle.i2c_base.specs.declared.reply.Reply.TheVariants as answer
 use Rattle.ports.specs.declared.port.Port.{Ghosts as PortGhosts}
 use Rattle.bus_spec.specs.Grammar.{plain}
 use Rattle.core_laws.proofs.Laws.{core-lone, core-lone-finished, settle-lone, lone-due, turn-lone}
-use Rattle.bus_core.proofs.Kept.{standing, fair, seated-here, asks-here, wired-here, new-scripts, kept-whole}
+use Rattle.bus_core.proofs.Kept.{standing, fair, seated-here, asks-here, wired-here, turn-kept}
 use Rattle.bus_core.proofs.Locks.{ended-place}
 
 module _ {P C S : Type 0} (g : PortGhosts P) (c : CallerGhosts C S) (x : CoreInside P C) (kept : IsKept g c x) (place : ℕ) (s : Seat C)
@@ -46,45 +46,16 @@ module _ {P C S : Type 0} (g : PortGhosts P) (c : CallerGhosts C S) (x : CoreIns
     roots : roots_of new.ports.items ≡ roots_of x.ports.items
     roots = ap (λ (y : _). roots_of y.items) ports
 
-    past : reverse new.journal.entries ≡ settle ∷ reverse x.journal.entries
-    past = ap reverse refused.entries ∙ reverse-append x.journal.entries (settle ∷ [])
-
-    -- A STEP of a lone settle
-    stepped : (IsTrue g.tells → (w : Whole) × (w.past ≡ settle ∷ reverse x.journal.entries) × CoreKept run w) → HasStepped g c place x new
-    stepped told =
-        let count : length new.journal.entries ≡ length x.journal.entries + 1 = ap length refused.entries
-        ∙ length-append x.journal.entries (settle ∷ []) in
-        let room = refused.room in
-        record {
-          board = same_board;
-          start = start;
-          scripts = new-scripts g c x kept place s here new t same_board seats refused.ended.number refused.ended.handed.script roots;
-          roots = roots;
-          places = places;
-          room = omega (arith, room);
-          counted = omega (arith, room, count);
-          turn = λ tell s2 is.
-              let same : s ≡ s2 = (let h : Some s ≡ Some s2 = sym here ∙ is in cc) in
-              let w = told tell in
-              record {
-                turn = record { caller = s.number; entries = settle ∷ [] };
-                own = ap (λ (y : Seat C). y.number) same;
-                comes = turn-lone x.board MOST_CALLERS run.asks (reverse x.journal.entries) settle
-                    (subst (λ (es : List Entry). IsStepwise x.board MOST_CALLERS run.asks es) w.1 (w.2.told tell).stepwise)
-                    (lone-due run whole kept.kept tell place p at lone.0);
-                entries = refused.entries;
-              };
-        }
-
     by-whole : (q : Place) → place_of c t ≡ q → (ks : List LockId) (m : ℕ)
         → CoreKept run (record (with_place whole place q ks m) { past = settle ∷ whole.past; room = new.journal.room })
         → IsKept g c new × HasStepped g c place x new
-    by-whole q is ks m core = (
-      kept-whole g c x kept place s here new t same_board seats refused.ended.number refused.ended.handed.script roots refused.seated _ core
-          past refl refused.room_bytes (ap (set whole.places place) is) locks
-          (ap (λ (y : _). root_ports g y.items) ports),
-      stepped (λ tell. (record (with_place whole place q ks m) { past = settle ∷ whole.past; room = new.journal.room }, refl, core)),
-    )
+    by-whole q is ks m core =
+        turn-kept g c x kept place s here new t same_board seats refused.ended.number refused.ended.handed.script roots refused.seated _
+        core (record { caller = s.number; entries = settle ∷ [] }) refl refused.entries (reverse-append x.journal.entries (settle ∷ []))
+        (omega arith) refused.room refl refused.room_bytes (ap (set whole.places place) is) locks
+        (ap (λ (y : _). root_ports g y.items) ports) start places
+        (λ tell. turn-lone x.board MOST_CALLERS run.asks whole.past settle (core.told tell).stepwise
+        (lone-due run whole kept.kept tell place p at lone.0))
 
     pub refused-kept : IsKept g c new × HasStepped g c place x new
     refused-kept = by (c.asked (c.script t.caller) (c.taken t.caller)) refl

@@ -1,6 +1,6 @@
 -- A line step of the caller at a place: it may be done, and after it all is kept, with the settle that it decides.
-use Rattle.bus_core.proofs.Cited.{◌≡◌, ◌⊎◌, ℕ, ◌+◌, ◌<◌, ◌≤◌, Bool, true, false, IsTrue, List, [], ◌∷◌, ◌++◌, length, reverse, set, Option}
-use Rattle.bus_core.proofs.Cited.{Some, None, refl, sym, ◌∙◌, ap, subst, arith, inl, inr, slice_get, reverse-append, append_assoc, Entry}
+use Rattle.bus_core.proofs.Cited.{◌≡◌, ◌⊎◌, ℕ, ◌+◌, ◌<◌, ◌≤◌, Bool, true, false, IsTrue, List, [], ◌∷◌, ◌++◌, length, set, Option}
+use Rattle.bus_core.proofs.Cited.{Some, None, refl, sym, ◌∙◌, ap, subst, arith, inl, inr, slice_get, append_assoc, Entry}
 use Rattle.bus_core.proofs.Cited.{Errno, Reply, BoardView, MOST_CALLERS, TransferView, buses, root_of, World, JournalView, first_act}
 use Rattle.bus_core.proofs.Cited.{first_note, is_over, rest_of, seen, now, reply_by, Act, Job, Shift, Settle, Lined, Passed, WalkTree}
 use Rattle.bus_core.proofs.Cited.{line_mux, line_level, IsJobOf, root_ports, MayShift, Shifted, RootPort, tells-after, on-after, MayMark}
@@ -29,12 +29,12 @@ use Rattle.bus_laws.proofs.past.Laws.{past-stands}
 use Rattle.core_laws.specs.Behind.{line_entry, switched}
 use Rattle.core_laws.specs.Core.{IsShifted}
 use Rattle.core_laws.proofs.Laws.{lined-leaves, core-lined, core-line-settled, room-line, log-line, line-wants, shift-wants, shift-root}
-use Rattle.bus_core.proofs.Kept.{standing, fair, seated-here, kept-whole, one-kept}
+use Rattle.bus_core.proofs.Kept.{standing, fair, seated-here, one-kept, two-kept}
 use Rattle.bus_core.proofs.Converse.{port, length-applied, holds_mux, updates-held, switched-on, marks-on}
 use Rattle.bus_core.proofs.Heard.{went-on-place, settle-first, settled-place}
 use Rattle.bus_core.proofs.Reseating.{seated_on, seated_settled}
 use Rattle.bus_core.proofs.SeatLemmas.{read_comes}
-use Rattle.bus_core.proofs.Stepped.{roots-stay, stepped-two}
+use Rattle.bus_core.proofs.RootsStay.{roots-stay}
 use Rattle.bus_core.specs.Kept.{HasShift}
 
 -- a gpio mux is switched by a line
@@ -249,7 +249,7 @@ module _ {P C S : Type 0} {g : PortGhosts P} {c : CallerGhosts C S} {x : CoreIns
                   let script : c.script t.caller ≡ c.script s.caller = ap (λ (y : Seat C). c.script y.caller) went.same in
                   one-kept g c x kept place s here new t same_board seats number script roots seated _ core
                   (line_entry p job failed) (ap (λ (y : JournalView). y.entries) journal ∙ entries) refl
-                  (ap (λ (y : JournalView). y.room) journal) (ap (λ (y : JournalView). y.room + 1) journal ∙ room)
+                  (ap (λ (y : JournalView). y.room + 1) journal ∙ room) (ap (λ (y : JournalView). y.room) journal)
                   (ap (λ (y : JournalView). y.room_bytes) journal ∙ same_bytes) (ap (set whole.places place) place-is)
                   locks sockets start places refl refl
 
@@ -292,13 +292,9 @@ module _ {P C S : Type 0} {g : PortGhosts P} {c : CallerGhosts C S} {x : CoreIns
                   let place2 = settled-place c x.board locks2 (roots_of x.ports.items) verdict t u made.settled
                   (answer.Err err) reply first2
                   ∙ ap (λ (q : Place). record q { tree = rest_of q.tree Passed; owed = answer.Err err ∷ []; got = []; cut = cut_at.No })
-                  place-is in (
-                    kept-whole g c x kept place s here new u same_board seats number script roots seated2 _ core
-                        (ap reverse all ∙ reverse-append x.journal.entries (line ∷ settle ∷ [])) refl bytes
-                        (ap (set whole.places place) place2) locks sockets,
-                    stepped-two g c x kept place s here new u same_board seats number script roots start places line settle all
-                        (sym rooms) refl refl refl refl (λ tell. (core.told tell).stepwise),
-                  )
+                  place-is in
+                  two-kept g c x kept place s here new u same_board seats number script roots seated2 _ core line settle all refl
+                  (sym rooms) refl bytes (ap (set whole.places place) place2) locks sockets start places refl refl refl refl
 
           -- EITHER, as it is told
           pub line-done : (u : Seat C) → new.seats.items ≡ set x.seats.items place u → (came : Bool)
