@@ -1,10 +1,11 @@
 -- How a call of `atr` ends: what each refusal of its files comes from, and what a run of them comes to. No induction.
-use Rattle.i2c_top.proofs.Cited.{◌≡◌, ℕ, ◌+◌, ◌<◌, ◌≤◌, ◌⊎◌, inl, inr, Bool, IsTrue, false, List, length, Some, Result, Ok, Err, refl, sym}
-use Rattle.i2c_top.proofs.Cited.{◌∙◌, ap, subst, arith, IfOk, OnOk, IfErr, take_all, CallerView, PortCall, BoardView, TargetState, MapView}
-use Rattle.i2c_top.proofs.Cited.{IsMapOf, MapFault, Rose, counted, CameToRefusal, CameToSuccess, HasEndedAs, Files, TellsItsFiles}
+use Rattle.i2c_top.proofs.Cited.{IsRunOver}
+use Rattle.i2c_top.proofs.Cited.{◌≡◌, ℕ, ◌+◌, ◌<◌, ◌≤◌, inl, inr, Bool, IsTrue, List, length, Some, Result, Ok, Err, refl, sym}
+use Rattle.i2c_top.proofs.Cited.{◌∙◌, ap, subst, arith, IfOk, IfErr, take_all, CallerView, PortCall, BoardView, TargetState, MapView}
+use Rattle.i2c_top.proofs.Cited.{IsMapOf, MapFault, Rose, CameToRefusal, CameToSuccess, HasEndedAs, Files, TellsItsFiles}
 use Rattle.i2c_top.proofs.Cited.{KeepsShelf, HasBadMap, AreScriptsIn, HasReadSomeMap, IsAcceptedIn, IsRejectedIn, IsRefusedAt}
 use Rattle.i2c_top.proofs.Cited.{IsRefusedScript, IsScheduleIn, IsBadBoard, IsTooDear, MOST_COST, cost_of_texts, texts_of, script_name}
-use Rattle.i2c_top.proofs.Cited.{HasBadSchedule, HasBadScript, HasScripts, texts_in, ShelfView, RigView, Outside, KeepsBut, IsAtMostOnce}
+use Rattle.i2c_top.proofs.Cited.{HasBadSchedule, HasBadScript, HasScripts, texts_in, ShelfView, RigView, Outside, KeepsBut}
 use Rattle.i2c_top.proofs.Cited.{AtrNames, HasAtrFiles, HasAtrRun, HasAtrTexts, HasMapped, as_run, atr_form, HasScriptsBefore, Status}
 use Rattle.addr_atr.specs.declared.fault.MapFault.TheVariants as fault
 use Rattle.i2c_top.specs.Readings.{HasReadMap, IsMapIn, IsBadMap, IsBadSchedule}
@@ -267,41 +268,37 @@ module _ (file : Files) (names : AtrNames) (b : BoardView) (m : MapView) (texts 
 module _ (names : AtrNames) (shelf shelf_now : ShelfView) (rig rig_now : RigView) (b : BoardView) (m : MapView) (texts : List (List ℕ))
     (words : List ℕ) (some : HasReadSomeMap names b m texts words) (read : IsTrue shelf.tells → HasReadMap shelf.file names b m texts words)
     (cheap : cost_of_texts b texts ≤ MOST_COST)
-    (kept : KeepsShelf (atr_form names) shelf shelf_now) (plugs : rig_now.plugs ≡ counted rig.plugs)
-    (unplugged : rig_now.plugged ≡ false) where
+    (kept : KeepsShelf (atr_form names) shelf shelf_now) where
   files : IsTrue shelf.tells → HasAtrFiles shelf.file names
   files t = files_of shelf.file names b m texts words (read t) cheap
 
   -- one that ended is a success of the form by its report
-  pub atr_done : {X : Type 0} (r : Result X Status) (bytes_of : X → List ℕ) → OnOk r (rig_now.unplugs ≡ counted rig.unplugs)
+  pub atr_done : (r : Result (List ℕ) Status) → IsRunOver rig rig_now r
       → (IsTrue rig_now.tells → IsTrue rig_now.ports_tell
-      → IfOk r (λ x. HasAtrRun m texts words (bytes_of x) rig_now.logs rig_now.states rig_now.counts))
-      → IfOk r (λ x. CameToSuccess (atr_form names) shelf shelf_now rig rig_now (bytes_of x))
-  atr_done (Ok x) bytes_of unplugs run =
-      came_to_success (atr_form names) shelf shelf_now rig rig_now (bytes_of x) (when names shelf files)
-      (record { plugs = plugs; unplugs = unplugs; unplugged = unplugged })
+      → IfOk r (λ bytes. HasAtrRun m texts words bytes rig_now.logs rig_now.states rig_now.counts))
+      → IfOk r (λ bytes. CameToSuccess (atr_form names) shelf shelf_now rig rig_now bytes)
+  atr_done (Ok bytes) over run =
+      came_to_success (atr_form names) shelf shelf_now rig rig_now bytes (when names shelf files)
+      (record { plugs = over.plugs; unplugs = over.unplugs; unplugged = over.unplugged })
       (record {
         by_files = λ t tells ports.
-            report_of_files shelf.file names b m texts words (read t) cheap (bytes_of x) rig_now.logs rig_now.states rig_now.counts
+            report_of_files shelf.file names b m texts words (read t) cheap bytes rig_now.logs rig_now.states rig_now.counts
             (run tells ports);
         by_rig = record {
           file = some.file;
           called = some.called;
           like = some.like;
           so = λ tells ports.
-              report_of_files some.file some.called b m texts words some.so cheap (bytes_of x) rig_now.logs rig_now.states rig_now.counts
+              report_of_files some.file some.called b m texts words some.so cheap bytes rig_now.logs rig_now.states rig_now.counts
               (run tells ports);
         };
       }) kept
-  atr_done (Err e) bytes_of unplugs run = tt
+  atr_done (Err e) over run = tt
 
   -- one that failed is a refusal of it
-  pub atr_failed : {X : Type 0} (r : Result X Status) → (r ≡ Err status.Rig → rig_now.unplugs ≡ rig.unplugs)
-      → IsAtMostOnce rig.unplugs rig_now.unplugs
-      → (r ≡ Err status.Rig → Rose rig.faults rig_now.faults) → IfErr r (λ e. (e ≡ status.Rig) ⊎ (e ≡ status.Memory))
+  pub atr_failed : (r : Result (List ℕ) Status) → IsRunOver rig rig_now r
       → IfErr r (CameToRefusal (atr_form names) shelf shelf_now rig rig_now)
-  atr_failed r unplugs once rose failed =
-      run_refused (atr_form names) shelf shelf_now rig rig_now r refl (when names shelf files) kept plugs unplugged unplugs once rose failed
+  atr_failed r = run_refused (atr_form names) shelf shelf_now rig rig_now r refl (when names shelf files) kept
 
 -- a success was the report
 pub ended_translated : (names : AtrNames) (old new : Outside) (result : Status) → HasEndedAs (atr_form names) old new result
@@ -310,22 +307,31 @@ pub ended_translated : (names : AtrNames) (old new : Outside) (result : Status) 
 ended_translated names old new result h shelf sink rig ports ok =
     let s = h.said ok in record { bytes = s.text; report = s.answer.by_files shelf rig ports; written = s.written sink }
 
--- what is read one after the other is read of the form's files
+-- what is read one after the other is read of the form's files: the board,
+pub kept_board : (names : AtrNames) (a b : ShelfView) → KeepsBut (λ p. p ≡ 1) a b → KeepsBut (IsAtrPlace names) a b
+kept_board names a b k =
+    record {
+      words = k.words;
+      files = k.files;
+      others = λ p no. k.others p (λ e. no (record { first = omega (arith, e); last = omega (arith, e) }));
+    }
+
+-- .. the scripts,
 pub kept_scripts : (names : AtrNames) (n : ℕ) (a b c : ShelfView) → length names.scripts ≡ n → KeepsBut (λ p. p ≡ 1) a b
     → KeepsBut (λ p. (4 ≤ p) × (p < 4 + n)) b c → KeepsBut (IsAtrPlace names) a c
-kept_scripts names n a b c many =
-    kept_then (λ p. p ≡ 1) (λ p. (4 ≤ p) × (p < 4 + n)) (IsAtrPlace names) a b c
-    (λ p e. record { first = omega (arith, e); last = omega (arith, e) })
-    (λ p h. record { first = omega (arith, h.0); last = omega (arith, h.1, many) })
+kept_scripts names n a b c many board =
+    kept_then (IsAtrPlace names) (λ p. (4 ≤ p) × (p < 4 + n)) (IsAtrPlace names) a b c (λ p h. h)
+    (λ p h. record { first = omega (arith, h.0); last = omega (arith, h.1, many) }) (kept_board names a b board)
 
+-- .. and the map or the schedule, each by its place;
 pub kept_more : (names : AtrNames) (place : ℕ) (a b c : ShelfView) → 1 ≤ place → place < 4 → KeepsBut (IsAtrPlace names) a b
     → KeepsBut (λ p. p ≡ place) b c → KeepsBut (IsAtrPlace names) a c
 kept_more names place a b c low high =
     kept_then (IsAtrPlace names) (λ p. p ≡ place) (IsAtrPlace names) a b c (λ p h. h)
     (λ p e. record { first = omega (arith, e, low); last = omega (arith, e, high) })
 
--- what was read at these places was read of the form's files
-pub some_kept : (names : AtrNames) (P : ℕ → Type 0) (a b : ShelfView) → ((p : ℕ) → P p → IsAtrPlace names p) → KeepsBut P a b
-    → KeepsShelf (atr_form names) a b
-some_kept names P a b within k =
-    record { words = k.words; files = k.files; others = λ p no. k.others p (λ at. no (within p at)) }
+-- the map is at 2
+pub kept_map : (names : AtrNames) (n : ℕ) (a b c d : ShelfView) → length names.scripts ≡ n → KeepsBut (λ p. p ≡ 1) a b
+    → KeepsBut (λ p. (4 ≤ p) × (p < 4 + n)) b c → KeepsBut (λ p. p ≡ 2) c d → KeepsBut (IsAtrPlace names) a d
+kept_map names n a b c d many board scripts =
+    kept_more names 2 a c d (omega arith) (omega arith) (kept_scripts names n a b c many board scripts)

@@ -5,7 +5,7 @@ use Rattle.i2c_top.proofs.Cited.{slice_get, option_map, option_map_or, length-ma
 use Rattle.i2c_top.proofs.Cited.{lowered, MapView, PortCall, Reply, BoardView, Asks, IsPlainBoard, MeetsRules, TargetState, report_of}
 use Rattle.i2c_top.proofs.Cited.{IsOpened, commands_of, cost_of_script, section_text, CallerView, script_on, asks_in, printed_in}
 use Rattle.i2c_top.proofs.Cited.{scripts_in, AreReady, left_in, HasRunOfAny, IsRunBy, AreOpened, asks_by, printed_by, texts_of}
-use Rattle.i2c_top.proofs.Cited.{cost_of_texts, behind_of, HasAtrRun}
+use Rattle.i2c_top.proofs.Cited.{cost_of_texts, behind_of, HasAtrRun, Result, Ok, Err, IfOk, Status}
 use Rattle.addr_atr.specs.Callers.{AtrView, data_of, board_of, asked_by, left_of, owed_by}
 use Rattle.addr_atr.specs.Lowering.{translated}
 use Rattle.addr_atr.specs.Runs.{translated_asks}
@@ -107,7 +107,7 @@ module _ (m : MapView) (texts : List (List ℕ)) where
         }
 
 -- the run of callers behind translators is that of their texts
-pub behind-run : (m : MapView) (scripts : List CallerView) → AreOpened m.board scripts → (words bytes : List ℕ)
+behind-run : (m : MapView) (scripts : List CallerView) → AreOpened m.board scripts → (words bytes : List ℕ)
     (logs : List (List PortCall))
     (states : List TargetState) (counts : List ℕ)
     → HasRunOfAny asked_by section_by (lowered m.board m.translators)
@@ -115,3 +115,18 @@ pub behind-run : (m : MapView) (scripts : List CallerView) → AreOpened m.board
     → HasAtrRun m (texts_of scripts) words bytes logs states counts
 behind-run m scripts opened =
     translated-run m (texts_of scripts) (scripts_in atr_row (map (behind_of m) scripts)) (behind-scripts m scripts opened)
+
+-- .. as what came of it is told
+pub behind-ran : (m : MapView) (scripts : List CallerView) → AreOpened m.board scripts → {b : BoardView} {callers : List AtrCallerView}
+    {listed words : List ℕ} (logs : List (List PortCall)) (states : List TargetState) (counts : List ℕ)
+    → b ≡ lowered m.board m.translators → callers ≡ map (behind_of m) scripts → listed ≡ words → (r : Result (List ℕ) Status)
+    → IfOk r (λ bytes. HasRunOfAny asked_by section_by b (scripts_in atr_row callers) listed bytes logs states counts)
+    → IfOk r (λ bytes. HasAtrRun m (texts_of scripts) words bytes logs states counts)
+behind-ran m scripts opened {b} {callers} {listed} {words} logs states counts board are same (Ok bytes) run =
+    let of = λ (k : BoardView) (cs : List AtrCallerView) (ws : List ℕ).
+    HasRunOfAny asked_by section_by k (scripts_in atr_row cs) ws bytes logs states counts in
+    behind-run m scripts opened words bytes logs states counts
+    (subst (of (lowered m.board m.translators) (map (behind_of m) scripts)) same
+    (subst (λ (cs : List AtrCallerView). of (lowered m.board m.translators) cs listed) are
+    (subst (λ (k : BoardView). of k callers listed) board run)))
+behind-ran m scripts opened logs states counts board are same (Err e) run = tt

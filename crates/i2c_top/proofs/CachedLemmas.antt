@@ -1,6 +1,7 @@
 -- How a call of `cached` ends: its report, and what its status tells. No induction.
-use Rattle.i2c_top.proofs.Cited.{◌≡◌, ℕ, ◌≤◌, false, IsTrue, IsSome, List, [], Option, Some, Result, Ok, Err, sym, ◌∙◌, subst, IfOk, OnOk}
-use Rattle.i2c_top.proofs.Cited.{unwrap_or, PortCall, BoardView, TargetState, counted, CameToSuccess, HasEndedAs, HasRead, HasReadSome}
+use Rattle.i2c_top.proofs.Cited.{IsRunOver}
+use Rattle.i2c_top.proofs.Cited.{◌≡◌, ℕ, ◌≤◌, IsTrue, IsSome, List, [], Option, Some, Result, Ok, Err, sym, ◌∙◌, subst, IfOk}
+use Rattle.i2c_top.proofs.Cited.{unwrap_or, PortCall, BoardView, TargetState, CameToSuccess, HasEndedAs, HasRead, HasReadSome}
 use Rattle.i2c_top.proofs.Cited.{Files, KeepsShelf, cached_form, HasCachedRun, IsCachedAnswer, Names, cost_of_texts, MOST_COST, ShelfView}
 use Rattle.i2c_top.proofs.Cited.{RigView, Outside, Status}
 use Rattle.i2c_top.specs.forms.Caches.{HasCached, HasCachedReport}
@@ -29,32 +30,30 @@ has_report file names b texts words listed bytes logs states counts read cheap s
 module _ (names : Names) (shelf shelf_now : ShelfView) (rig rig_now : RigView) (b : BoardView) (texts : List (List ℕ))
     (words : Option (List ℕ)) (some : HasReadSome names b texts words)
     (read : IsTrue shelf.tells → HasRead shelf.file names b texts words) (cheap : cost_of_texts b texts ≤ MOST_COST)
-    (kept : KeepsShelf (cached_form names) shelf shelf_now) (plugs : rig_now.plugs ≡ counted rig.plugs)
-    (unplugged : rig_now.plugged ≡ false) where
+    (kept : KeepsShelf (cached_form names) shelf shelf_now) where
   -- one that ended is a success of the form by its report
-  pub cached_done : {X : Type 0} (r : Result X Status) (bytes_of : X → List ℕ) → IsSome names.schedule
-      → OnOk r (rig_now.unplugs ≡ counted rig.unplugs)
+  pub cached_done : (r : Result (List ℕ) Status) → IsSome names.schedule → IsRunOver rig rig_now r
       → (IsTrue rig_now.tells → IsTrue rig_now.ports_tell
-      → IfOk r (λ x. HasCachedRun b texts (unwrap_or words []) (bytes_of x) rig_now.logs rig_now.states rig_now.counts))
-      → IfOk r (λ x. CameToSuccess (cached_form names) shelf shelf_now rig rig_now (bytes_of x))
-  cached_done (Ok x) bytes_of scheduled unplugs run =
-      came_to_success (cached_form names) shelf shelf_now rig rig_now (bytes_of x)
+      → IfOk r (λ bytes. HasCachedRun b texts (unwrap_or words []) bytes rig_now.logs rig_now.states rig_now.counts))
+      → IfOk r (λ bytes. CameToSuccess (cached_form names) shelf shelf_now rig rig_now bytes)
+  cached_done (Ok bytes) scheduled over run =
+      came_to_success (cached_form names) shelf shelf_now rig rig_now bytes
       (when names IsCachedAnswer shelf (λ t. has_files shelf.file names b texts words (read t) cheap))
-      (record { plugs = plugs; unplugs = unplugs; unplugged = unplugged })
+      (record { plugs = over.plugs; unplugs = over.unplugs; unplugged = over.unplugged })
       (record {
         by_files = λ t tells ports.
-            has_report shelf.file names b texts words (unwrap_or words []) (bytes_of x) rig_now.logs rig_now.states rig_now.counts (read t)
-            cheap (order_of_some names b texts words some scheduled) (run tells ports);
+            has_report shelf.file names b texts words (unwrap_or words []) bytes rig_now.logs rig_now.states rig_now.counts (read t) cheap
+            (order_of_some names b texts words some scheduled) (run tells ports);
         by_rig = record {
           file = some.file;
           called = some.called;
           like = some.like;
           so = λ tells ports.
-              has_report some.file some.called b texts words (unwrap_or words []) (bytes_of x) rig_now.logs rig_now.states rig_now.counts
+              has_report some.file some.called b texts words (unwrap_or words []) bytes rig_now.logs rig_now.states rig_now.counts
               some.so cheap (order_of_some names b texts words some scheduled) (run tells ports);
         };
       }) kept
-  cached_done (Err e) bytes_of scheduled unplugs run = tt
+  cached_done (Err e) scheduled over run = tt
 
 -- a success was the report
 pub ended_cached : (names : Names) (old new : Outside) (result : Status) → HasEndedAs (cached_form names) old new result

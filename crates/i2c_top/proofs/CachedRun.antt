@@ -7,7 +7,7 @@ use Rattle.i2c_top.proofs.Cited.{range_with_len, option_map_or, Entry, PortCall,
 use Rattle.i2c_top.proofs.Cited.{report_of, Follows, IsOpened, ScriptsAreFair, IsReachOf, commands_of, cost_of_script, left_of}
 use Rattle.i2c_top.proofs.Cited.{section_text, CallerView, script_on, Reach, left_at_first, CachedScript, CachedView, cached_asked}
 use Rattle.i2c_top.proofs.Cited.{AreReaches, cacheable_devices, asks_in, printed_in, AreReady, left_in, HasRunBy, HasRunOfAny, IsRunBy}
-use Rattle.i2c_top.proofs.Cited.{AreOpened, texts_of, cost_of_texts, cached_scripts, HasCachedRun}
+use Rattle.i2c_top.proofs.Cited.{AreOpened, texts_of, cost_of_texts, cached_scripts, HasCachedRun, Result, Ok, Err, IfOk, Status}
 use Rattle.std.proofs.lemmas.List.{get_or-map}
 use Rattle.std.proofs.lemmas.List.Elements.{All-filter}
 use Rattle.cache_laws.specs.Cache.{Cached, answered, cached_asks, unknown}
@@ -188,7 +188,7 @@ cached-replayed b texts logs states counts journal run =
     kept = run.legal.replies_kept
 
 -- THE RUN of cached callers
-pub cached-run : (b : BoardView) (texts : List (List ℕ)) (words bytes : List ℕ) (logs : List (List PortCall)) (states : List TargetState)
+cached-run : (b : BoardView) (texts : List (List ℕ)) (words bytes : List ℕ) (logs : List (List PortCall)) (states : List TargetState)
     (counts : List ℕ) → HasRunOfAny cached_asked cached_section b (cached_scripts b texts) words bytes logs states counts
     → HasCachedRun b texts words bytes logs states counts
 cached-run b texts words bytes logs states counts run =
@@ -209,3 +209,14 @@ cached-run b texts words bytes logs states counts run =
               (asks-same b texts) run.is_run);
           ordered = run.ordered;
         }
+
+-- .. as what came of it is told
+pub cached-ran : (b : BoardView) (texts : List (List ℕ)) {scripts : List CachedScript} {listed words : List ℕ}
+    (logs : List (List PortCall)) (states : List TargetState) (counts : List ℕ) → scripts ≡ cached_scripts b texts → listed ≡ words
+    → (r : Result (List ℕ) Status) → IfOk r (λ bytes. HasRunOfAny cached_asked cached_section b scripts listed bytes logs states counts)
+    → IfOk r (λ bytes. HasCachedRun b texts words bytes logs states counts)
+cached-ran b texts {scripts} {listed} {words} logs states counts are same (Ok bytes) run =
+    cached-run b texts words bytes logs states counts
+    (subst (λ (ws : List ℕ). HasRunOfAny cached_asked cached_section b (cached_scripts b texts) ws bytes logs states counts) same
+    (subst (λ (ss : List CachedScript). HasRunOfAny cached_asked cached_section b ss listed bytes logs states counts) are run))
+cached-ran b texts logs states counts are same (Err e) run = tt

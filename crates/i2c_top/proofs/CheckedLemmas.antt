@@ -353,23 +353,23 @@ module _ (b : BoardView) (texts : List (List ℕ)) (text front lines : List ℕ)
 -- BOTH WAYS
 module _ (x : Checked) (text : List ℕ) (can : CanBeChecked x) (r : Result ℕ CheckFault) (verified : IfOk r (IsVerified x text))
     (faulty : IfErr r (λ e. (e ≡ fault.Memory) ⊎ IsFaultIn x text e))
-    (counted : (n m : ℕ) → IsVerified x text n → IsVerified x text m → n ≡ m)
-    (faultless : (n : ℕ) (f : CheckFault) → IsVerified x text n → IsFaultIn x text f → ⊥)
-    (one : (f g : CheckFault) → IsFaultIn x text f → IsFaultIn x text g → f ≡ g) where
+    (counted : (x : Checked) (text : List ℕ) (n m : ℕ) → CanBeChecked x → IsVerified x text n → IsVerified x text m → n ≡ m)
+    (faultless : (x : Checked) (text : List ℕ) (n : ℕ) (f : CheckFault) → CanBeChecked x → IsVerified x text n → IsFaultIn x text f → ⊥)
+    (one : (x : Checked) (text : List ℕ) (f g : CheckFault) → CanBeChecked x → IsFaultIn x text f → IsFaultIn x text g → f ≡ g) where
   pub each-report : (n : ℕ) → IsVerified x text n → (r ≡ Ok n) ⊎ (r ≡ Err fault.Memory)
   each-report n v = by r verified faulty refl
     where
       by : (s : Result ℕ CheckFault) → IfOk s (IsVerified x text) → IfErr s (λ e. (e ≡ fault.Memory) ⊎ IsFaultIn x text e) → r ≡ s
           → (r ≡ Ok n) ⊎ (r ≡ Err fault.Memory)
-      by (Ok m) w at_no is = inl (is ∙ ap (λ (k : ℕ). Ok k) (counted m n w v))
+      by (Ok m) w at_no is = inl (is ∙ ap (λ (k : ℕ). Ok k) (counted x text m n can w v))
       by (Err e) at_no (inl memory) is = inr (is ∙ ap (λ (k : CheckFault). Err k) memory)
-      by (Err e) at_no (inr at) is = absurd (faultless n e v at)
+      by (Err e) at_no (inr at) is = absurd (faultless x text n e can v at)
 
   pub each-fault : (f : CheckFault) → IsFaultIn x text f → (r ≡ Err f) ⊎ (r ≡ Err fault.Memory)
   each-fault f at = by r verified faulty refl
     where
       by : (s : Result ℕ CheckFault) → IfOk s (IsVerified x text) → IfErr s (λ e. (e ≡ fault.Memory) ⊎ IsFaultIn x text e) → r ≡ s
           → (r ≡ Err f) ⊎ (r ≡ Err fault.Memory)
-      by (Ok m) w at_no is = absurd (faultless m f w at)
+      by (Ok m) w at_no is = absurd (faultless x text m f can w at)
       by (Err e) at_no (inl memory) is = inr (is ∙ ap (λ (k : CheckFault). Err k) memory)
-      by (Err e) at_no (inr other) is = inl (is ∙ ap (λ (k : CheckFault). Err k) (one e f other at))
+      by (Err e) at_no (inr other) is = inl (is ∙ ap (λ (k : CheckFault). Err k) (one x text e f can other at))

@@ -95,7 +95,7 @@ pub use Rattle.i2c_top.specs.Runs.{IsOfGroups, HasRun}
 pub use Rattle.i2c_top.specs.Schedules.{schedule_read, behind_callers, callers_from}
 pub use Rattle.i2c_top.specs.Scripts.{HasBadSchedule, HasScripts, script_name, HasBadScript, texts_in, IsInGrammar, HasScript}
 pub use Rattle.i2c_top.specs.Status.{Class, Done, Misused, Refused, Unread, NoRig, Silent, class_of}
-pub use Rattle.i2c_top.specs.Traces.{ShelfView, RigView, Outside, KeepsBut, IsAtMostOnce, IsUntouched, shelf_view, outside}
+pub use Rattle.i2c_top.specs.Traces.{ShelfView, RigView, Outside, KeepsBut, IsAtMostOnce, IsUntouched, IsRunOver, shelf_view, outside}
 pub use Rattle.i2c_top.specs.Written.{HasFront, lines_of}
 pub use Rattle.i2c_top.specs.declared.status.BoardRefusal.{BoardRefusal}
 pub use Rattle.i2c_top.specs.declared.status.Status.{Status}

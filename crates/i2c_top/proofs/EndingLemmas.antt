@@ -1,14 +1,14 @@
 -- The ending of a call of any form: what is told of it (`HasEndedAs`) is read off how it came to its end. No induction, by the
 -- class of the status; of a form it asks for the one law that every row keeps (`DecidesOnce`).
 use Rattle.i2c_top.proofs.Cited.{◌≡◌, ℕ, ◌⊎◌, inl, inr, Bool, true, false, IsTrue, List, ◌++◌, Result, Ok, Err, refl, sym, ap, ◌∙◌, subst}
-use Rattle.i2c_top.proofs.Cited.{append-nil, IfOk, IfErr, Rose, counted, CameToSuccess, CameToRefusal, name_in, IsRefusalWritten}
+use Rattle.i2c_top.proofs.Cited.{append-nil, IfOk, IfErr, Rose, CameToSuccess, CameToRefusal, name_in, IsRefusalWritten}
 use Rattle.i2c_top.proofs.Cited.{HasEndedAs, Form, DecidesOnce, TellsItsFiles, own_of, KeepsShelf, KeepsSkipped, Class, Done, Misused}
-use Rattle.i2c_top.proofs.Cited.{Refused, Unread, NoRig, Silent, class_of, ShelfView, RigView, Outside, IsAtMostOnce, Status}
+use Rattle.i2c_top.proofs.Cited.{Refused, Unread, NoRig, Silent, class_of, ShelfView, RigView, Outside, Status}
 use Rattle.std.specs.Prelude.{⊤}
 use Rattle.i2c_top.specs.Endings.{shown_of, CameTo, IsAnswer, IsCaused, due_of, IsTextDue, IsStarved, IsWritten, HasSaid, IsCutShort}
 use Rattle.i2c_top.specs.Form.{IsStatusOf, told_of, unreached_of, rig_after, traced_of, IsCalm}
 use Rattle.i2c_top.specs.Status.{refusal_text}
-use Rattle.i2c_top.specs.Traces.{OutputView, IsRigLeft, IsTried, IsUnread}
+use Rattle.i2c_top.specs.Traces.{OutputView, IsRigLeft, IsRunOver, IsTried, IsUnread}
 use Rattle.i2c_top.specs.declared.status.Status.TheVariants as status
 
 -- the statuses of the classes that have one or two
@@ -254,22 +254,27 @@ module _ (form : Form) (decides : DecidesOnce form) (old new : Outside) where
       }
 
   -- what came of a form was told, under the words of its call
-  pub ended_by : {X : Type 0} (words : List (List ℕ)) (r : Result X Status) (bytes_of : X → List ℕ) (result : Status)
-      → old.shelf.words ≡ words
-      → IfOk r (λ x. CameToSuccess form old.shelf new.shelf old.rig new.rig (bytes_of x))
+  pub ended_by : (words : List (List ℕ)) (r : Result (List ℕ) Status) (result : Status) → old.shelf.words ≡ words
+      → IfOk r (λ text. CameToSuccess form old.shelf new.shelf old.rig new.rig text)
       → IfErr r (CameToRefusal form old.shelf new.shelf old.rig new.rig)
-      → IfOk r (λ x. IsWritten old.sink new.sink status.Ok (bytes_of x) result)
+      → IfOk r (λ text. IsWritten old.sink new.sink status.Ok text result)
       → IfErr r (λ e. IsRefusalWritten old.sink new.sink e (name_in words e) result) → HasEndedAs form old new result
-  ended_by words (Ok x) bytes_of result same done refused written unwritten =
-      ended_told result (ended_done (bytes_of x) result done written)
-  ended_by words (Err e) bytes_of result same done refused written unwritten =
+  ended_by words (Ok text) result same done refused written unwritten =
+      ended_told result (ended_done text result done written)
+  ended_by words (Err e) result same done refused written unwritten =
       ended_told result (ended_refused e result refused
       (subst (λ ws. IsRefusalWritten old.sink new.sink e (name_in ws e) result) (sym same) unwritten))
 
--- of the same names
-pub ended_same : {N : Type 0} (row : N → Form) (names names_now : N) (old new : Outside) (result : Status) → names ≡ names_now
-    → HasEndedAs (row names) old new result → HasEndedAs (row names_now) old new result
-ended_same row names names_now old new result same h = subst (λ n. HasEndedAs (row n) old new result) same h
+-- and of a form by its names, which are those that its words have
+pub ended_as : {N : Type 0} (row : N → Form) {names names_now : N} {old new : Outside} {words : List (List ℕ)} {result : Status}
+    (r : Result (List ℕ) Status) → names ≡ names_now → DecidesOnce (row names) → old.shelf.words ≡ words
+    → IfOk r (λ text. CameToSuccess (row names) old.shelf new.shelf old.rig new.rig text)
+    → IfErr r (CameToRefusal (row names) old.shelf new.shelf old.rig new.rig)
+    → IfOk r (λ text. IsWritten old.sink new.sink status.Ok text result)
+    → IfErr r (λ e. IsRefusalWritten old.sink new.sink e (name_in words e) result) → HasEndedAs (row names_now) old new result
+ended_as row {names} {names_now} {old} {new} {words} {result} r same decides at done refused written unwritten =
+    subst (λ n. HasEndedAs (row n) old new result) same
+    (ended_by (row names) decides old new words r result at done refused written unwritten)
 
 -- how a call comes to a status, class by class
 module _ (form : Form) (shelf shelf_now : ShelfView) (rig rig_now : RigView) where
@@ -327,18 +332,16 @@ module _ (form : Form) (shelf shelf_now : ShelfView) (rig rig_now : RigView) whe
 
   -- a run over the rig that failed is a refusal
   pub run_refused : {X : Type 0} (r : Result X Status) → IsTrue form.plugs → (TellsItsFiles form shelf → form.cause shelf.file status.Ok)
-      → KeepsShelf form shelf shelf_now → rig_now.plugs ≡ counted rig.plugs → rig_now.plugged ≡ false
-      → (r ≡ Err status.Rig → rig_now.unplugs ≡ rig.unplugs) → IsAtMostOnce rig.unplugs rig_now.unplugs
-      → (r ≡ Err status.Rig → Rose rig.faults rig_now.faults) → IfErr r (λ e. (e ≡ status.Rig) ⊎ (e ≡ status.Memory))
-      → IfErr r (CameToRefusal form shelf shelf_now rig rig_now)
-  run_refused (Ok x) plugging cause kept plugs unplugged unplugs once rose failed = tt
-  run_refused (Err e) plugging cause kept plugs unplugged unplugs once rose (inl h) =
-      let is : ◌≡◌ {A = Result _ Status} (Err e) (Err status.Rig) = ap (λ x. Err x) h in
-      subst (CameToRefusal form shelf shelf_now rig rig_now) (sym h)
-      (rig_failed plugging cause (rose is) (record { plugs = plugs; unplugs = unplugs is; unplugged = unplugged }) kept)
-  run_refused (Err e) plugging cause kept plugs unplugged unplugs once rose (inr h) =
-      subst (CameToRefusal form shelf shelf_now rig rig_now) (sym h)
-      (memory_wanting (inr (record { plugs = plugs; unplugs = once; unplugged = unplugged })) kept)
+      → KeepsShelf form shelf shelf_now → IsRunOver rig rig_now r → IfErr r (CameToRefusal form shelf shelf_now rig rig_now)
+  run_refused (Ok x) plugging cause kept over = tt
+  run_refused (Err e) plugging cause kept over =
+      elim over.failed [
+        | inl h ↦ subst (CameToRefusal form shelf shelf_now rig rig_now) (sym h)
+            (rig_failed plugging cause (over.rig (ap (λ x. Err x) h))
+            (record { plugs = over.plugs; unplugs = over.none (ap (λ x. Err x) h); unplugged = over.unplugged }) kept)
+        | inr h ↦ subst (CameToRefusal form shelf shelf_now rig rig_now) (sym h)
+            (memory_wanting (inr (record { plugs = over.plugs; unplugs = over.once; unplugged = over.unplugged })) kept)
+      ]
 
 -- .. before the rig is plugged
 module _ (form : Form) (shelf shelf_now : ShelfView) (rig : RigView) where

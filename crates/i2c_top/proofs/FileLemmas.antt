@@ -201,17 +201,32 @@ pub schedule_before : (schedule : Option (List ℕ)) (place : ℕ) → IsSchedul
 schedule_before None place at = absurd at
 schedule_before (Some name) place at = (at, omega (arith, at))
 
--- the board, the scripts and the schedule were read, where there is one
+-- the board was read,
+pub kept_board : (names : Names) (a b : ShelfView) → KeepsBut (λ p. p ≡ 1) a b → KeepsBut (IsPlaceIn names) a b
+kept_board names a b k =
+    let low = first_low names.schedule in
+    record {
+      words = k.words;
+      files = k.files;
+      others = λ p no. k.others p (λ e. no (record { first = omega (arith, e); last = omega (arith, e, low) }));
+    }
+
+-- .. the scripts,
+pub kept_scripts : (names : Names) (a b c : ShelfView) (first many : ℕ) → first ≡ first_script names.schedule → many ≡ length names.scripts
+    → KeepsBut (λ p. p ≡ 1) a b → KeepsBut (λ p. (first ≤ p) × (p < first + many)) b c → KeepsBut (IsPlaceIn names) a c
+kept_scripts names a b c first many is count board scripts =
+    let low = first_low names.schedule in
+    kept_then (IsPlaceIn names) (λ p. (first ≤ p) × (p < first + many)) (IsPlaceIn names) a b c (λ p h. h)
+    (λ p h. record { first = omega (arith, h.0, is, low); last = omega (arith, h.1, is, count) }) (kept_board names a b board) scripts
+
+-- .. and the schedule, where there is one
 pub all_kept : (names : Names) (a b c d : ShelfView) (first many : ℕ) → first ≡ first_script names.schedule → many ≡ length names.scripts
     → KeepsBut (λ p. p ≡ 1) a b → KeepsBut (λ p. (first ≤ p) × (p < first + many)) b c → KeepsBut (IsScheduleAt names.schedule) c d
     → KeepsBut (IsPlaceIn names) a d
 all_kept names a b c d first many is count board scripts schedule =
-    let low = first_low names.schedule in
     kept_then (IsPlaceIn names) (IsScheduleAt names.schedule) (IsPlaceIn names) a c d (λ p h. h)
     (λ p at. let before = schedule_before names.schedule p at in record { first = omega (arith, before.0); last = omega (arith, before.1) })
-    (kept_then (λ p. p ≡ 1) (λ p. (first ≤ p) × (p < first + many)) (IsPlaceIn names) a b c
-    (λ p e. record { first = omega (arith, e); last = omega (arith, e, low) })
-    (λ p h. record { first = omega (arith, h.0, is, low); last = omega (arith, h.1, is, count) }) board scripts) schedule
+    (kept_scripts names a b c first many is count board scripts) schedule
 
 -- a refusal that is passed on
 pub passed_on : {T E : Type 0} (r : Result T E) (x : E) (P : E → Type 0) → IsErrAnd r (λ y. y ≡ x) → P x → IfErr r P
@@ -340,6 +355,11 @@ order_refusal tells file file_now b board_name (Some name) scripts reads reads_m
             (record { text = h.text; there = sym (same name) ∙ h.there; fault = h.fault }),
       ),
     )
+
+-- the cost of scripts is too much that of the same scripts is
+pub dear_of : (b : BoardView) {s : Status} {scripts scripts_now : List CallerView} → scripts ≡ scripts_now
+    → IsTooDear (cost_of_texts b (texts_of scripts)) s → IsTooDear (cost_of_texts b (texts_of scripts_now)) s
+dear_of b {s} same dear = subst (λ xs. IsTooDear (cost_of_texts b (texts_of xs)) s) same dear
 
 -- and a cost that is too much
 pub cost_refusal : (tells : Bool) (file : Files) (names : Names) (reads reads_now : ℕ → ℕ) (b : BoardView) (texts : List (List ℕ))

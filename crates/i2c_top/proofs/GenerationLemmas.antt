@@ -1,8 +1,9 @@
 -- How a call of `gen` ends: no file decides it, and a success is the summary of its run. No induction.
-use Rattle.i2c_top.proofs.Cited.{◌≡◌, ℕ, ◌⊎◌, inl, false, IsTrue, List, [], None, Some, Result, Ok, Err, refl, sym, ◌∙◌, subst, IfOk, IfErr}
-use Rattle.i2c_top.proofs.Cited.{OnOk, CallerView, BoardView, PortCall, TargetState, texts_of, HasRunTold, Rose, counted, name_in}
+use Rattle.i2c_top.proofs.Cited.{IsRunOver}
+use Rattle.i2c_top.proofs.Cited.{◌≡◌, ℕ, inl, false, IsTrue, List, [], None, Some, Result, Ok, Err, refl, sym, ◌∙◌, subst, IfOk, IfErr}
+use Rattle.i2c_top.proofs.Cited.{CallerView, BoardView, PortCall, TargetState, texts_of, HasRunTold, name_in}
 use Rattle.i2c_top.proofs.Cited.{CameToSuccess, CameToRefusal, IsRefusalWritten, HasEndedAs, DecidesOnce, own_of, KeepsShelf, Class, Done}
-use Rattle.i2c_top.proofs.Cited.{Misused, Refused, Unread, NoRig, Silent, class_of, ShelfView, RigView, Outside, IsAtMostOnce, summary_of}
+use Rattle.i2c_top.proofs.Cited.{Misused, Refused, Unread, NoRig, Silent, class_of, ShelfView, RigView, Outside, summary_of}
 use Rattle.i2c_top.proofs.Cited.{gen_form, Status}
 use Rattle.i2c_gen.specs.Made.{AreMade, IsSchedule}
 use Rattle.i2c_gen.specs.Scripts.{scripts_of, schedule_of}
@@ -35,37 +36,29 @@ module _ (p : Plan) (shelf : ShelfView) (rig rig_now : RigView) where
       (memory_wanting (gen_form p) shelf shelf rig rig (inl (record { plugs = refl; unplugs = refl })) kept)
 
   -- a run that ended is a success, by its summary
-  pub gen_done : {X : Type 0} (r : Result X Status) (bytes_of : X → List ℕ) → rig_now.plugs ≡ counted rig.plugs → rig_now.plugged ≡ false
-      → OnOk r (rig_now.unplugs ≡ counted rig.unplugs)
-      → (IsTrue rig_now.tells → IsTrue rig_now.ports_tell → IfOk r
-      (λ x. HasSummary p (bytes_of x) rig_now.logs rig_now.states rig_now.counts))
-      → IfOk r (λ x. CameToSuccess (gen_form p) shelf shelf rig rig_now (bytes_of x))
-  gen_done (Ok x) bytes_of plugs unplugged unplugs run =
-      came_to_success (gen_form p) shelf shelf rig rig_now (bytes_of x) (λ t. refl)
-      (record { plugs = plugs; unplugs = unplugs; unplugged = unplugged }) (record { by_files = λ t. run; by_rig = run }) kept
-  gen_done (Err e) bytes_of plugs unplugged unplugs run = tt
+  pub gen_done : (r : Result (List ℕ) Status) → IsRunOver rig rig_now r
+      → (IsTrue rig_now.tells → IsTrue rig_now.ports_tell → IfOk r (λ bytes. HasSummary p bytes rig_now.logs rig_now.states rig_now.counts))
+      → IfOk r (λ bytes. CameToSuccess (gen_form p) shelf shelf rig rig_now bytes)
+  gen_done (Ok bytes) over run =
+      came_to_success (gen_form p) shelf shelf rig rig_now bytes (λ t. refl)
+      (record { plugs = over.plugs; unplugs = over.unplugs; unplugged = over.unplugged })
+      (record { by_files = λ t. run; by_rig = run }) kept
+  gen_done (Err e) over run = tt
 
   -- one that failed is a refusal
-  pub gen_failed : {X : Type 0} (r : Result X Status) → rig_now.plugs ≡ counted rig.plugs → rig_now.plugged ≡ false
-      → (r ≡ Err status.Rig → rig_now.unplugs ≡ rig.unplugs) → IsAtMostOnce rig.unplugs rig_now.unplugs
-      → (r ≡ Err status.Rig → Rose rig.faults rig_now.faults) → IfErr r (λ e. (e ≡ status.Rig) ⊎ (e ≡ status.Memory))
-      → IfErr r (CameToRefusal (gen_form p) shelf shelf rig rig_now)
-  gen_failed r plugs unplugged unplugs once rose failed =
-      run_refused (gen_form p) shelf shelf rig rig_now r refl (λ t. refl) kept plugs unplugged unplugs once rose failed
+  pub gen_failed : (r : Result (List ℕ) Status) → IsRunOver rig rig_now r → IfErr r (CameToRefusal (gen_form p) shelf shelf rig rig_now)
+  gen_failed r = run_refused (gen_form p) shelf shelf rig rig_now r refl (λ t. refl) kept
 
 -- a run of what was made is that of the plan
-pub made_summary : {X : Type 0} (p : Plan) (board : BoardView) (scripts : List CallerView) (words : List ℕ) (r : Result X Status)
-    (bytes_of : X → List ℕ) (logs : List (List PortCall)) (states : List TargetState) (counts : List ℕ)
-    → AreMade p board scripts → IsSchedule p words
-    → IfOk r (λ x. HasRunTold (summary_of p) board (texts_of scripts) (Some words) (bytes_of x) logs states counts)
-    → IfOk r (λ x. HasSummary p (bytes_of x) logs states counts)
-made_summary p board scripts words (Ok x) bytes_of logs states counts made schedule run =
-    subst (λ (b : BoardView). HasRunTold (summary_of p) b (scripts_of p) (Some (schedule_of p))
-    (bytes_of x) logs states counts) made.board_is
-    (subst (λ (ts : List (List ℕ)). HasRunTold (summary_of p) board ts (Some (schedule_of p)) (bytes_of x) logs states counts) made.texts
-    (subst (λ (ws : List ℕ). HasRunTold (summary_of p) board (texts_of scripts) (Some ws) (bytes_of x) logs states counts) schedule.same
-    run))
-made_summary p board scripts words (Err e) bytes_of logs states counts made schedule run = tt
+pub made_summary : (p : Plan) (board : BoardView) (scripts : List CallerView) (words : List ℕ) (r : Result (List ℕ) Status)
+    (logs : List (List PortCall)) (states : List TargetState) (counts : List ℕ) → AreMade p board scripts → IsSchedule p words
+    → IfOk r (λ bytes. HasRunTold (summary_of p) board (texts_of scripts) (Some words) bytes logs states counts)
+    → IfOk r (λ bytes. HasSummary p bytes logs states counts)
+made_summary p board scripts words (Ok bytes) logs states counts made schedule run =
+    subst (λ (b : BoardView). HasRunTold (summary_of p) b (scripts_of p) (Some (schedule_of p)) bytes logs states counts) made.board_is
+    (subst (λ (ts : List (List ℕ)). HasRunTold (summary_of p) board ts (Some (schedule_of p)) bytes logs states counts) made.texts
+    (subst (λ (ws : List ℕ). HasRunTold (summary_of p) board (texts_of scripts) (Some ws) bytes logs states counts) schedule.same run))
+made_summary p board scripts words (Err e) logs states counts made schedule run = tt
 
 -- what was written for a refusal has no name in it, whatever the words are
 pub gen_refusal : {X : Type 0} (p : Plan) (old new : Outside) (words : List (List ℕ)) (r : Result X Status) (result : Status)

@@ -1,17 +1,19 @@
 -- How a call of `replay` or `run` ends: its report, and what its status tells. No induction.
-use Rattle.i2c_top.proofs.Cited.{◌≡◌, ℕ, ◌<◌, ◌≤◌, ◌⊎◌, inl, true, false, IsTrue, IsSome, List, [], length, Option, None, Some, Result, Ok}
-use Rattle.i2c_top.proofs.Cited.{Err, refl, sym, ◌∙◌, ap, subst, arith, IfOk, IfErr, OnOk, is_some, unwrap_or, PortCall, BoardView}
-use Rattle.i2c_top.proofs.Cited.{TargetState, Rose, counted, CameToSuccess, CameToRefusal, HasEndedAs, HasRead, HasReadSome, IsOrderIn}
+use Rattle.i2c_top.proofs.Cited.{IsRunOver}
+use Rattle.i2c_top.proofs.Cited.{◌≡◌, ℕ, ◌<◌, ◌≤◌, inl, true, false, IsTrue, IsSome, List, [], length, Option, None, Some, Result, Ok}
+use Rattle.i2c_top.proofs.Cited.{Err, refl, sym, ◌∙◌, ap, subst, arith, IfOk, IfErr, is_some, unwrap_or, PortCall, BoardView}
+use Rattle.i2c_top.proofs.Cited.{TargetState, CameToSuccess, CameToRefusal, HasEndedAs, HasRead, HasReadSome, IsOrderIn}
 use Rattle.i2c_top.proofs.Cited.{IsFileRefusal, Files, Form, TellsItsFiles, KeepsShelf, KeepsSkipped, texts_in, Names, HasFiles}
-use Rattle.i2c_top.proofs.Cited.{IsReplayAnswer, replay_form, HasRun, cost_of_texts, MOST_COST, ShelfView, RigView, Outside, IsAtMostOnce}
+use Rattle.i2c_top.proofs.Cited.{IsReplayAnswer, replay_form, HasRun, cost_of_texts, MOST_COST, ShelfView, RigView, Outside}
 use Rattle.i2c_top.proofs.Cited.{Status}
 use Rattle.std.specs.Prelude.{All}
+use Rattle.std.specs.Result.{IsErrAnd}
 use Rattle.std.proofs.lemmas.Bool.{false≢true}
 use Rattle.i2c_top.specs.Readings.{AreNamed}
 use Rattle.i2c_top.specs.forms.Replays.{HasReport, HasReplayed, reading_form}
 use Rattle.i2c_top.specs.declared.status.Status.TheVariants as status
 use Rattle.i2c_top.proofs.EndingLemmas.{came_to_success, text_refused, file_unread, run_refused, memory_wanting}
-use Rattle.i2c_top.proofs.FileLemmas.{has_texts, cost_read, first_low}
+use Rattle.i2c_top.proofs.FileLemmas.{has_texts, cost_read, first_low, passed_on}
 
 abbrev pub has_files : (file : Files) (names : Names) (b : BoardView) (texts : List (List ℕ)) (words : Option (List ℕ))
     → HasRead file names b texts words → cost_of_texts b texts ≤ MOST_COST → HasFiles file names
@@ -111,72 +113,72 @@ module _ (names : Names) (answer : Files → Names → RigView → List ℕ → 
       }) skipped kept
   files_refused _ kept skipped h = absurd h
 
+  -- .. which is passed on
+  pub files_passed_on : (r : Result (List ℕ) Status) (s : Status) → IsErrAnd r (λ e. e ≡ s) → KeepsShelf form shelf shelf_now
+      → KeepsSkipped form shelf.faults shelf_now.faults s
+      → IsFileRefusal shelf.tells shelf.file names shelf.faults shelf_now.faults s → IfErr r (CameToRefusal form shelf shelf_now rig rig)
+  files_passed_on r s is kept skipped h =
+      passed_on r s (CameToRefusal form shelf shelf_now rig rig) is (files_refused s kept skipped h)
+
 -- a run of files that were read, over the rig
 module _ (names : Names) (shelf shelf_now : ShelfView) (rig rig_now : RigView) (b : BoardView) (texts : List (List ℕ))
     (words : Option (List ℕ)) (some : HasReadSome names b texts words)
     (read : IsTrue shelf.tells → HasRead shelf.file names b texts words) (cheap : cost_of_texts b texts ≤ MOST_COST)
-    (kept : KeepsShelf (replay_form names) shelf shelf_now) (plugs : rig_now.plugs ≡ counted rig.plugs)
-    (unplugged : rig_now.plugged ≡ false) where
+    (kept : KeepsShelf (replay_form names) shelf shelf_now) where
   files : IsTrue shelf.tells → HasFiles shelf.file names
   files t = has_files shelf.file names b texts words (read t) cheap
 
   -- one that ended, by the words of the schedule, is a success of the form by its report
-  pub run_done : {X : Type 0} (r : Result X Status) (bytes_of : X → List ℕ) (by : Option (List ℕ)) → by ≡ words
-      → OnOk r (rig_now.unplugs ≡ counted rig.unplugs)
+  pub run_done : (r : Result (List ℕ) Status) (by : Option (List ℕ)) → by ≡ words → IsRunOver rig rig_now r
       → (IsTrue rig_now.tells → IsTrue rig_now.ports_tell
-      → IfOk r (λ x. HasRun b texts by (bytes_of x) rig_now.logs rig_now.states rig_now.counts))
-      → IfOk r (λ x. CameToSuccess (replay_form names) shelf shelf_now rig rig_now (bytes_of x))
-  run_done (Ok x) bytes_of by same unplugs run =
-      came_to_success (replay_form names) shelf shelf_now rig rig_now (bytes_of x) (when names IsReplayAnswer shelf files)
-      (record { plugs = plugs; unplugs = unplugs; unplugged = unplugged })
+      → IfOk r (λ bytes. HasRun b texts by bytes rig_now.logs rig_now.states rig_now.counts))
+      → IfOk r (λ bytes. CameToSuccess (replay_form names) shelf shelf_now rig rig_now bytes)
+  run_done (Ok bytes) by same over run =
+      came_to_success (replay_form names) shelf shelf_now rig rig_now bytes (when names IsReplayAnswer shelf files)
+      (record { plugs = over.plugs; unplugs = over.unplugs; unplugged = over.unplugged })
       (record {
         by_files = λ t tells ports.
-            has_report shelf.file names b texts words (bytes_of x) rig_now.logs rig_now.states rig_now.counts (read t) cheap
-            (subst (λ ws. HasRun b texts ws (bytes_of x) rig_now.logs rig_now.states rig_now.counts) same (run tells ports));
+            has_report shelf.file names b texts words bytes rig_now.logs rig_now.states rig_now.counts (read t) cheap
+            (subst (λ ws. HasRun b texts ws bytes rig_now.logs rig_now.states rig_now.counts) same (run tells ports));
         by_rig = record {
           file = some.file;
           called = some.called;
           like = some.like;
           so = λ tells ports.
-              has_report some.file some.called b texts words (bytes_of x) rig_now.logs rig_now.states rig_now.counts some.so cheap
-              (subst (λ ws. HasRun b texts ws (bytes_of x) rig_now.logs rig_now.states rig_now.counts) same (run tells ports));
+              has_report some.file some.called b texts words bytes rig_now.logs rig_now.states rig_now.counts some.so cheap
+              (subst (λ ws. HasRun b texts ws bytes rig_now.logs rig_now.states rig_now.counts) same (run tells ports));
         };
       }) kept
-  run_done (Err e) bytes_of by same unplugs run = tt
+  run_done (Err e) by same over run = tt
 
   -- with a schedule its words are those that were read
-  pub scheduled_run_done : {X : Type 0} (r : Result X Status) (bytes_of : X → List ℕ) → IsSome names.schedule
-      → OnOk r (rig_now.unplugs ≡ counted rig.unplugs)
+  pub scheduled_run_done : (r : Result (List ℕ) Status) {listed : List ℕ} → IsSome names.schedule → listed ≡ unwrap_or words []
+      → IsRunOver rig rig_now r
       → (IsTrue rig_now.tells → IsTrue rig_now.ports_tell
-      → IfOk r (λ x. HasRun b texts (Some (unwrap_or words [])) (bytes_of x) rig_now.logs rig_now.states rig_now.counts))
-      → IfOk r (λ x. CameToSuccess (replay_form names) shelf shelf_now rig rig_now (bytes_of x))
-  scheduled_run_done r bytes_of scheduled unplugs run =
-      run_done r bytes_of (Some (unwrap_or words [])) (order_of_some names b texts words some scheduled) unplugs run
+      → IfOk r (λ bytes. HasRun b texts (Some listed) bytes rig_now.logs rig_now.states rig_now.counts))
+      → IfOk r (λ bytes. CameToSuccess (replay_form names) shelf shelf_now rig rig_now bytes)
+  scheduled_run_done r {listed} scheduled same =
+      run_done r (Some listed) (ap (λ (ws : List ℕ). Some ws) same ∙ order_of_some names b texts words some scheduled)
 
   -- without a schedule no order was asked for
-  pub free_run_done : {X : Type 0} (r : Result X Status) (bytes_of : X → List ℕ) → names.schedule ≡ None
-      → OnOk r (rig_now.unplugs ≡ counted rig.unplugs)
+  pub free_run_done : (r : Result (List ℕ) Status) → names.schedule ≡ None → IsRunOver rig rig_now r
       → (IsTrue rig_now.tells → IsTrue rig_now.ports_tell
-      → IfOk r (λ x. HasRun b texts None (bytes_of x) rig_now.logs rig_now.states rig_now.counts))
-      → IfOk r (λ x. CameToSuccess (replay_form names) shelf shelf_now rig rig_now (bytes_of x))
-  free_run_done r bytes_of free unplugs run =
-      run_done r bytes_of None
+      → IfOk r (λ bytes. HasRun b texts None bytes rig_now.logs rig_now.states rig_now.counts))
+      → IfOk r (λ bytes. CameToSuccess (replay_form names) shelf shelf_now rig rig_now bytes)
+  free_run_done r free =
+      run_done r None
       (sym (unread_order some.file some.called.schedule (length some.called.scripts) words
-      (none_like some.called.schedule names.schedule some.like.schedule free) some.so.order_in)) unplugs run
+      (none_like some.called.schedule names.schedule some.like.schedule free) some.so.order_in))
 
 -- one that failed is a refusal of each form that runs it
-module _ (names : Names) (answer : Files → Names → RigView → List ℕ → Type 0) (shelf shelf_now : ShelfView)
-    (rig rig_now : RigView) (b : BoardView) (texts : List (List ℕ)) (words : Option (List ℕ))
+module _ {names : Names} (answer : Files → Names → RigView → List ℕ → Type 0) {shelf shelf_now : ShelfView}
+    {rig rig_now : RigView} {b : BoardView} {texts : List (List ℕ)} {words : Option (List ℕ)} {r : Result (List ℕ) Status}
     (read : IsTrue shelf.tells → HasRead shelf.file names b texts words) (cheap : cost_of_texts b texts ≤ MOST_COST)
-    (kept : KeepsShelf (reading_form names answer) shelf shelf_now) (plugs : rig_now.plugs ≡ counted rig.plugs)
-    (unplugged : rig_now.plugged ≡ false) where
-  pub run_failed : {X : Type 0} (r : Result X Status) → (r ≡ Err status.Rig → rig_now.unplugs ≡ rig.unplugs)
-      → IsAtMostOnce rig.unplugs rig_now.unplugs
-      → (r ≡ Err status.Rig → Rose rig.faults rig_now.faults) → IfErr r (λ e. (e ≡ status.Rig) ⊎ (e ≡ status.Memory))
-      → IfErr r (CameToRefusal (reading_form names answer) shelf shelf_now rig rig_now)
-  run_failed r unplugs once rose failed =
+    (kept : KeepsShelf (reading_form names answer) shelf shelf_now) where
+  pub run_failed : IsRunOver rig rig_now r → IfErr r (CameToRefusal (reading_form names answer) shelf shelf_now rig rig_now)
+  run_failed =
       run_refused (reading_form names answer) shelf shelf_now rig rig_now r refl
-      (when names answer shelf (λ t. has_files shelf.file names b texts words (read t) cheap)) kept plugs unplugged unplugs once rose failed
+      (when names answer shelf (λ t. has_files shelf.file names b texts words (read t) cheap)) kept
 
 -- a success was the report
 pub ended_replayed : (names : Names) (old new : Outside) (result : Status) → HasEndedAs (replay_form names) old new result

@@ -1,6 +1,6 @@
 -- What a shelf gave, whatever it tells, as the files of other names: each file is called by the number of its place. The inductions go
 -- over the texts.
-use Rattle.i2c_top.proofs.Cited.{◌≡◌, ℕ, suc, zero, ◌+◌, ◌<◌, List, [], ◌∷◌, length, map, All, Option, None, Some, Ok, refl, sym, ◌∙◌, ap}
+use Rattle.i2c_top.proofs.Cited.{◌≡◌, ℕ, suc, zero, ◌+◌, ◌<◌, List, [], ◌∷◌, length, All, Option, None, Some, Ok, refl, sym, ◌∙◌, ap}
 use Rattle.i2c_top.proofs.Cited.{subst, arith, slice_get, is_some, option_map, length-map, All-head, All-tail, MapView, CallerView}
 use Rattle.i2c_top.proofs.Cited.{BoardView, IsSpelled, Files, IsAnyName, IsAcceptedIn, IsOrderIn, HasReadSome, HasReadSomeJournal}
 use Rattle.i2c_top.proofs.Cited.{HasReadSomeMap, texts_of, schedule_read, script_name, texts_in, IsInGrammar, HasScript, HasScripts}

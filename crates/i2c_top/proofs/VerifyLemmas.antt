@@ -4,8 +4,8 @@ use Rattle.i2c_top.proofs.Cited.{take_all, ScriptsAreFair, CallerView, SectionsH
 use Rattle.i2c_top.proofs.Cited.{Checked, IsFaultIn, IsVerified, CheckFault, Rose, HasRejected, checked_on, CameToSuccess, CameToRefusal}
 use Rattle.i2c_top.proofs.Cited.{HasEndedAs, Files, DecidesOnce, TellsItsFiles, KeepsShelf, AreScriptsIn, HasReadSomeJournal, IsAcceptedIn}
 use Rattle.i2c_top.proofs.Cited.{IsRejectedIn, IsRefusedAt, IsRefusedScript, IsBadBoard, IsBadScript, IsTooDear, MOST_COST, cost_of_texts}
-use Rattle.i2c_top.proofs.Cited.{texts_of, script_name, HasBadScript, HasScripts, texts_in, ShelfView, RigView, Outside, KeepsBut}
-use Rattle.i2c_top.proofs.Cited.{IsUntouched, HasScriptsBefore, IsPlaceIn, IsSkipped, VerifyNames, as_replayed, verify_form, BoardRefusal}
+use Rattle.i2c_top.proofs.Cited.{texts_of, script_name, HasBadScript, HasScripts, texts_in, ShelfView, RigView, Outside}
+use Rattle.i2c_top.proofs.Cited.{IsUntouched, HasScriptsBefore, IsSkipped, VerifyNames, as_replayed, verify_form, BoardRefusal}
 use Rattle.i2c_top.proofs.Cited.{Status}
 use Rattle.journal_check.specs.declared.fault.CheckFault.TheVariants as verdict-of
 use Rattle.i2c_top.specs.Readings.{HasReadJournal}
@@ -325,10 +325,3 @@ pub ended_verified : (names : VerifyNames) (old new : Outside) (result : Status)
     → IsTrue old.shelf.tells → IsTrue old.sink.tells → result ≡ status.Ok → HasVerified old.shelf.file names old.sink.bytes new.sink.bytes
 ended_verified names old new result h shelf sink ok =
     let s = h.said ok in record { text = s.text; verdict = s.answer.by_files shelf; written = s.written sink }
-
--- what was read at these places was read of the form's files
-pub some_kept : (names : VerifyNames) (P : ℕ → Type 0) (a b : ShelfView) → ((p : ℕ) → P p → IsPlaceIn (as_replayed names) p)
-    → KeepsBut P a b
-    → KeepsShelf (verify_form names) a b
-some_kept names P a b within k =
-    record { words = k.words; files = k.files; others = λ p no. k.others p (λ at. no (within p at)) }

@@ -1,5 +1,5 @@
 -- The shelf, the output and the rig of a call as contracts see them, and what may be done to the rig.
-use Rattle.std.specs.Prelude.{◌≡◌, ℕ, ◌⊎◌, Bool, false, List}
+use Rattle.std.specs.Prelude.{◌≡◌, ℕ, ◌≤◌, ◌⊎◌, Bool, false, List, Result, Err, IfErr, OnOk}
 use Rattle.i2c_base.specs.declared.port.PortCall.{PortCall}
 use Rattle.i2c_spec.specs.Targets.{TargetState}
 use Rattle.ports.specs.Causes.{Rose, counted}
@@ -7,6 +7,8 @@ use Rattle.i2c_outside.specs.declared.rig.Rig.{Ghosts as RigGhosts}
 use Rattle.i2c_outside.specs.declared.shelf.Shelf.{Ghosts as ShelfGhosts}
 use Rattle.i2c_outside.specs.declared.sink.Sink.{Ghosts as SinkGhosts}
 use Rattle.i2c_top.specs.Files.{Files}
+use Rattle.i2c_top.specs.declared.status.Status.{Status}
+use Rattle.i2c_top.specs.declared.status.Status.TheVariants as status
 
 -- it tells its files, and counts its faults by place
 pub record ShelfView : Type 0 where
@@ -108,3 +110,22 @@ pub record IsPluggedOnce (old new : RigView) : Type 0 where
 
 abbrev pub IsRigLeft : RigView → RigView → Type 0
 IsRigLeft old new = IsUntouched old new ⊎ IsPluggedOnce old new
+
+-- a rig that was plugged was unplugged, and may have counted faults
+pub record IsUnplugged (old new : RigView) : Type 0 where
+  pub later : old.faults ≤ new.faults
+  pub plugs : new.plugs ≡ old.plugs
+  pub unplugs : new.unplugs ≡ counted old.unplugs
+  pub unplugged : new.plugged ≡ false
+
+-- a run over a rig plugged it once, and did not leave it plugged, whatever came of it. It failed without memory, or where the rig counted
+-- a fault in that plug
+pub record IsRunOver {X : Type 0} (old new : RigView) (result : Result X Status) : Type 0 where
+  pub failed : IfErr result (λ e. (e ≡ status.Rig) ⊎ (e ≡ status.Memory))
+  pub rig : result ≡ Err status.Rig → Rose old.faults new.faults
+  pub later : old.faults ≤ new.faults
+  pub plugs : new.plugs ≡ counted old.plugs
+  pub unplugs : OnOk result (new.unplugs ≡ counted old.unplugs)
+  pub none : result ≡ Err status.Rig → new.unplugs ≡ old.unplugs
+  pub once : IsAtMostOnce old.unplugs new.unplugs
+  pub unplugged : new.plugged ≡ false

@@ -1,5 +1,6 @@
 //! The names of the files of a replay, taken from the words.
-ghost use Rattle.std.specs.Prelude.{◌≡◌, true, map, string_bytes};
+ghost use Rattle.std.specs.Prelude.{◌≡◌, ◌+◌, ◌≤◌, true, length, map, string_bytes};
+ghost use Rattle.i2c_base.specs.Limits.{MOST_CALLERS};
 ghost use Rattle.i2c_top.specs.forms.Caches.{is_cached};
 ghost use Rattle.i2c_top.specs.forms.Replays.{first_script, is_replay, is_run, names_told, replay_names, run_names, ArePlaced};
 
@@ -28,24 +29,7 @@ impl<'a> ReplayNames<'a> {
         ensures value { names_told result ≡ replay_names (map string_bytes words.now) }
         ensures placed { ArePlaced (map string_bytes words.now) (names_told result) }
     {
-        ReplayNames {
-            board: word_at(words, BOARD as usize),
-            schedule: Some(word_at(words, SCHEDULE as usize)),
-            scripts: words_from(words, SCRIPT_OF_REPLAY as usize),
-        }
-    }
-
-    /// Those among the words of a replay with register caches, which stand at the same places.
-    pub fn of_cached(words: &'a [String]) -> Self
-        requires { is_cached (map string_bytes words.now) ≡ true }
-        ensures value { names_told result ≡ replay_names (map string_bytes words.now) }
-        ensures placed { ArePlaced (map string_bytes words.now) (names_told result) }
-    {
-        ReplayNames {
-            board: word_at(words, BOARD as usize),
-            schedule: Some(word_at(words, SCHEDULE as usize)),
-            scripts: words_from(words, SCRIPT_OF_REPLAY as usize),
-        }
+        Self::scheduled(words)
     }
 
     /// Those among the words of a run.
@@ -58,6 +42,29 @@ impl<'a> ReplayNames<'a> {
             board: word_at(words, BOARD as usize),
             schedule: None,
             scripts: words_from(words, SCRIPT_OF_RUN as usize),
+        }
+    }
+
+    /// Those among the words of a replay with register caches, which stand at the same places.
+    pub fn of_cached(words: &'a [String]) -> Self
+        requires { is_cached (map string_bytes words.now) ≡ true }
+        ensures value { names_told result ≡ replay_names (map string_bytes words.now) }
+        ensures placed { ArePlaced (map string_bytes words.now) (names_told result) }
+    {
+        Self::scheduled(words)
+    }
+
+    // Those at the places of a board, a schedule and 1 to `MOST_CALLERS` scripts.
+    fn scheduled(words: &'a [String]) -> Self
+        requires least { 4 ≤ length words.now }
+        requires most { length words.now ≤ 3 + MOST_CALLERS }
+        ensures value { names_told result ≡ replay_names (map string_bytes words.now) }
+        ensures placed { ArePlaced (map string_bytes words.now) (names_told result) }
+    {
+        ReplayNames {
+            board: word_at(words, BOARD as usize),
+            schedule: Some(word_at(words, SCHEDULE as usize)),
+            scripts: words_from(words, SCRIPT_OF_REPLAY as usize),
         }
     }
 

@@ -10,7 +10,7 @@ ghost use Rattle.caller_core.specs.View.{CallerView};
 ghost use Rattle.i2c_top.specs.Callers.{AreReady, left_in, scripts_in, asks_in, printed_in, HasRunBy, HasRunOfAny};
 ghost use Rattle.i2c_top.specs.Cores.{AreFresh, AreGivenBack, HaveJournal, IsLeftOf};
 ghost use Rattle.i2c_top.specs.Faults.{AccountsForFaults};
-ghost use Rattle.i2c_top.specs.Traces.{IsAtMostOnce};
+ghost use Rattle.i2c_top.specs.Traces.{IsAtMostOnce, IsRunOver, IsUnplugged, rig_view};
 ghost use Rattle.i2c_top.specs.Runs.{AreOpened, texts_of, cost_of_texts, MOST_COST, HasRun, HasRunTold, script_row};
 ghost use Rattle.i2c_top.specs.forms.Generations.{summary_of};
 ghost use Rattle.i2c_top.specs.declared.status.Status.TheVariants as status;
@@ -95,10 +95,7 @@ fn given_back<R: Rig>(ports: Vec<(SegId, CountedPort<R::P>)>, room: Vec<R::P>, r
     requires empty { room.items ≡ [] }
     requires room { length ports.items ≤ vec_capacity room }
     ensures given { IsTrue R.tells → IsTrue R.P.tells → AreGivenBack (R.board_of rig.old) (map (λ p. R.P.world p.1) ports.items) (map (λ p. R.P.log p.1) ports.items) (R.logs rig.new) (R.states rig.new) (R.port_faults rig.new) }
-    ensures later { R.faults rig.old ≤ R.faults rig.new }
-    ensures plugs { R.plugs rig.new ≡ R.plugs rig.old }
-    ensures unplugs { R.unplugs rig.new ≡ counted (R.unplugs rig.old) }
-    ensures unplugged { R.plugged rig.new ≡ false }
+    ensures rig { IsUnplugged (rig_view R.Rig R.P.tells rig.old) (rig_view R.Rig R.P.tells rig.new) }
 {
     rig.unplug(alone(ports, room));
 }
@@ -117,10 +114,7 @@ fn report_of_run<C: Printer, R: Rig>(
     ensures run { IsTrue R.tells → IsTrue R.P.tells → (callers : List C) (ports : List _) → IfOk ran (λ x. IsLeftOf R.P.Port C.Caller (R.board_of rig.old) callers ports (one_of x))
         → IfOk result (λ text. HasRunBy (R.board_of rig.old) (length (scripts_in C.Caller callers)) (asks_in C.asked (scripts_in C.Caller callers)) (printed_in C.printed (scripts_in C.Caller callers)) (HaveJournal ran) text (R.logs rig.new) (R.states rig.new) (R.port_faults rig.new)) }
     ensures failed { IfErr result (λ e. e ≡ status.Memory) }
-    ensures later { R.faults rig.old ≤ R.faults rig.new }
-    ensures plugs { R.plugs rig.new ≡ R.plugs rig.old }
-    ensures unplugs { R.unplugs rig.new ≡ counted (R.unplugs rig.old) }
-    ensures unplugged { R.plugged rig.new ≡ false }
+    ensures rig { IsUnplugged (rig_view R.Rig R.P.tells rig.old) (rig_view R.Rig R.P.tells rig.new) }
 {
     let Ok(ran) = ran else {
         rig.unplug(room);
@@ -151,10 +145,7 @@ fn summed<R: Rig>(
         → IfOk ran (IsLeftOf R.P.Port script_row (R.board_of rig.old) scripts ports) → IfOk ran (λ x. Follows words x.journal.entries)
         → IfOk result (λ text. HasRunTold (summary_of plan.now) (R.board_of rig.old) (texts_of scripts) (Some words) text (R.logs rig.new) (R.states rig.new) (R.port_faults rig.new)) }
     ensures failed { IfErr result (λ e. e ≡ status.Memory) }
-    ensures later { R.faults rig.old ≤ R.faults rig.new }
-    ensures plugs { R.plugs rig.new ≡ R.plugs rig.old }
-    ensures unplugs { R.unplugs rig.new ≡ counted (R.unplugs rig.old) }
-    ensures unplugged { R.plugged rig.new ≡ false }
+    ensures rig { IsUnplugged (rig_view R.Rig R.P.tells rig.old) (rig_view R.Rig R.P.tells rig.new) }
 {
     let Ok(parts) = ran else {
         rig.unplug(room);
@@ -188,14 +179,7 @@ pub fn run_callers<C: Printer, R: Rig>(
     requires covered { left_in C.Caller callers.items ≤ limit }
     requires cheap { limit ≤ MOST_COST }
     ensures run { IsTrue R.tells → IsTrue R.P.tells → IfOk result (λ text. HasRunOfAny C.asked C.printed board.now (scripts_in C.Caller callers.items) words.now text (R.logs rig.new) (R.states rig.new) (R.port_faults rig.new)) }
-    ensures failed { IfErr result (λ e. (e ≡ status.Rig) ⊎ (e ≡ status.Memory)) }
-    ensures rig { result ≡ Err status.Rig → Rose (R.faults rig.old) (R.faults rig.new) }
-    ensures later { R.faults rig.old ≤ R.faults rig.new }
-    ensures plugs { R.plugs rig.new ≡ counted (R.plugs rig.old) }
-    ensures unplugs { OnOk result (R.unplugs rig.new ≡ counted (R.unplugs rig.old)) }
-    ensures none { result ≡ Err status.Rig → R.unplugs rig.new ≡ R.unplugs rig.old }
-    ensures once { IsAtMostOnce (R.unplugs rig.old) (R.unplugs rig.new) }
-    ensures unplugged { R.plugged rig.new ≡ false }
+    ensures rig { IsRunOver (rig_view R.Rig R.P.tells rig.old) (rig_view R.Rig R.P.tells rig.new) result }
 {
     let (ports, room) = plugged(alloc, board, rig)?;
     let ran = finished(alloc, board, callers, limit, words, ports);
@@ -215,46 +199,11 @@ pub fn run_scripts<R: Rig>(
     requires named { All (λ c. c < length scripts.items) words.now }
     requires cheap { cost_of_texts board.now (texts_of scripts.items) ≤ MOST_COST }
     ensures run { IsTrue R.tells → IsTrue R.P.tells → IfOk result (λ text. HasRun board.now (texts_of scripts.items) (Some words.now) text (R.logs rig.new) (R.states rig.new) (R.port_faults rig.new)) }
-    ensures failed { IfErr result (λ e. (e ≡ status.Rig) ⊎ (e ≡ status.Memory)) }
-    ensures rig { result ≡ Err status.Rig → Rose (R.faults rig.old) (R.faults rig.new) }
-    ensures later { R.faults rig.old ≤ R.faults rig.new }
-    ensures plugs { R.plugs rig.new ≡ counted (R.plugs rig.old) }
-    ensures unplugs { OnOk result (R.unplugs rig.new ≡ counted (R.unplugs rig.old)) }
-    ensures none { result ≡ Err status.Rig → R.unplugs rig.new ≡ R.unplugs rig.old }
-    ensures once { IsAtMostOnce (R.unplugs rig.old) (R.unplugs rig.new) }
-    ensures unplugged { R.plugged rig.new ≡ false }
+    ensures rig { IsRunOver (rig_view R.Rig R.P.tells rig.old) (rig_view R.Rig R.P.tells rig.new) result }
 {
     scripts_are_fair();
     let limit = limit_of(board, scripts.as_slice());
     run_callers(alloc, board, scripts, limit, words, rig)
-}
-
-/// Runs scripts likewise, but without a schedule, each on a thread of its own.
-pub fn run_at_once<H: Threads + Wait + Sync, R: Rig, G: Gate + Sync>(
-    rt: &H,
-    alloc: Global,
-    board: &Accepted,
-    scripts: Vec<Script>,
-    gate: &G,
-    rig: &mut R,
-) -> Result<ReportText, Status>
-    requires opened { AreOpened board.now scripts.items }
-    requires few { length scripts.items ≤ MOST_CALLERS }
-    requires cheap { cost_of_texts board.now (texts_of scripts.items) ≤ MOST_COST }
-    ensures run { IsTrue R.tells → IsTrue R.P.tells → IfOk result (λ text. HasRun board.now (texts_of scripts.items) None text (R.logs rig.new) (R.states rig.new) (R.port_faults rig.new)) }
-    ensures failed { IfErr result (λ e. (e ≡ status.Rig) ⊎ (e ≡ status.Memory)) }
-    ensures rig { result ≡ Err status.Rig → Rose (R.faults rig.old) (R.faults rig.new) }
-    ensures later { R.faults rig.old ≤ R.faults rig.new }
-    ensures plugs { R.plugs rig.new ≡ counted (R.plugs rig.old) }
-    ensures unplugs { OnOk result (R.unplugs rig.new ≡ counted (R.unplugs rig.old)) }
-    ensures none { result ≡ Err status.Rig → R.unplugs rig.new ≡ R.unplugs rig.old }
-    ensures once { IsAtMostOnce (R.unplugs rig.old) (R.unplugs rig.new) }
-    ensures unplugged { R.plugged rig.new ≡ false }
-{
-    scripts_are_fair();
-    let (ports, room) = plugged(alloc, board, rig)?;
-    let ran = run_threads(rt, alloc, board, scripts, gate, ports);
-    report_of_run(alloc, ran, room, rig)
 }
 
 /// Runs generated scripts by their schedule, and gives the summary of their plan.
@@ -271,18 +220,32 @@ pub fn run_generated<R: Rig>(
     requires named { All (λ c. c < length scripts.items) words.now }
     requires cheap { cost_of_texts board.now (texts_of scripts.items) ≤ MOST_COST }
     ensures run { IsTrue R.tells → IsTrue R.P.tells → IfOk result (λ text. HasRunTold (summary_of plan.now) board.now (texts_of scripts.items) (Some words.now) text (R.logs rig.new) (R.states rig.new) (R.port_faults rig.new)) }
-    ensures failed { IfErr result (λ e. (e ≡ status.Rig) ⊎ (e ≡ status.Memory)) }
-    ensures rig { result ≡ Err status.Rig → Rose (R.faults rig.old) (R.faults rig.new) }
-    ensures later { R.faults rig.old ≤ R.faults rig.new }
-    ensures plugs { R.plugs rig.new ≡ counted (R.plugs rig.old) }
-    ensures unplugs { OnOk result (R.unplugs rig.new ≡ counted (R.unplugs rig.old)) }
-    ensures none { result ≡ Err status.Rig → R.unplugs rig.new ≡ R.unplugs rig.old }
-    ensures once { IsAtMostOnce (R.unplugs rig.old) (R.unplugs rig.new) }
-    ensures unplugged { R.plugged rig.new ≡ false }
+    ensures rig { IsRunOver (rig_view R.Rig R.P.tells rig.old) (rig_view R.Rig R.P.tells rig.new) result }
 {
     scripts_are_fair();
     let limit = limit_of(board, scripts.as_slice());
     let (ports, room) = plugged(alloc, board, rig)?;
     let ran = followed(alloc, board, scripts, limit, words, ports);
     summed(alloc, ran, plan, room, rig)
+}
+
+/// Runs scripts as `run_scripts` does, but without a schedule, each on a thread of its own.
+pub fn run_at_once<H: Threads + Wait + Sync, R: Rig, G: Gate + Sync>(
+    rt: &H,
+    alloc: Global,
+    board: &Accepted,
+    scripts: Vec<Script>,
+    gate: &G,
+    rig: &mut R,
+) -> Result<ReportText, Status>
+    requires opened { AreOpened board.now scripts.items }
+    requires few { length scripts.items ≤ MOST_CALLERS }
+    requires cheap { cost_of_texts board.now (texts_of scripts.items) ≤ MOST_COST }
+    ensures run { IsTrue R.tells → IsTrue R.P.tells → IfOk result (λ text. HasRun board.now (texts_of scripts.items) None text (R.logs rig.new) (R.states rig.new) (R.port_faults rig.new)) }
+    ensures rig { IsRunOver (rig_view R.Rig R.P.tells rig.old) (rig_view R.Rig R.P.tells rig.new) result }
+{
+    scripts_are_fair();
+    let (ports, room) = plugged(alloc, board, rig)?;
+    let ran = run_threads(rt, alloc, board, scripts, gate, ports);
+    report_of_run(alloc, ran, room, rig)
 }

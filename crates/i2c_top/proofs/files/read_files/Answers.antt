@@ -1,8 +1,8 @@
 use Rattle.i2c_top.proofs.Cited.{common_steps, ℕ, sym, ap, subst, ◌∙◌, arith, length, string_bytes, length-map, names_told, IsRefusedScript}
-use Rattle.i2c_top.proofs.Cited.{IsTooDear, cost_of_texts, texts_of}
+use Rattle.i2c_top.proofs.Cited.{texts_of}
 use Rattle.std.specs.Prelude.{option_map}
 use Rattle.i2c_top.proofs.FileLemmas.{all_kept, all_scripts, has_read, passed_on, scripts_refusal, schedule_before, order_refusal}
-use Rattle.i2c_top.proofs.FileLemmas.{cost_refusal, board_unreached, scripts_unreached, order_unreached}
+use Rattle.i2c_top.proofs.FileLemmas.{cost_refusal, dear_of, board_unreached, scripts_unreached, order_unreached}
 use Rattle.i2c_top.proofs.SomeFiles.{some-read}
 use Rattle.i2c_top.proofs.files.read_files.Goals as goal
 
@@ -53,8 +53,7 @@ returns-in_err-check_cost-clause-refused g c =
     (c.in_ok-board.ensures.board t) count
     c.in_ok-scripts.ensures.scripts c.callers_of.result (c.callers_of.ensures ∙ ap length c.as_slice.ensures.value ∙ count)
     (c.in_ok-schedule.ensures.order t))
-    (subst (λ xs. IsTooDear (cost_of_texts c.in_ok-board.board (texts_of xs)) c.in_err-check_cost.field-0.0) c.as_slice-2.ensures.value
-    c.in_err-check_cost.ensures.dear))
+    (dear_of c.in_ok-board.board c.as_slice-2.ensures.value c.in_err-check_cost.ensures.dear))
 
 pub returns-in_err-check_cost-clause-kept : goal.returns-in_err-check_cost-clause-kept
 returns-in_err-check_cost-clause-kept g c =

@@ -1,22 +1,16 @@
-use Rattle.i2c_top.proofs.Cited.{common_steps, ◌≡◌, ℕ, ◌<◌, [], ◌∷◌, ◌++◌, All, length, map, sym, ◌∙◌, ap, subst, arith, vec_len}
-use Rattle.i2c_top.proofs.Cited.{vec_capacity, length-map, All-push, AccountsForFaults}
+use Rattle.i2c_top.proofs.Cited.{common_steps, ℕ, [], ◌∷◌, ◌++◌, All, sym, ◌∙◌, ap, subst, arith, length-map, All-push, AccountsForFaults}
 use Rattle.i2c_top.proofs.Numbering.{map-push, over-next, room-next}
 use Rattle.i2c_top.proofs.run.alone.Goals as goal
 
 pub push_reserved-requires : goal.push_reserved-requires
 push_reserved-requires g c =
-    let room : length c.loop-port.alone.items < vec_capacity c.loop-port.alone =
-    room-next (map (λ (p : ℕ × _). p.1)) c.args.ports.items c.loop-port.yielded _ _ _ _ _ _ c.loop-port.invariant.over
-    c.in-Some.ensures.steps.0
-    (length-map c.loop-port.yielded (λ (p : ℕ × _). p.1)) in
-    let len : vec_len c.loop-port.alone ≡ length c.loop-port.alone.items = c.loop-port.alone.ok.0 in
-    omega (arith, room, len)
+    room-next c.loop-port.invariant.over c.in-Some.ensures.steps.0 (length-map c.loop-port.yielded (λ (p : ℕ × _). p.1))
+    c.loop-port.alone.ok.0
 
 pub loop-port-preserved : goal.loop-port-preserved
 loop-port-preserved g c =
     record {
-      over = over-next (map (λ (p : ℕ × _). p.1)) c.args.ports.items c.loop-port.yielded _ _ _ _ _ _ _ _ _ _ c.loop-port.invariant.over
-          c.in-Some.ensures.steps.0 c.in-Some.ensures.steps.1 (c.push_reserved.ensures.items
+      over = over-next c.loop-port.invariant.over c.in-Some.ensures.steps.0 _ c.in-Some.ensures.steps.1 (c.push_reserved.ensures.items
           ∙ ap (λ (p : _). c.loop-port.alone.items ++ p ∷ []) c.into_port.ensures.port)
           c.push_reserved.ensures.capacity (map-push (λ (p : ℕ × _). p.1) c.loop-port.yielded _);
       accounts = subst (All (AccountsForFaults g.P.Port)) (sym c.push_reserved.ensures.items)

@@ -1,9 +1,8 @@
-use Rattle.i2c_top.proofs.Cited.{◌≡◌, ◌<◌, ◌≤◌, ◌∙◌, List, ℕ, All, length, map, sym, ap, subst, arith, IfOk, length-map, CallerView}
-use Rattle.i2c_top.proofs.Cited.{BoardView, AtrCallerView, lowered, behind_of, HasAtrRun, left_in, scripts_in, AreReady, HasRunOfAny}
+use Rattle.i2c_top.proofs.Cited.{◌≡◌, ◌<◌, ◌≤◌, ◌∙◌, List, ℕ, All, length, map, sym, ap, subst, arith, length-map, CallerView}
+use Rattle.i2c_top.proofs.Cited.{BoardView, AtrCallerView, behind_of, left_in, AreReady}
 use Rattle.i2c_top.proofs.Cited.{AreOpened, cost_of_texts, texts_of}
-use Rattle.i2c_top.proofs.AtrRun.{atr_row, behind-covered, behind-ready, behind-run, section_by}
+use Rattle.i2c_top.proofs.AtrRun.{atr_row, behind-covered, behind-ready, behind-ran}
 use Rattle.i2c_top.proofs.AtrLemmas.{atr_done, atr_failed}
-use Rattle.i2c_top.proofs.CoreLemmas.{if-ok}
 use Rattle.i2c_top.proofs.FileLemmas.{passed_on}
 use Rattle.i2c_top.proofs.forms.atr.atr.Goals as goal
 
@@ -43,35 +42,16 @@ pub returns-clause-done : goal.returns-clause-done
 returns-clause-done g c =
     let f = c.in_ok-board.field-0 in
     let read = c.in_ok-board.ensures in
-    let run = c.run_callers.ensures in
     let rig = c.run_callers.new.rig in
-    let logs = g.R.Rig.logs rig in
-    let states = g.R.Rig.states rig in
-    let counts = g.R.Rig.port_faults rig in
     let opened = subst (λ (b : BoardView). AreOpened b f.scripts.items) (sym read.board) read.opened in
-    let callers = map (behind_of f.map) f.scripts.items in
     atr_done _ _ _ _ _ f.board f.map (texts_of f.scripts.items) f.words.items read.some read.read read.cheap c.read_files.ensures.kept
-    run.plugs run.unplugged
-    c.run_callers.result (λ v. v) run.unplugs
-    (λ tells ports. if-ok
-    (λ text. HasRunOfAny atr_row.asked section_by (lowered f.map.board f.map.translators)
-    (scripts_in atr_row callers) f.words.items text logs states counts)
-    (λ text. HasAtrRun f.map (texts_of f.scripts.items) f.words.items text logs states counts)
-    (λ text h. behind-run f.map f.scripts.items opened f.words.items text logs states counts h) c.run_callers.result
-    (subst (λ (ws : List ℕ). IfOk c.run_callers.result (λ text. HasRunOfAny atr_row.asked section_by (lowered f.map.board f.map.translators)
-    (scripts_in atr_row callers) ws text logs states counts)) c.as_slice-2.ensures.value
-    (subst (λ (cs : List AtrCallerView). IfOk c.run_callers.result (λ text. HasRunOfAny atr_row.asked section_by
-    (lowered f.map.board f.map.translators) (scripts_in atr_row cs) c.as_slice-2.result.now text logs states counts))
-    c.in_ok-callers.ensures
-    (subst (λ (b : BoardView). IfOk c.run_callers.result (λ text. HasRunOfAny atr_row.asked section_by b
-    (scripts_in atr_row c.in_ok-callers.callers.items) c.as_slice-2.result.now text logs states counts)) c.lowered.ensures.value
-    (run.run tells ports)))))
+    c.run_callers.result c.run_callers.ensures.rig
+    (λ tells ports. behind-ran f.map f.scripts.items opened (g.R.Rig.logs rig) (g.R.Rig.states rig) (g.R.Rig.port_faults rig)
+    c.lowered.ensures.value c.in_ok-callers.ensures c.as_slice-2.ensures.value c.run_callers.result (c.run_callers.ensures.run tells ports))
 
 pub returns-clause-refused : goal.returns-clause-refused
 returns-clause-refused g c =
     let f = c.in_ok-board.field-0 in
     let read = c.in_ok-board.ensures in
-    let run = c.run_callers.ensures in
     atr_failed _ _ _ _ _ f.board f.map (texts_of f.scripts.items) f.words.items read.some read.read read.cheap c.read_files.ensures.kept
-    run.plugs run.unplugged
-    c.run_callers.result run.none run.once run.rig run.failed
+    c.run_callers.result c.run_callers.ensures.rig

@@ -1,13 +1,16 @@
-use Rattle.i2c_top.proofs.Cited.{◌≡◌, ◌<◌, ◌∙◌, List, [], ℕ, All, length, sym, ap, subst, arith, IfOk, unwrap_or, option_map, length-map}
-use Rattle.i2c_top.proofs.Cited.{CallerView, scripts_fair, CachedScript, cached_asked, HasRunOfAny, cost_of_texts, texts_of, cached_scripts}
-use Rattle.i2c_top.proofs.Cited.{HasCachedRun, IsCachedAnswer, names_told}
+use Rattle.i2c_top.proofs.Cited.{◌≡◌, ◌<◌, ◌∙◌, List, [], ℕ, All, length, sym, ap, subst, arith, unwrap_or, option_map, length-map}
+use Rattle.i2c_top.proofs.Cited.{CallerView, scripts_fair, cost_of_texts, texts_of}
+use Rattle.i2c_top.proofs.Cited.{IsCachedAnswer, names_told}
 use Rattle.i2c_top.proofs.CachedLemmas.{cached_done}
-use Rattle.i2c_top.proofs.CachedRun.{cached-ready, cached-run, cached_section, count-cached, left-cached}
-use Rattle.i2c_top.proofs.CoreLemmas.{if-ok}
-use Rattle.i2c_top.proofs.ReplayLemmas.{files_refused, named_all, run_failed}
-use Rattle.i2c_top.proofs.FileLemmas.{passed_on}
+use Rattle.i2c_top.proofs.CachedRun.{cached-ready, count-cached, left-cached, cached-ran}
+use Rattle.i2c_top.proofs.ReplayLemmas.{files_passed_on, named_all, run_failed}
 use Rattle.i2c_top.proofs.forms.cached.cached.Goals as goal
 use Rattle.i2c_top.proofs.forms.cached.cached.Goals.{In_ok-callers}
+
+pub returns-in_err-board-clause-refused : goal.returns-in_err-board-clause-refused
+returns-in_err-board-clause-refused g c =
+    files_passed_on (names_told c.args.names.now) IsCachedAnswer _ _ _ c.from_residual.result c.in_err-board.field-0.0
+    c.from_residual.ensures.1 c.read_files.ensures.kept c.in_err-board.ensures.unreached c.in_err-board.ensures.refused
 
 -- a caller for each script
 module _ (g : _) (c : In_ok-callers g) where
@@ -51,35 +54,14 @@ pub returns-clause-done : goal.returns-clause-done
 returns-clause-done g c =
     let f = c.in_ok-board.field-0 in
     let read = c.in_ok-board.ensures in
-    let run = c.run_callers.ensures in
     let rig = c.run_callers.new.rig in
-    let logs = g.R.Rig.logs rig in
-    let states = g.R.Rig.states rig in
-    let counts = g.R.Rig.port_faults rig in
-    let texts = texts_of f.scripts.items in
-    let words = unwrap_or (option_map (λ v. v.items) f.schedule) [] in
-    let listed : c.as_slice-2.result.now ≡ words = c.as_slice-2.ensures.value ∙ c.listed-words.ensures in
-    cached_done _ _ _ _ _ _ _ _ read.some read.read read.cheap c.read_files.ensures.kept run.plugs run.unplugged c.run_callers.result
-    (λ v. v) c.requires.scheduled run.unplugs
-    (λ tells ports. if-ok
-    (λ text. HasRunOfAny cached_asked cached_section f.board (cached_scripts f.board texts) words text logs states counts)
-    (λ text. HasCachedRun f.board texts words text logs states counts)
-    (λ text h. cached-run f.board texts words text logs states counts h) c.run_callers.result
-    (subst (λ (ws : List ℕ). IfOk c.run_callers.result (λ text. HasRunOfAny cached_asked cached_section f.board
-    (cached_scripts f.board texts)
-    ws text logs states counts)) listed
-    (subst (λ (ss : List CachedScript). IfOk c.run_callers.result (λ text. HasRunOfAny cached_asked cached_section f.board ss
-    c.as_slice-2.result.now text logs states counts)) c.in_ok-callers.ensures.scripts (run.run tells ports))))
+    cached_done _ _ _ _ _ _ _ _ read.some read.read read.cheap c.read_files.ensures.kept c.run_callers.result c.requires.scheduled
+    c.run_callers.ensures.rig
+    (λ tells ports. cached-ran f.board (texts_of f.scripts.items) (g.R.Rig.logs rig) (g.R.Rig.states rig) (g.R.Rig.port_faults rig)
+    c.in_ok-callers.ensures.scripts (c.as_slice-2.ensures.value ∙ c.listed-words.ensures) c.run_callers.result
+    (c.run_callers.ensures.run tells ports))
 
 pub returns-clause-refused : goal.returns-clause-refused
 returns-clause-refused g c =
     let read = c.in_ok-board.ensures in
-    let run = c.run_callers.ensures in
-    run_failed _ IsCachedAnswer _ _ _ _ _ _ _ read.read read.cheap c.read_files.ensures.kept run.plugs run.unplugged c.run_callers.result
-    run.none run.once run.rig run.failed
-
-pub returns-in_err-board-clause-refused : goal.returns-in_err-board-clause-refused
-returns-in_err-board-clause-refused g c =
-    passed_on c.from_residual.result c.in_err-board.field-0.0 _ c.from_residual.ensures.1
-    (files_refused (names_told c.args.names.now) IsCachedAnswer _ _ _ c.in_err-board.field-0.0 c.read_files.ensures.kept
-    c.in_err-board.ensures.unreached c.in_err-board.ensures.refused)
+    run_failed IsCachedAnswer read.read read.cheap c.read_files.ensures.kept c.run_callers.ensures.rig

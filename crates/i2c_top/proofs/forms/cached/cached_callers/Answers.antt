@@ -1,31 +1,22 @@
-use Rattle.i2c_top.proofs.Cited.{◌≡◌, ◌<◌, ℕ, List, [], All, length, map, sym, ◌∙◌, ap, subst, arith, vec_len, vec_capacity, AllZip}
+use Rattle.i2c_top.proofs.Cited.{◌≡◌, ◌<◌, ℕ, List, [], All, length, map, sym, ◌∙◌, ap, subst, arith, AllZip}
 use Rattle.i2c_top.proofs.Cited.{common_steps, length-map, All-push, IsOpened, IsReachOf, CallerView, Reach, CachedView, cacheable_devices}
 use Rattle.i2c_top.proofs.Cited.{AreReaches, texts_of}
 use Rattle.i2c_top.proofs.CachedRun.{all_cached, cached-next, cached-texts, kept-there, length-all_cached, reaches-by-texts}
-use Rattle.i2c_top.proofs.Numbering.{below-next, map-push, next-holds, over-next, room-next, so-many}
+use Rattle.i2c_top.proofs.Numbering.{map-push, next-holds, number-below, number-next, over-next, room-next}
 use Rattle.i2c_top.proofs.forms.cached.cached_callers.Goals as goal
 use Rattle.i2c_top.proofs.forms.cached.cached_callers.Goals.{In_ok-devices}
 
 pub overflow_cast-caller : goal.overflow_cast-caller
 overflow_cast-caller c =
-    let b = c.args.board.now in
-    let told = all_cached b (texts_of c.args.scripts.items) in
-    let came = c.loop-script.yielded in
-    let at = c.loop-script.invariant.over in
-    let below = below-next told c.args.scripts.items came _ _ _ _ _ _ at c.in-Some.ensures.steps.0 in
-    let many : length c.loop-script.callers.items ≡ length (map (λ (x : CachedView). x.script) c.loop-script.callers.items) =
-    sym (length-map c.loop-script.callers.items (λ (x : CachedView). x.script)) in
-    let number : c.len-caller.result ≡ length came =
-    so-many told c.args.scripts.items came _ _ _ _ c.len-caller.result (vec_len c.loop-script.callers) at
-    (length-all_cached b (texts_of c.args.scripts.items) came) c.len-caller.ensures (c.loop-script.callers.ok.0 ∙ many) in
+    let low = number-below c.loop-script.invariant.over c.in-Some.ensures.steps.0
+    (length-all_cached c.args.board.now (texts_of c.args.scripts.items) c.loop-script.yielded) c.len-caller.ensures
+    (c.loop-script.callers.ok.0 ∙ sym (length-map c.loop-script.callers.items (λ (x : CachedView). x.script))) in
     let few = c.requires.few in
-    omega (arith, below, few, number)
+    omega (arith, low, few)
 
 pub open-requires-clause-opened : goal.open-requires-clause-opened
 open-requires-clause-opened c =
-    let told = all_cached c.args.board.now (texts_of c.args.scripts.items) in
-    next-holds told c.args.scripts.items (λ s. IsOpened c.args.board.now s.script.text s) c.loop-script.yielded _ _ _ _ _ _
-    c.loop-script.invariant.over c.in-Some.ensures.steps.0 c.requires.opened
+    next-holds c.loop-script.invariant.over c.in-Some.ensures.steps.0 (λ s. IsOpened c.args.board.now s.script.text s) c.requires.opened
 
 -- the devices that are opened for a script are those that it may keep
 module _ (c : In_ok-devices) where
@@ -51,30 +42,21 @@ open-requires-clause-there c =
 
 pub push_reserved-requires : goal.push_reserved-requires
 push_reserved-requires c =
-    let told = all_cached c.args.board.now (texts_of c.args.scripts.items) in
-    let room : length (map (λ (x : CachedView). x.script) c.loop-script.callers.items) < vec_capacity c.loop-script.callers =
-    room-next told c.args.scripts.items c.loop-script.yielded _ _ _ _ _ _ c.loop-script.invariant.over c.in-Some.ensures.steps.0
-    (length-all_cached c.args.board.now (texts_of c.args.scripts.items) c.loop-script.yielded) in
-    let many = length-map c.loop-script.callers.items (λ (x : CachedView). x.script) in
-    let len : vec_len c.loop-script.callers ≡ length c.loop-script.callers.items = c.loop-script.callers.ok.0 in
-    omega (arith, room, many, len)
+    room-next c.loop-script.invariant.over c.in-Some.ensures.steps.0
+    (length-all_cached c.args.board.now (texts_of c.args.scripts.items) c.loop-script.yielded)
+    (c.loop-script.callers.ok.0 ∙ sym (length-map c.loop-script.callers.items (λ (x : CachedView). x.script)))
 
 pub loop-script-preserved : goal.loop-script-preserved
 loop-script-preserved c =
     let g = (goal.at.loop-script-preserved c).In_ok-devices in
     let b = c.args.board.now in
-    let told = all_cached b (texts g) in
     let came = c.loop-script.yielded in
-    let many : length c.loop-script.callers.items ≡ length (map (λ (x : CachedView). x.script) c.loop-script.callers.items) =
-    sym (length-map c.loop-script.callers.items (λ (x : CachedView). x.script)) in
-    let number : c.len-caller.result ≡ length came =
-    so-many told c.args.scripts.items came _ _ _ _ c.len-caller.result (vec_len c.loop-script.callers) c.loop-script.invariant.over
-    (length-all_cached b (texts g) came) c.len-caller.ensures (c.loop-script.callers.ok.0 ∙ many) in
+    let number = number-next c.loop-script.invariant.over c.in-Some.ensures.steps.0 (length-all_cached b (texts g) came)
+    c.len-caller.ensures (c.loop-script.callers.ok.0 ∙ sym (length-map c.loop-script.callers.items (λ (x : CachedView). x.script))) in
     let opened = c.in_ok-open.ensures.script
     ∙ ap (λ (ds : List ℕ). record { script = c.in-Some.script.script; devices = ds }) (devices g) in
     record {
-      over = over-next told c.args.scripts.items came _ _ _ _ _ _ _ _ _ _ c.loop-script.invariant.over c.in-Some.ensures.steps.0
-          c.in-Some.ensures.steps.1
+      over = over-next c.loop-script.invariant.over c.in-Some.ensures.steps.0 _ c.in-Some.ensures.steps.1
           (ap (λ (cs : List CachedView). map (λ (x : CachedView). x.script) cs) c.push_reserved.ensures.items
           ∙ map-push (λ (x : CachedView). x.script) c.loop-script.callers.items c.in_ok-open.field-0)
           c.push_reserved.ensures.capacity

@@ -10,15 +10,13 @@ returns-clause-done g c =
     let p = c.args.plan.now in
     let rig = c.run_generated.new.rig in
     each_ok c.run_generated.result _
-    (λ shelf. gen_done p shelf _ _ c.run_generated.result (λ v. v) run.plugs run.unplugged run.unplugs
+    (λ shelf. gen_done p shelf _ _ c.run_generated.result run.rig
     (λ tells ports. made_summary p c.in_ok-board.field-0.board c.in_ok-board.field-0.scripts.items c.in_ok-board.field-0.schedule.items
-    c.run_generated.result (λ v. v) (g.R.Rig.logs rig) (g.R.Rig.states rig) (g.R.Rig.port_faults rig) made.made made.schedule
+    c.run_generated.result (g.R.Rig.logs rig) (g.R.Rig.states rig) (g.R.Rig.port_faults rig) made.made made.schedule
     (subst (λ (ws : List ℕ). IfOk c.run_generated.result (λ x. HasRunTold (summary_of p) c.in_ok-board.field-0.board
     (texts_of c.in_ok-board.field-0.scripts.items) (Some ws) x (g.R.Rig.logs rig) (g.R.Rig.states rig) (g.R.Rig.port_faults rig)))
     c.as_slice.ensures.value (run.run tells ports))))
 
 pub returns-clause-refused : goal.returns-clause-refused
 returns-clause-refused g c =
-    let run = c.run_generated.ensures in
-    each_err c.run_generated.result _
-    (λ shelf. gen_failed c.args.plan.now shelf _ _ c.run_generated.result run.plugs run.unplugged run.none run.once run.rig run.failed)
+    each_err c.run_generated.result _ (λ shelf. gen_failed c.args.plan.now shelf _ _ c.run_generated.result c.run_generated.ensures.rig)

@@ -1,18 +1,13 @@
 use Rattle.i2c_top.proofs.Cited.{names_told, replay_form}
-use Rattle.i2c_top.proofs.EndingLemmas.{ended_by, ended_same}
+use Rattle.i2c_top.proofs.EndingLemmas.{ended_as}
 use Rattle.i2c_top.proofs.ReplayCauses.{replay_decides}
 use Rattle.i2c_top.proofs.ReplayLemmas.{ended_replayed}
 use Rattle.i2c_top.proofs.forms.replay.run_call.Goals as goal
 
-abbrev ended : goal.returns-clause-ended
-ended g c =
-    let names = names_told c.of_run-names.result in
-    ended_same replay_form _ _ _ _ c.write_outcome.result c.of_run-names.ensures.value
-    (ended_by (replay_form names) (replay_decides names) _ _ _ c.run-outcome.result (λ v. v) c.write_outcome.result c.requires.words
-    c.run-outcome.ensures.done c.run-outcome.ensures.refused c.write_outcome.ensures.done c.write_outcome.ensures.refused)
-
 pub returns-clause-ended : goal.returns-clause-ended
-returns-clause-ended g c = ended g c
+returns-clause-ended g c =
+    ended_as replay_form c.run-outcome.result c.of_run-names.ensures.value (replay_decides (names_told c.of_run-names.result))
+    c.requires.words c.run-outcome.ensures.done c.run-outcome.ensures.refused c.write_outcome.ensures.done c.write_outcome.ensures.refused
 
 pub returns-clause-success : goal.returns-clause-success
-returns-clause-success g c = ended_replayed _ _ _ c.write_outcome.result (ended g c)
+returns-clause-success g c = ended_replayed _ _ _ c.write_outcome.result (returns-clause-ended g c)
