@@ -147,14 +147,9 @@ impl Eeprom {
         ensures { IfOk result (λ e. e ≡ self.now) }
     {
         Ok(Eeprom {
-            size: self.size,
-            awaits: self.awaits,
-            pointer: self.pointer,
             memory: self.memory.as_slice().to_vec(alloc)?,
             waiting: self.waiting.as_slice().to_vec(alloc)?,
-            left: self.left,
-            busy: self.busy,
-            wp: self.wp,
+            ..*self
         })
     }
 

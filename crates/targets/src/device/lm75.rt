@@ -98,14 +98,7 @@ impl Lm75 {
     pub fn copied(&self) -> Self
         ensures { result ≡ self.now }
     {
-        Lm75 {
-            awaits: self.awaits,
-            pointer: self.pointer,
-            temperature: self.temperature,
-            configuration: self.configuration,
-            hysteresis: self.hysteresis,
-            limit: self.limit,
-        }
+        Lm75 { ..*self }
     }
 
     /// Byte k of the register of the pointer.

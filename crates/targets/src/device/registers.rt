@@ -91,12 +91,7 @@ impl Regs {
     pub fn copied(&self) -> Self
         ensures { result ≡ self.now }
     {
-        Regs {
-            awaits: self.awaits,
-            pointer: self.pointer,
-            memory: self.memory,
-            hold: self.hold,
-        }
+        Regs { ..*self }
     }
 
     fn begin(&mut self, reading: bool) -> Answer

@@ -143,14 +143,8 @@ impl SmbusDevice {
         ensures { result ≡ self.now }
     {
         SmbusDevice {
-            addr: self.addr,
-            width: self.width,
-            flip: self.flip,
-            awaits: self.awaits,
-            command: self.command,
-            code: self.code,
             held: self.held.copied(),
-            memory: self.memory,
+            ..*self
         }
     }
 
