@@ -2,10 +2,9 @@
 use Rattle.std.proofs.Common.{◌≡◌, ℕ, ◌<◌, Bool, true, false, cond, List, [], ◌∷◌, map, refl, ap, sym, ◌∙◌, arith, subst}
 use Rattle.std.specs.Prelude.{not, Result, Ok, Err}
 use Rattle.std.specs.List.{AllByRecursion}
-use Rattle.i2c_base.specs.Board.{BoardView}
 use Rattle.i2c_base.specs.declared.event.Event.TheVariants.{Put, Get}
 use Rattle.i2c_spec.specs.Chips.{ChipView, chip_table}
-use Rattle.i2c_spec.specs.Targets.{TargetState, state_table, HoldsBytes, KeepsBytes}
+use Rattle.i2c_spec.specs.Targets.{TargetState, state_table, HoldsBytes}
 use Rattle.i2c_spec.specs.World.{takes, gives}
 use Rattle.wire_spec.specs.declared.mode.Mode.{Mode}
 use Rattle.wire_spec.specs.declared.mode.Mode.TheVariants.{Out, In, Give}
@@ -15,9 +14,8 @@ use Rattle.wire_spec.specs.Bus.{Counts, Bus, Came, came_up, gave_up, bit_step, b
 use Rattle.wire_spec.specs.Calls.{more_edges, within, sent_byte, read_byte, then_answer}
 use Rattle.wire_spec.specs.Sites.{NodeState, node_table, both, chips_in, devices_in, world_by, mask_of}
 use Rattle.wire_spec.specs.WorldLaws.{PartsOfBoth, PutOnSites, GetOnSites}
-use Rattle.wire_spec.specs.CallLaws.{PutOnWires, GetOnWires}
 use Rattle.i2c_bits.specs.Wiring.{Rooted, the_table, mask_at, came_acked, CameRead}
-use Rattle.i2c_bits.specs.Stands.{AreTold, StandsIn, PutTold, GetTold, sites_of, chips_on, devices_on, world_at}
+use Rattle.i2c_bits.specs.Stands.{AreTold, BytesAreInWorld, StandsIn, PutTold, GetTold, sites_of, chips_on, devices_on, world_at}
 use Rattle.i2c_bits.specs.declared.lines.Lines.{Ghosts as LinesGhosts}
 use Rattle.i2c_bits.specs.declared.lines.SclTimeout.{SclTimeout}
 use mathlib.Core.Bool.{not-not}
@@ -146,9 +144,7 @@ shifted_same false false h = refl
 shifted_same true false h = absurd (omega arith)
 shifted_same false true h = absurd (omega arith)
 
-module _ (parts : (cs : List (Site ChipView)) (ds : List (Site TargetState)) → PartsOfBoth cs ds)
-    (keeps : KeepsBytes state_table HoldsBytes)
-    (k : Rooted) (w w1 : Bus NodeState) where
+module _ (law : BytesAreInWorld) (k : Rooted) (w w1 : Bus NodeState) where
   -- the sites after a put, and after a get
   abbrev chips_put : ℕ → List (Site ChipView)
   chips_put byte = map (put_site chip_table byte) (chips_on w)
@@ -162,71 +158,65 @@ module _ (parts : (cs : List (Site ChipView)) (ds : List (Site TargetState)) →
   abbrev devices_got : Bool → List (Site TargetState)
   devices_got ack = map (get_site state_table ack) (devices_on w)
 
-  put_comes : PutOnWires → (byte : ℕ) → byte < 256 → StandsIn k (In false 8 0) w → (c : Came NodeState)
+  put_comes : (byte : ℕ) → byte < 256 → StandsIn k (In false 8 0) w → (c : Came NodeState)
       → c ≡ sent_byte the_table (mask_at k) byte w
       → c ≡ came_up (shifted 0 (not (takes (world_at k true w) byte)))
       (within (In false 8 0) false (both (chips_put byte) (devices_put byte)) (more_edges 9 w.counts))
   unfolding the_table mask_at
-  put_comes wires byte lt stands c is =
+  put_comes byte lt stands c is =
       is ∙ (ap (sent_byte node_table (mask_of k.board k.root) byte) stands.lines
-      ∙ wires k.board k.root byte lt true w.sda (chips_on w) (devices_on w) w.counts)
+      ∙ law.put_wires k.board k.root byte lt true w.sda (chips_on w) (devices_on w) w.counts)
 
-  pub put_told : PutOnWires
-      → ((b : BoardView) (r : ℕ) (busy : Bool) (byte : ℕ) (cs : List (Site ChipView)) (ds : List (Site TargetState))
-      → PutOnSites b r busy byte cs ds)
-      → (byte : ℕ) → byte < 256 → StandsIn k (In false 8 0) w → (r : Result Bool SclTimeout)
+  pub put_told : (byte : ℕ) → byte < 256 → StandsIn k (In false 8 0) w → (r : Result Bool SclTimeout)
       → came_acked r w1 ≡ sent_byte the_table (mask_at k) byte w → PutTold k r byte w w1
-  put_told wires sites byte lt stands (Err e) is =
-      let p : false ≡ true = ap (λ c. c.up) (put_comes wires byte lt stands (gave_up w1) is) in cc
-  put_told wires sites byte lt stands (Ok acked) is =
-      let comes = put_comes wires byte lt stands (came_up (shifted 0 (not acked)) w1) is in
-      let site : PutOnSites k.board k.root true byte (chips_on w) (devices_on w) = sites k.board k.root true byte (chips_on w)
+  put_told byte lt stands (Err e) is =
+      let p : false ≡ true = ap (λ c. c.up) (put_comes byte lt stands (gave_up w1) is) in cc
+  put_told byte lt stands (Ok acked) is =
+      let comes = put_comes byte lt stands (came_up (shifted 0 (not acked)) w1) is in
+      let site : PutOnSites k.board k.root true byte (chips_on w) (devices_on w) = law.put_sites k.board k.root true byte (chips_on w)
       (devices_on w) in
       let on : On w1 (chips_put byte) (devices_put byte) =
-      on_lines parts w1 (chips_put byte) (devices_put byte) (In false 8 0) (ap (λ c. c.bus.targets) comes) in
+      on_lines law.parts w1 (chips_put byte) (devices_put byte) (In false 8 0) (ap (λ c. c.bus.targets) comes) in
       record {
         answer = shifted_same acked (takes (world_at k true w) byte) (ap (λ c. c.read) comes);
         stands = stands_on k (In false 8 0) w1 false (more_edges 9 w.counts) (chips_put byte) (devices_put byte) on (ap (λ c. c.bus) comes)
             (record {
               sites = site.kept stands.told.sites;
               bytes = all_kept (put_site state_table byte)
-                  (λ s old. kept_where (hearing s) s (puts state_table s byte) old (λ is. keeps.after s.state (Put byte) lt is))
+                  (λ s old. kept_where (hearing s) s (puts state_table s byte) old (λ is. law.kept.after s.state (Put byte) lt is))
                   (devices_on w) stands.told.bytes;
             });
         world = world_on k true w1 (chips_put byte) (devices_put byte) on ∙ site.world;
         counts = ap (λ c. c.bus.counts) comes;
       }
 
-  get_comes : GetOnWires → (ack : Bool) → StandsIn k (Give 8) w
+  get_comes : (ack : Bool) → StandsIn k (Give 8) w
       → read_byte the_table (mask_at k) ack w
       ≡ came_up (gives (world_at k true w))
       (within (cond ack (Give 8) Out) ack (both (chips_got ack) (devices_got ack)) (more_edges 9 w.counts))
   unfolding the_table mask_at
-  get_comes wires ack stands =
+  get_comes ack stands =
       ap (read_byte node_table (mask_of k.board k.root) ack) stands.lines
-      ∙ wires k.board k.root true ack w.sda (chips_on w) (devices_on w) w.counts
+      ∙ law.get_wires k.board k.root true ack w.sda (chips_on w) (devices_on w) w.counts
 
-  pub get_told : GetOnWires
-      → ((b : BoardView) (r : ℕ) (busy ack : Bool) (cs : List (Site ChipView)) (ds : List (Site TargetState))
-      → GetOnSites b r busy ack cs ds)
-      → (ack : Bool) → StandsIn k (Give 8) w → (r : Result ℕ SclTimeout)
+  pub get_told : (ack : Bool) → StandsIn k (Give 8) w → (r : Result ℕ SclTimeout)
       → CameRead r w1 (read_byte the_table (mask_at k) ack w) → GetTold k r ack w w1
-  get_told wires sites ack stands (Err e) is =
-      let p : false ≡ true = sym is.0 ∙ ap (λ c. c.up) (get_comes wires ack stands) in cc
-  get_told wires sites ack stands (Ok byte) is =
-      let comes = is ∙ get_comes wires ack stands in
-      let site : GetOnSites k.board k.root true ack (chips_on w) (devices_on w) = sites k.board k.root true ack (chips_on w)
+  get_told ack stands (Err e) is =
+      let p : false ≡ true = sym is.0 ∙ ap (λ c. c.up) (get_comes ack stands) in cc
+  get_told ack stands (Ok byte) is =
+      let comes = is ∙ get_comes ack stands in
+      let site : GetOnSites k.board k.root true ack (chips_on w) (devices_on w) = law.get_sites k.board k.root true ack (chips_on w)
       (devices_on w) in
       let m : Mode = cond ack (Give 8) Out in
       let on : On w1 (chips_got ack) (devices_got ack) =
-      on_lines parts w1 (chips_got ack) (devices_got ack) m (ap (λ c. c.bus.targets) comes) in
+      on_lines law.parts w1 (chips_got ack) (devices_got ack) m (ap (λ c. c.bus.targets) comes) in
       record {
         answer = ap (λ c. c.read) comes;
         stands = stands_on k m w1 ack (more_edges 9 w.counts) (chips_got ack) (devices_got ack) on (ap (λ c. c.bus) comes)
             (record {
               sites = site.kept stands.told.sites;
               bytes = all_kept (get_site state_table ack)
-                  (λ s old. kept_where (hearing s) s (gets state_table s ack) old (λ is. keeps.after s.state (Get ack) tt is))
+                  (λ s old. kept_where (hearing s) s (gets state_table s ack) old (λ is. law.kept.after s.state (Get ack) tt is))
                   (devices_on w) stands.told.bytes;
             });
         world = world_on k true w1 (chips_got ack) (devices_got ack) on ∙ site.world;

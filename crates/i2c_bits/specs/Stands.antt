@@ -1,11 +1,12 @@
 -- How told lines stand between two calls, the world of bytes that they are, and what a call on them is in it.
 use Rattle.std.specs.Prelude.{ℕ, ◌≡◌, ◌/◌, ◌<◌, ◌⊎◌, Bool, true, false, cond, List, [], map, Result, Ok, Err}
 use Rattle.std.specs.List.{AllByRecursion}
+use Rattle.i2c_base.specs.Board.{BoardView}
 use Rattle.i2c_base.specs.declared.event.Answer.{Answer}
 use Rattle.i2c_base.specs.declared.event.Answer.TheVariants.{Ack, Nack, Slow, Byte, Nothing}
 use Rattle.i2c_base.specs.declared.port.PortCall.TheVariants as call
 use Rattle.i2c_spec.specs.Chips.{ChipView}
-use Rattle.i2c_spec.specs.Targets.{TargetState, HoldsBytes}
+use Rattle.i2c_spec.specs.Targets.{TargetState, state_table, HoldsBytes, KeepsBytes}
 use Rattle.i2c_spec.specs.World.{World, after, answer, takes, gives}
 use Rattle.wire_spec.specs.declared.mode.Mode.{Mode}
 use Rattle.wire_spec.specs.declared.mode.Mode.TheVariants.{Out, In, Give}
@@ -14,6 +15,8 @@ use Rattle.wire_spec.specs.Bus.{Bus}
 use Rattle.wire_spec.specs.Started.{late_bus, entered_by}
 use Rattle.wire_spec.specs.Calls.{more_edges, within, within_address, free}
 use Rattle.wire_spec.specs.Sites.{NodeState, node_table, both, chips_in, devices_in, world_by, AreSites}
+use Rattle.wire_spec.specs.WorldLaws.{PartsOfBoth, PutOnSites, GetOnSites}
+use Rattle.wire_spec.specs.CallLaws.{PutOnWires, GetOnWires}
 use Rattle.i2c_bits.specs.Wiring.{Rooted}
 use Rattle.i2c_bits.specs.Counting.{begun_counts, StartCounts, StopCounts}
 use Rattle.i2c_bits.specs.declared.lines.SclTimeout.{SclTimeout}
@@ -57,6 +60,18 @@ pub record IsLate (k : Rooted) (w : Bus NodeState) : Type 0 where
   pub devices : List (Site TargetState)
   pub lines : w ≡ late_bus node_table byte (both chips devices) w.counts
   pub told : AreTold k chips devices
+
+-- a byte that is put on the wires of a root, or read from them, is one in its world: on the wires, and on the sites, where mux chips
+-- stand before devices, and what devices hold stays bytes
+pub record BytesAreInWorld : Type 0 where
+  pub put_wires : PutOnWires
+  pub get_wires : GetOnWires
+  pub put_sites : (b : BoardView) (r : ℕ) (busy : Bool) (byte : ℕ) (cs : List (Site ChipView)) (ds : List (Site TargetState))
+      → PutOnSites b r busy byte cs ds
+  pub get_sites : (b : BoardView) (r : ℕ) (busy ack : Bool) (cs : List (Site ChipView)) (ds : List (Site TargetState))
+      → GetOnSites b r busy ack cs ds
+  pub parts : (cs : List (Site ChipView)) (ds : List (Site TargetState)) → PartsOfBoth cs ds
+  pub kept : KeepsBytes state_table HoldsBytes
 
 -- a put on the lines is one in the world; with its acknowledge it is nine clock pulses (UM10204 sections 3.1.3 and 3.1.5)
 pub record PutIs (k : Rooted) (acked : Bool) (byte : ℕ) (old new : Bus NodeState) : Type 0 where

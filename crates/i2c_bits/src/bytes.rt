@@ -3,7 +3,7 @@ ghost use Rattle.std.specs.Prelude.{◌≡◌, IsTrue, true, false};
 ghost use Rattle.wire_spec.specs.declared.mode.Mode.TheVariants.{In, Give};
 ghost use Rattle.wire_spec.specs.Calls.{sent_byte, read_byte};
 ghost use Rattle.i2c_bits.specs.Wiring.{the_table, mask_at, came_acked, CameRead, LooksTell};
-ghost use Rattle.i2c_bits.specs.Stands.{StandsIn, PutTold, GetTold};
+ghost use Rattle.i2c_bits.specs.Stands.{BytesAreInWorld, StandsIn, PutTold, GetTold};
 
 use crate::clocks::{clock_bit, clock_byte};
 use crate::lines::{ByteLines, Lines, SclTimeout};
@@ -47,6 +47,18 @@ pub fn read_byte<L: Lines>(lines: &mut L, ack: bool) -> Result<u8, SclTimeout>
     }
 }
 
+// A byte on the wires, put or read, is one in the world.
+fn a_byte_is_one_in_the_world()
+    ensures { BytesAreInWorld }
+{
+    a_put_on_the_wires_is_one_in_the_world();
+    a_get_on_the_wires_is_one_in_the_world();
+    a_put_on_the_sites_is_one_in_the_world();
+    a_get_on_the_sites_is_one_in_the_world();
+    chips_stand_before_devices();
+    devices_hold_bytes();
+}
+
 /// A byte to the targets that have heard, and whether some one acknowledges it.
 pub fn put_byte<L: ByteLines>(lines: &mut L, byte: u8) -> Result<bool, SclTimeout>
     requires stands { IsTrue L.tells → StandsIn (L.board lines.old) (In false 8 0) (L.bus lines.old) }
@@ -54,10 +66,7 @@ pub fn put_byte<L: ByteLines>(lines: &mut L, byte: u8) -> Result<bool, SclTimeou
     ensures looks { LooksTell result (L.wire lines.old) (L.wire lines.new) }
     ensures told { IsTrue L.tells → PutTold (L.board lines.old) result byte (L.bus lines.old) (L.bus lines.new) }
 {
-    a_put_on_the_wires_is_one_in_the_world();
-    a_put_on_the_sites_is_one_in_the_world();
-    chips_stand_before_devices();
-    devices_hold_bytes();
+    a_byte_is_one_in_the_world();
     lines.send_byte(byte)
 }
 
@@ -69,9 +78,6 @@ pub fn get_byte<L: ByteLines>(lines: &mut L, ack: bool) -> Result<u8, SclTimeout
     ensures looks { LooksTell result (L.wire lines.old) (L.wire lines.new) }
     ensures told { IsTrue L.tells → GetTold (L.board lines.old) result ack (L.bus lines.old) (L.bus lines.new) }
 {
-    a_get_on_the_wires_is_one_in_the_world();
-    a_get_on_the_sites_is_one_in_the_world();
-    chips_stand_before_devices();
-    devices_hold_bytes();
+    a_byte_is_one_in_the_world();
     lines.receive_byte(ack)
 }

@@ -4,7 +4,5 @@ use Rattle.i2c_bits.proofs.bytes.get_byte.Goals as goal
 pub returns-clause-told : goal.returns-clause-told
 returns-clause-told g c tells =
     let bus = g.L.Lines.bus in
-    get_told c.chips_stand_before_devices.ensures c.devices_hold_bytes.ensures.kept (g.L.Lines.board c.args.lines.now)
-    (bus c.args.lines.now) (bus c.receive_byte.new.self) c.a_get_on_the_wires_is_one_in_the_world.ensures
-    c.a_get_on_the_sites_is_one_in_the_world.ensures c.args.ack (c.requires.stands tells) c.receive_byte.result
-    (c.receive_byte.ensures.bus tells)
+    get_told c.a_byte_is_one_in_the_world.ensures (g.L.Lines.board c.args.lines.now) (bus c.args.lines.now)
+    (bus c.receive_byte.new.self) c.args.ack (c.requires.stands tells) c.receive_byte.result (c.receive_byte.ensures.bus tells)
