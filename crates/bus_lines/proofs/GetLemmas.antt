@@ -2,17 +2,14 @@
 use Rattle.bus_lines.proofs.Cited.{◌≡◌, ℕ, zero, suc, ◌<◌, Bool, true, false, cond, List, [], ◌∷◌, map, refl, sym, ap, ◌∙◌, arith, bit_and}
 use Rattle.bus_lines.proofs.Cited.{and_self, Mode, Out, In, Answered, Give, Gave, Site, Bit, site_of, stands, where_joined}
 use Rattle.bus_lines.proofs.Cited.{at, and_all, Bus, bus_of, came_up, holds_line, released, more_edges, within, NodeState}
-use Rattle.bus_lines.proofs.Cited.{node_table, both, Wire, mask_at, StandsIn, chips_on, devices_on, Get, seen, gives_get, PlaceView}
-use Rattle.bus_lines.proofs.Cited.{states_on, joins_by, TargetsView, LinesView, lines_of, wire_nine, and_by}
-use Rattle.bus_lines.proofs.Cited.{given_by, shared, AreUnits}
+use Rattle.bus_lines.proofs.Cited.{node_table, both, Wire, mask_at, StandsIn, chips_on, devices_on, Get, seen, gives_get}
+use Rattle.bus_lines.proofs.Cited.{TargetsView, LinesView, lines_of, wire_nine, shared}
 use Rattle.wire_spec.specs.Roots.{get_site, sent_by}
 use Rattle.wire_spec.specs.Calls.{read_byte}
 use Rattle.wire_spec.specs.Laws.{GetsAreEvents}
 use Rattle.i2c_bits.specs.Wiring.{the_table}
 use Rattle.bus_lines.specs.Edges.{gives_in}
 use Rattle.bus_lines.proofs.AddressLemmas.{seen_each}
-use Rattle.bus_lines.proofs.AndLemmas.{and_of_those}
-use Rattle.bus_lines.proofs.TargetsLemmas.{seen_alone}
 
 -- ---- one target
 holds_so : (ack : Bool) (a : ℕ) (j h : Bool) (x : NodeState) (m : Mode) (k : ℕ)
@@ -67,15 +64,6 @@ no_bytes n v (b ∷ bs) =
 pub gives_coming : (left v : ℕ) (bs : List (Bit NodeState)) → 0 < left → and_all (map gives_get (map (shared left v) bs)) ≡ 255
 gives_coming zero v bs some = absurd (omega (arith, some))
 gives_coming (suc n) v bs some = no_bytes n v bs
-
--- ---- all of them
-module _ (ack : Bool) (left v : ℕ) (live started : List ℕ) (at : List (List ℕ)) (ps : List PlaceView) (bs : List (Bit NodeState))
-    (none : left ≡ 0) (units : AreUnits left live started at (joins_by ps (states_on bs)) bs) where
-  -- those that are told give all that is given
-  pub get_gives : and_by (given_by live gives_get) 0 bs ≡ and_all (map gives_get (map (shared left v) bs))
-  get_gives =
-      and_of_those live gives_get bs (λ k b is out. gives_none b ((units k b is).out out))
-      ∙ ap (λ (xs : List (Bit NodeState)). and_all (map gives_get xs)) (sym (seen_alone left v bs none))
 
 -- ---- between two bytes of a read it is one event of each site
 get_at : (ack : Bool) (a : ℕ) (j h : Bool) (x : NodeState)

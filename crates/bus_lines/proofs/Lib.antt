@@ -30,6 +30,7 @@ pub mod KeptLemmas
 pub mod EnterLemmas
 pub mod EndsLemmas
 pub mod RootLemmas
+pub mod ToldLemmas
 -- What a pull, a look and a line come to.
 pub mod LinesLemmas
 -- The opening.

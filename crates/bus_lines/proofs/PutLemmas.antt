@@ -2,16 +2,14 @@
 use Rattle.bus_lines.proofs.Cited.{◌≡◌, ℕ, zero, suc, ◌<◌, Bool, true, false, ◌&&◌, List, [], ◌∷◌, map, refl, sym, ap, ◌∙◌, arith, not}
 use Rattle.bus_lines.proofs.Cited.{Mode, Out, In, Answered, Give, Gave, Site, Bit, site_of, stands, shifted, where_joined, some_one, at}
 use Rattle.bus_lines.proofs.Cited.{Bus, bus_of, came_up, holds_line, released, more_edges, within, sent_byte, NodeState, node_table, both}
-use Rattle.bus_lines.proofs.Cited.{Wire, mask_at, StandsIn, chips_on, devices_on, Put, seen, acks_put, PlaceView, states_on, joins_by}
-use Rattle.bus_lines.proofs.Cited.{TargetsView, LinesView, lines_of, wire_nine, some_by, of_those, shared, AreUnits}
+use Rattle.bus_lines.proofs.Cited.{Wire, mask_at, StandsIn, chips_on, devices_on, Put, seen, acks_put}
+use Rattle.bus_lines.proofs.Cited.{TargetsView, LinesView, lines_of, wire_nine, shared}
 use Rattle.bus_lines.proofs.Cited.{and-false}
 use Rattle.wire_spec.specs.Roots.{put_site, acks}
 use Rattle.wire_spec.specs.Laws.{PutsAreEvents}
 use Rattle.i2c_bits.specs.Wiring.{the_table}
 use Rattle.bus_lines.specs.Edges.{acks_in}
-use Rattle.bus_lines.proofs.NumberedLemmas.{some_of_those}
 use Rattle.bus_lines.proofs.AddressLemmas.{seen_each, some_mapped}
-use Rattle.bus_lines.proofs.TargetsLemmas.{seen_alone}
 
 -- ---- one target
 holds_so : (byte : ℕ) (a : ℕ) (j h : Bool) (x : NodeState) (m : Mode) (k : ℕ)
@@ -52,20 +50,11 @@ puts_coming byte (suc n) v bs some =
     seen_each (shared (suc n) v) (shared (suc n) v) (where_joined (seen (Put byte))) bs
     (λ b. shared_puts_so n v byte b.site.addr b.site.joined b.site.heard b.site.state b.mode b.hold)
 
-pub acks_coming : (left v byte : ℕ) (bs : List (Bit NodeState)) → 0 < left → some_one (acks_put byte) (map (shared left v) bs) ≡ false
-acks_coming zero v byte bs some = absurd (omega (arith, some))
-acks_coming (suc n) v byte bs some =
+pub acks_coming : (byte left v : ℕ) (bs : List (Bit NodeState)) → 0 < left → some_one (acks_put byte) (map (shared left v) bs) ≡ false
+acks_coming byte zero v bs some = absurd (omega (arith, some))
+acks_coming byte (suc n) v bs some =
     some_mapped (acks_put byte) (shared (suc n) v) bs
     (λ b. shared_acks_so n v byte b.site.addr b.site.joined b.site.heard b.site.state b.mode b.hold)
-
--- ---- all of them
-module _ (byte : ℕ) (left v : ℕ) (live started : List ℕ) (at : List (List ℕ)) (ps : List PlaceView) (bs : List (Bit NodeState))
-    (none : left ≡ 0) (units : AreUnits left live started at (joins_by ps (states_on bs)) bs) where
-  -- those that are told are all that acknowledge
-  pub put_acks : some_by (of_those live (acks_put byte)) 0 bs ≡ some_one (acks_put byte) (map (shared left v) bs)
-  put_acks =
-      some_of_those live (acks_put byte) bs (λ k b is out. acks_none byte b ((units k b is).out out))
-      ∙ ap (some_one (acks_put byte)) (sym (seen_alone left v bs none))
 
 -- ---- between two bytes of a write it is one event of each site
 put_at : (byte : ℕ) (a : ℕ) (j h : Bool) (x : NodeState)
