@@ -1,6 +1,5 @@
 //! Where a target stands, and whether it is joined to the wires.
-ghost use Rattle.std.specs.Prelude.{◌≡◌, [], cond, IfOk};
-ghost use Rattle.i2c_spec.specs.Tree.{hops};
+ghost use Rattle.std.specs.Prelude.{◌≡◌, IfOk};
 ghost use Rattle.std.specs.List.{list_all};
 ghost use Rattle.i2c_board.specs.Layouts.{board_of};
 ghost use Rattle.i2c_spec.specs.Plain.{IsPlainBoard};
@@ -14,21 +13,21 @@ use std::alloc::{AllocError, Global};
 use std::marker::Model;
 use tgt_bits::BitTarget;
 
-/// Where a target stands, as one root has it. A contract sees the record of these parts.
+/// Where a target stands, as one root has it. A contract sees whether it is there, on a bus of that root, and the muxes over it.
 #[derive(Drop)]
 pub struct WirePlace {
-    /// It is there, on a bus of that root.
-    wired: bool,
     /// The muxes over its bus, nearest first, where it is there.
-    above: Vec<Hop>,
+    above: Option<Vec<Hop>>,
 }
 
 impl Model for WirePlace {
+    ghost use Rattle.std.specs.Prelude.{[], is_some};
+    ghost use Rattle.std.specs.Option.{option_map_or};
     ghost use Rattle.bus_lines.specs.Joins.{PlaceView};
 
     ghost Value = { PlaceView };
 
-    ghost view = { λ p. record { wired = p.wired; above = p.above.items } };
+    ghost view = { λ p. record { wired = is_some p.above; above = option_map_or (λ hops. hops.items) p.above [] } };
 }
 
 impl WirePlace {
@@ -43,40 +42,29 @@ impl WirePlace {
         requires { IsPlainBoard (board_of layout) }
         ensures { IfOk result (λ p. p ≡ place_on (board_of layout.entry) root bus there) }
     {
-        let wired = there && layout.root(bus) == root;
-        let above = hops_of(alloc, layout, bus, wired)?;
-        Ok(WirePlace { wired, above })
+        let above = if there && layout.root(bus) == root {
+            Some(layout.hops(bus).as_slice().to_vec(alloc)?)
+        } else {
+            None
+        };
+        Ok(WirePlace { above })
     }
 
     /// It is there, on a bus of the root.
     pub fn is_wired(&self) -> bool
         ensures { result ≡ self.now.wired }
     {
-        self.wired
+        self.above.is_some()
     }
 
     /// It is joined to the wires: every mux over its bus has the channel open that leads there.
     pub fn joins(&self, targets: &[BitTarget<WireTarget>]) -> bool
         ensures { result ≡ joins (states_on targets.now) self.now }
     {
-        self.wired && opens_all(targets, self.above.as_slice())
-    }
-}
-
-/// The muxes over this bus, nearest first, where the target is there: nothing is kept of another.
-fn hops_of(
-    alloc: Global,
-    layout: Layout<'_>,
-    bus: SegId,
-    wired: bool,
-) -> Result<Vec<Hop>, AllocError>
-    requires { IsPlainBoard (board_of layout) }
-    ensures { IfOk result (λ above. above.items ≡ cond wired (hops (board_of layout.entry) bus) []) }
-{
-    if wired {
-        layout.hops(bus).as_slice().to_vec(alloc)
-    } else {
-        Ok(Vec::new(alloc))
+        match &self.above {
+            Some(above) => opens_all(targets, above.as_slice()),
+            None => false,
+        }
     }
 }
 
