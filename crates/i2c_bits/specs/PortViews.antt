@@ -24,12 +24,7 @@ pub record BitPortView : Type 0 where
 -- a message is in progress
 abbrev pub is_busy : Phase → Bool
 is_busy Idle = false
-is_busy Writing = true
-is_busy PutRefused = true
-is_busy Reading = true
-is_busy LastRead = true
-is_busy Unanswered = true
-is_busy Slow = true
+is_busy phase = true
 
 -- the port over these lines, with what it has come to
 abbrev pub port_of : Rooted → Bus NodeState → Wire → List PortCall → Phase → ℕ → BitPortView
@@ -38,13 +33,8 @@ port_of k bus wire log phase faults =
 
 -- the last start was too slow
 abbrev pub is_late : Phase → Bool
-is_late Idle = false
-is_late Writing = false
-is_late PutRefused = false
-is_late Reading = false
-is_late LastRead = false
-is_late Unanswered = false
 is_late Slow = true
+is_late phase = false
 
 -- how the lines stand in each phase
 abbrev pub Stands : Phase → Rooted → Bus NodeState → Type 0
@@ -59,12 +49,7 @@ Stands Slow k w = IsLate k w
 -- between messages the last pull let both lines go
 abbrev pub LetGoBy : Phase → Wire → Type 0
 LetGoBy Idle w = AreLetGo w
-LetGoBy Writing w = ⊤
-LetGoBy PutRefused w = ⊤
-LetGoBy Reading w = ⊤
-LetGoBy LastRead w = ⊤
-LetGoBy Unanswered w = ⊤
-LetGoBy Slow w = ⊤
+LetGoBy phase w = ⊤
 
 -- told lines stand as the phase says
 pub record IsBitPort (tells : Bool) (phase : Phase) (k : Rooted) (bus : Bus NodeState) (wire : Wire) : Type 0 where
