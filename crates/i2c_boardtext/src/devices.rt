@@ -9,7 +9,7 @@ ghost use Rattle.i2c_boardtext.specs.Rules.{key_rule, table_fault};
 
 use crate::fault::TableFault;
 use crate::keys::{Rules, bus, runs};
-use crate::numbers::{ADDRESS, NumberKey, number_at};
+use crate::numbers::{ADDRESS, NumberKey, number_at, number_key};
 use crate::read::flag;
 use crate::rule::{Rule, Test, may_have, needs, table_fault};
 use arrayvec::ArrayVec;
@@ -36,55 +36,25 @@ pub enum OwnKey {
 }
 
 /// What each byte of an EEPROM holds.
-const FILL: NumberKey = NumberKey {
-    name: "fill",
-    low: 0,
-    high: 255,
-    default: 255,
-};
+const FILL: NumberKey = number_key!("fill", from 0, to 255, or 255);
 
 /// How many starts an EEPROM refuses after a write.
-const BUSY: NumberKey = NumberKey {
-    name: "busy",
-    low: 0,
-    high: 255,
-    default: 0,
-};
+const BUSY: NumberKey = number_key!("busy", from 0, to 255, or 0);
 
 /// The bytes of an EEPROM are protected from writes.
 const WP: &str = "wp";
 
 /// The temperature register of an lm75.
-const RAW: NumberKey = NumberKey {
-    name: "raw",
-    low: 0,
-    high: 65535,
-    default: 0,
-};
+const RAW: NumberKey = number_key!("raw", from 0, to 65535, or 0);
 
 /// For how many looks a register device holds the clock.
-const HOLD: NumberKey = NumberKey {
-    name: "hold",
-    low: 0,
-    high: 200,
-    default: 0,
-};
+const HOLD: NumberKey = number_key!("hold", from 0, to 200, or 0);
 
 /// How many bytes the data of an SMBus device have.
-const WIDTH: NumberKey = NumberKey {
-    name: "width",
-    low: 0,
-    high: 2,
-    default: 1,
-};
+const WIDTH: NumberKey = number_key!("width", from 0, to 2, or 1);
 
 /// What is wrong with the error code of an SMBus device.
-const FLIP: NumberKey = NumberKey {
-    name: "flip",
-    low: 0,
-    high: 255,
-    default: 0,
-};
+const FLIP: NumberKey = number_key!("flip", from 0, to 255, or 0);
 
 fn device_named(word: &str) -> Option<DeviceName>
     ensures { result ≡ device_named word.now }

@@ -20,37 +20,32 @@ pub struct NumberKey {
     pub default: u32,
 }
 
+/// The key of a number from `low` to `high`, and what it is where the key is missing.
+macro_rules! number_key {
+    ($name:literal, from $low:expr, to $high:expr, or $default:expr) => {
+        NumberKey {
+            name: $name,
+            low: $low,
+            high: $high,
+            default: $default,
+        }
+    };
+}
+
+pub(crate) use number_key;
+
 /// A board's version.
-pub const VERSION: NumberKey = NumberKey {
-    name: "version",
-    low: 1,
-    high: 2,
-    default: 1,
-};
+pub const VERSION: NumberKey = number_key!("version", from 1, to 2, or 1);
 
 /// A target's address.
-pub const ADDRESS: NumberKey = NumberKey {
-    name: "address",
-    low: Addr::FIRST as u32,
-    high: Addr::LAST as u32,
-    default: Addr::FIRST as u32,
-};
+pub const ADDRESS: NumberKey =
+    number_key!("address", from Addr::FIRST as u32, to Addr::LAST as u32, or Addr::FIRST as u32);
 
 /// The channels of a mux that is switched by a line.
-pub const CHANNELS: NumberKey = NumberKey {
-    name: "channels",
-    low: 1,
-    high: MOST_CHANNELS as u32,
-    default: 1,
-};
+pub const CHANNELS: NumberKey = number_key!("channels", from 1, to MOST_CHANNELS as u32, or 1);
 
 /// How often an arbitrator is found with its other controller.
-pub const FOREIGN: NumberKey = NumberKey {
-    name: "foreign",
-    low: 0,
-    high: POLLS as u32,
-    default: 0,
-};
+pub const FOREIGN: NumberKey = number_key!("foreign", from 0, to POLLS as u32, or 0);
 
 impl NumberKey {
     /// The rule of a number that may be missing.
