@@ -1,8 +1,8 @@
 -- The names that several proofs of this crate cite, passed on from one place. Declares nothing.
 pub use Rattle.std.proofs.Common.{◌≡◌, Bool, false, List, [], ◌∷◌, map, Some, option_map, refl, ap, ◌∙◌, sym, ℕ, true, ◌&&◌, ◌++◌, Option}
-pub use Rattle.std.proofs.Common.{None, subst, ◌<◌, ◌≤◌, length, ◌+◌, drop, arith, Vec, Global, vec_capacity, vec_len}
+pub use Rattle.std.proofs.Common.{None, subst, ◌<◌, ◌≤◌, length, ◌+◌, drop, take, arith, Vec, Global, vec_capacity}
 pub use Rattle.std.proofs.lemmas.Bool.{and_parts, false≢true}
-pub use Rattle.std.proofs.lemmas.List.{length-append, take_all}
+pub use Rattle.std.proofs.lemmas.List.{length-append}
 pub use Rattle.std.proofs.lemmas.List.Elements.{All-push}
 pub use Rattle.std.proofs.lemmas.List.Folds.{list_all-map}
 pub use Rattle.std.specs.List.{list_all}
@@ -11,7 +11,6 @@ pub use Rattle.std.specs.Prelude.{codes, reverse, Result, Ok, Err, All}
 pub use Rattle.toml.specs.Data.{Data, Members, get_member, as_table}
 pub use Rattle.toml.specs.View.{view, table_view}
 pub use Rattle.toml.specs.declared.value.Value.{Value}
-pub use Rattle.i2c_base.proofs.ListLemmas.{one-made, AreMade}
 pub use Rattle.i2c_base.specs.declared.board.MuxSpec.{MuxSpec}
 pub use Rattle.i2c_base.specs.declared.board.RootSpec.{RootSpec}
 pub use Rattle.i2c_spec.specs.Plain.{IsPlainMux, IsPlanted, IsPlainRun, IsPlainDevice}

@@ -31,7 +31,7 @@ fn bytes_of(alloc: Global, values: &[Value]) -> Result<Vec<u8>, AllocError>
 {
     let mut bytes = Vec::with_capacity(alloc, values.len())?;
     for value in values {
-        bytes.push_reserved(byte(value));
+        bytes.push(byte(value))?;
     }
     Ok(bytes)
 }
@@ -71,7 +71,7 @@ fn runs_of(alloc: Global, values: &[Value]) -> Result<Vec<MemoryRun>, AllocError
 {
     let mut runs = Vec::with_capacity(alloc, values.len())?;
     for value in values {
-        runs.push_reserved(run(alloc, value)?);
+        runs.push(run(alloc, value)?)?;
     }
     Ok(runs)
 }
