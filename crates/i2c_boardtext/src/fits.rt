@@ -1,5 +1,5 @@
 //! Whether a value is as its key has to have it.
-ghost use Rattle.std.specs.Prelude.{◌≡◌, map, option_map, is_some};
+ghost use Rattle.std.specs.Prelude.{◌≡◌, ◌==◌, ◌&&◌, length, map, option_map, is_some};
 ghost use Rattle.std.specs.List.{list_all};
 ghost use Rattle.toml.specs.Data.{as_table};
 ghost use Rattle.toml.specs.View.{view};
@@ -87,24 +87,21 @@ fn are_tables(value: &Value) -> bool
     }
 }
 
-// All of them are integers from `low` to `high`: each by itself, and as one list.
-fn each_is_in(low: u32, high: u32, values: &[Value]) -> bool
-    ensures { result ≡ list_all (λ v. is_in low high (view v)) values.now }
+// They are two integers from `low` to `high`.
+fn are_two(low: u32, high: u32, values: &[Value]) -> bool
+    ensures { result ≡ ((length values.now == 2) && list_all (is_in low high) (map view values.now)) }
 {
-    values.iter().all(|value| is_in(low, high, value))
-}
-
-fn are_in(low: u32, high: u32, values: &[Value]) -> bool
-    ensures { result ≡ list_all (is_in low high) (map view values.now) }
-{
-    each_is_in(low, high, values)
+    match values {
+        [first, second] => is_in(low, high, first) && is_in(low, high, second),
+        _ => false,
+    }
 }
 
 fn is_pair(low: u32, high: u32, value: &Value) -> bool
     ensures { result ≡ is_pair low high (view value.now) }
 {
     match items(value) {
-        Some(values) => values.len() == 2 && are_in(low, high, values),
+        Some(values) => are_two(low, high, values),
         None => false,
     }
 }
