@@ -3,7 +3,7 @@
 ghost use Rattle.std.specs.Prelude.{◌≡◌, ◌≤◌, Some, None, slice_get, IfOk, MatchResult};
 ghost use Rattle.std.specs.Str.{bytes_eq};
 ghost use Rattle.tools.specs.Numbers.{number_in};
-ghost use Rattle.tools.specs.Readers.{texts, one_at, is_at, is_past};
+ghost use Rattle.tools.specs.Readers.{texts, one_at, is_at, is_past, over_at};
 
 use crate::fault::WordRefused;
 use crate::number::number_in;
@@ -30,6 +30,17 @@ pub fn is_past(words: &[&[u8]], at: u16) -> bool
     ensures { result ≡ is_past (texts words.now) at }
 {
     words.len() <= usize::from(at)
+}
+
+/// A value that was read before a place, where the line ends there.
+pub fn over_at<T: Drop>(words: &[&[u8]], at: u16, value: T) -> Result<T, WordRefused>
+    ensures { result ≡ over_at value (texts words.now) at }
+{
+    if is_past(words, at) {
+        Ok(value)
+    } else {
+        Err(WordRefused(at))
+    }
 }
 
 /// The word at a place.

@@ -10,7 +10,7 @@ use crate::command::{Cmd, ToolCmd};
 use crate::fault::WordRefused;
 use crate::number::number_in;
 use crate::options::bus_at;
-use crate::reader::{is_at, is_past, number_at, word_at};
+use crate::reader::{is_at, is_past, number_at, over_at, word_at};
 use crate::run::lines::KnownLines;
 use bus_journal::{push_bytes, push_number};
 use i2c_base::{Addr, MuxId, NoMemory, SegId};
@@ -121,15 +121,13 @@ fn read_range(words: &[&[u8]], at: u16, probe: Probe, bus: u16) -> Result<Cmd, W
     }
     let first = number_at(words, at, 0, 127)? as u8;
     let last = last_at(words, at + 1, first)?;
-    if !is_past(words, at + 2) {
-        return Err(WordRefused(at + 2));
-    }
-    Ok(Cmd::Tool(ToolCmd::Detect(Detect {
+    let detect = Detect {
         bus,
         probe,
         first,
         last,
-    })))
+    };
+    over_at(words, at + 2, Cmd::Tool(ToolCmd::Detect(detect)))
 }
 
 // Reads what stands behind the options.
@@ -148,10 +146,7 @@ pub fn read_detect(words: &[&[u8]]) -> Result<Cmd, WordRefused>
     ensures { result ≡ read_at detect_words (texts words.now) 1 }
 {
     if is_at(words, 1, b"-l") {
-        if !is_past(words, 2) {
-            return Err(WordRefused(2));
-        }
-        return Ok(Cmd::Tool(ToolCmd::List));
+        return over_at(words, 2, Cmd::Tool(ToolCmd::List));
     }
     let (probe, at) = probe_and_yes(words, 1)?;
     read_bus(words, at, probe)

@@ -9,7 +9,7 @@ use crate::command::{Cmd, ToolCmd};
 use crate::fault::WordRefused;
 use crate::number::byte_in;
 use crate::options::{address_at, bus_at};
-use crate::reader::{is_at, is_past, is_text, word_at};
+use crate::reader::{is_at, is_past, is_text, over_at, word_at};
 use crate::words::{Gap, gap_at};
 use i2c_base::Addr;
 
@@ -149,10 +149,7 @@ fn read_tail(
         return Ok(dumped(options, bus, addr, (DumpMode::Byte, false)));
     }
     let mode = mode_at(words, at, options.range.is_some())?;
-    if !is_past(words, at + 1) {
-        return Err(WordRefused(at + 1));
-    }
-    Ok(dumped(options, bus, addr, mode))
+    over_at(words, at + 1, dumped(options, bus, addr, mode))
 }
 
 // Reads what stands behind the options.

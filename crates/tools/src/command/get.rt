@@ -8,7 +8,7 @@ ghost use Rattle.tools.specs.Readers.{texts, one_at};
 use crate::command::{Cmd, ToolCmd};
 use crate::fault::WordRefused;
 use crate::options::{address_at, bus_at, byte_at, options};
-use crate::reader::{is_past, is_text, number_at, word_at};
+use crate::reader::{is_past, is_text, number_at, over_at, word_at};
 use crate::run::ToolRun;
 use crate::run::call::{BlockLen, Callee, HeldCall, HeldOp};
 use crate::run::chain::Chain;
@@ -97,10 +97,7 @@ fn read_len(words: &[&[u8]], at: u16, get: Get, mode: (GetMode, bool)) -> Result
     match mode {
         (GetMode::I2cBlock, false) => {
             let len = Some(number_at(words, at, 1, u16::from(I2C_BLOCK_LIMIT))? as u8);
-            if !is_past(words, at + 1) {
-                return Err(WordRefused(at + 1));
-            }
-            Ok(Cmd::Tool(ToolCmd::Get(Get { len, ..get })))
+            over_at(words, at + 1, Cmd::Tool(ToolCmd::Get(Get { len, ..get })))
         }
         _ => Err(WordRefused(at)),
     }

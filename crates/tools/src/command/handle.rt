@@ -12,7 +12,7 @@ use crate::fault::{LineFault, WordRefused};
 use crate::lists::{Descs, Octets};
 use crate::octets::read_bytes;
 use crate::options::{address_at, bus_at, byte_at};
-use crate::reader::{is_at, is_past, number_at};
+use crate::reader::{is_at, number_at, over_at};
 use i2c_base::{Addr, MOST_LENGTH};
 use std::alloc::Global;
 
@@ -53,10 +53,7 @@ fn handle_at(words: &[&[u8]], at: u16) -> Result<u16, WordRefused>
 fn ended_at(words: &[&[u8]], at: u16, command: HandleCmd) -> Result<Cmd, WordRefused>
     ensures { result ≡ over_at (Handle command) (texts words.now) at }
 {
-    if !is_past(words, at) {
-        return Err(WordRefused(at));
-    }
-    Ok(Cmd::Handle(command))
+    over_at(words, at, Cmd::Handle(command))
 }
 
 // Reads BUS.
