@@ -1,7 +1,7 @@
 //! `at24`: its lines.
 
 ghost use Rattle.std.specs.Prelude.{◌≡◌, ◌<◌};
-ghost use Rattle.tools.specs.At24Lines.{at24_read_words, at24_words, at24_write_words, read_span, written_span};
+ghost use Rattle.tools.specs.At24Lines.{at24_read_words, at24_words, at24_write_words, written_span};
 ghost use Rattle.tools.specs.Grammars.{read_at};
 ghost use Rattle.tools.specs.Readers.{texts, Gives};
 
@@ -10,7 +10,7 @@ use crate::fault::{LineFault, WordRefused};
 use crate::lists::Octets;
 use crate::octets::read_bytes;
 use crate::options::{address_at, bus_at};
-use crate::reader::{is_at, is_past, number_at};
+use crate::reader::{is_at, number_at, over_at};
 use i2c_base::Addr;
 use std::alloc::Global;
 
@@ -42,33 +42,22 @@ const MOST_READ: u16 = 32768;
 /// A line writes at most so many bytes.
 const MOST_WRITTEN: u16 = 64;
 
-// Reads OFFSET and COUNT.
-#[tactic(auto, unfolding(crate::specs::At24Lines::read_span))]
-fn read_span_at(words: &[&[u8]], at: u16, bus: u16, addr: Addr) -> Result<Cmd, WordRefused>
-    requires { at < 90 }
-    ensures { result ≡ read_at (read_span bus addr) (texts words.now) at }
-{
-    let offset = number_at(words, at, 0, u16::MAX)?;
-    let count = number_at(words, at + 1, 1, MOST_READ)?;
-    if !is_past(words, at + 2) {
-        return Err(WordRefused(at + 2));
-    }
-    Ok(Cmd::Driver(DriverCmd::At24Read(At24Read {
-        bus,
-        addr,
-        offset,
-        count,
-    })))
-}
-
-// Reads what stands behind `read`.
-#[tactic(auto, unfolding(crate::specs::At24Lines::at24_read_words))]
+// Reads BUS ADDR OFFSET COUNT.
+#[tactic(auto, unfolding(crate::specs::At24Lines::at24_read_words, crate::specs::At24Lines::read_span))]
 fn read_page_read(words: &[&[u8]]) -> Result<Cmd, WordRefused>
     ensures { result ≡ read_at at24_read_words (texts words.now) 2 }
 {
     let bus = bus_at(words, 2)?;
     let addr = address_at(words, 3)?;
-    read_span_at(words, 4, bus, addr)
+    let offset = number_at(words, 4, 0, u16::MAX)?;
+    let count = number_at(words, 5, 1, MOST_READ)?;
+    let read = At24Read {
+        bus,
+        addr,
+        offset,
+        count,
+    };
+    over_at(words, 6, Cmd::Driver(DriverCmd::At24Read(read)))
 }
 
 // Reads OFFSET and the bytes.

@@ -1,15 +1,15 @@
 //! `lm75`: its lines.
 
-ghost use Rattle.std.specs.Prelude.{◌≡◌, ◌<◌, ◌≤◌, IfSome};
+ghost use Rattle.std.specs.Prelude.{◌≡◌, ◌≤◌, IfSome};
 ghost use Rattle.tools.specs.Grammars.{read_at};
-ghost use Rattle.tools.specs.Lm75Lines.{half_degrees, lm75_read_words, lm75_words, lm75_write_words, milli_in, read_named, read_reg, written_named, written_reg};
+ghost use Rattle.tools.specs.Lm75Lines.{half_degrees, lm75_read_words, lm75_words, lm75_write_words, milli_in, read_named, written_named};
 ghost use Rattle.tools.specs.Readers.{texts, one_at};
 
 use crate::command::{Cmd, DriverCmd};
 use crate::fault::WordRefused;
 use crate::number::long_number_in;
 use crate::options::{address_at, bus_at};
-use crate::reader::{is_at, is_past, is_text, word_at};
+use crate::reader::{is_at, is_text, over_at, word_at};
 use i2c_base::Addr;
 
 /// A register of a sensor: the temperature, the hysteresis, and the limit, which is called `max`.
@@ -114,56 +114,34 @@ fn milli_at(words: &[&[u8]], at: u16) -> Result<i32, WordRefused>
     milli_in(word).ok_or(WordRefused(at))
 }
 
-// Reads REGNAME, of a register that is read.
-#[tactic(auto, unfolding(crate::specs::Lm75Lines::read_reg))]
-fn read_reg_at(words: &[&[u8]], at: u16, bus: u16, addr: Addr) -> Result<Cmd, WordRefused>
-    requires { at < 90 }
-    ensures { result ≡ read_at (read_reg bus addr) (texts words.now) at }
-{
-    let which = read_name_at(words, at)?;
-    if !is_past(words, at + 1) {
-        return Err(WordRefused(at + 1));
-    }
-    Ok(Cmd::Driver(DriverCmd::Lm75Read(Lm75Read { bus, addr, which })))
-}
-
-// Reads what stands behind `read`.
-#[tactic(auto, unfolding(crate::specs::Lm75Lines::lm75_read_words))]
+// Reads BUS ADDR REGNAME, of a register that is read.
+#[tactic(auto, unfolding(crate::specs::Lm75Lines::lm75_read_words, crate::specs::Lm75Lines::read_reg))]
 fn read_reg_read(words: &[&[u8]]) -> Result<Cmd, WordRefused>
     ensures { result ≡ read_at lm75_read_words (texts words.now) 2 }
 {
     let bus = bus_at(words, 2)?;
     let addr = address_at(words, 3)?;
-    read_reg_at(words, 4, bus, addr)
+    let which = read_name_at(words, 4)?;
+    let read = Lm75Read { bus, addr, which };
+    over_at(words, 5, Cmd::Driver(DriverCmd::Lm75Read(read)))
 }
 
-// Reads REGNAME and MILLI, of a register that is written.
-#[tactic(auto, unfolding(crate::specs::Lm75Lines::written_reg))]
-fn written_reg_at(words: &[&[u8]], at: u16, bus: u16, addr: Addr) -> Result<Cmd, WordRefused>
-    requires { at < 90 }
-    ensures { result ≡ read_at (written_reg bus addr) (texts words.now) at }
-{
-    let which = written_name_at(words, at)?;
-    let milli = milli_at(words, at + 1)?;
-    if !is_past(words, at + 2) {
-        return Err(WordRefused(at + 2));
-    }
-    Ok(Cmd::Driver(DriverCmd::Lm75Write(Lm75Write {
-        bus,
-        addr,
-        which,
-        milli,
-    })))
-}
-
-// Reads what stands behind `write`.
-#[tactic(auto, unfolding(crate::specs::Lm75Lines::lm75_write_words))]
+// Reads BUS ADDR REGNAME MILLI, of a register that is written.
+#[tactic(auto, unfolding(crate::specs::Lm75Lines::lm75_write_words, crate::specs::Lm75Lines::written_reg))]
 fn read_reg_write(words: &[&[u8]]) -> Result<Cmd, WordRefused>
     ensures { result ≡ read_at lm75_write_words (texts words.now) 2 }
 {
     let bus = bus_at(words, 2)?;
     let addr = address_at(words, 3)?;
-    written_reg_at(words, 4, bus, addr)
+    let which = written_name_at(words, 4)?;
+    let milli = milli_at(words, 5)?;
+    let write = Lm75Write {
+        bus,
+        addr,
+        which,
+        milli,
+    };
+    over_at(words, 6, Cmd::Driver(DriverCmd::Lm75Write(write)))
 }
 
 /// Reads what stands behind the first word.
