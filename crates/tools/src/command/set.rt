@@ -1,19 +1,20 @@
 //! `i2cset`: its line, and the SMBus call that writes a register.
 
-ghost use Rattle.std.specs.Prelude.{◌≡◌, ℕ, ◌+◌, ◌-◌, ◌<◌, ◌≤◌, true, false, [], ◌∷◌, None, Some, nat_le, IfOk};
+ghost use Rattle.std.specs.Prelude.{◌≡◌, ℕ, ◌+◌, ◌-◌, ◌<◌, ◌≤◌, true, false, [], ◌∷◌, None, Some, IfOk, if◌then◌else◌};
+ghost use Rattle.std.specs.Str.{bytes_eq};
 ghost use Rattle.i2c_base.specs.Bytes.{AreBytes};
 ghost use Rattle.i2c_base.specs.Limits.{LARGEST_BLOCK};
 ghost use Rattle.tools.specs.Grammars.{read_at};
 ghost use Rattle.tools.specs.Numbers.{number_in};
 ghost use Rattle.tools.specs.Readers.{texts, one_at, Gives};
-ghost use Rattle.tools.specs.Sets.{send_mode, word_mode, block_mode, byte_mode, mode_or, is_short, first_piece, second_piece, block_piece, set_block, set_byte, set_number, set_values, set_reg, set_bus, set_words, set_to, set_by, AreOfMode, IsSetInRange, mode_of_set, first_value, set_op, set_run};
+ghost use Rattle.tools.specs.Sets.{send_mode, word_mode, block_mode, byte_mode, mode_or, is_short, first_piece, second_piece, block_piece, set_block, set_byte, set_values, set_reg, set_bus, set_words, set_to, set_by, AreOfMode, IsSetInRange, mode_of_set, first_value, set_op, set_run};
 
 use crate::command::{Cmd, ToolCmd};
 use crate::fault::{LineFault, WordRefused};
 use crate::lists::{Octets, Words};
 use crate::number::number_in;
 use crate::options::{address_at, bus_at, byte_at, options};
-use crate::reader::{is_past, is_text, word_at};
+use crate::reader::{is_past, is_text, over_at, word_at};
 use crate::run::ToolRun;
 use crate::run::call::{Callee, HeldBlock, HeldCall, HeldOp};
 use i2c_base::{Addr, I2C_BLOCK_LIMIT, NoMemory};
@@ -65,44 +66,40 @@ enum SetPiece {
     Value(u16),
 }
 
+// The mode, where the word is its name, or its name with a `p` behind it, which asks for an error code.
+fn named(word: &[u8], mode: SetMode, name: &[u8], with_code: &[u8]) -> Option<(SetMode, bool)>
+    ensures { result ≡ (if bytes_eq word.now name.now then Some (mode, false) else if bytes_eq word.now with_code.now then Some (mode, true) else None) }
+{
+    if is_text(word, name) {
+        Some((mode, false))
+    } else if is_text(word, with_code) {
+        Some((mode, true))
+    } else {
+        None
+    }
+}
+
 // The mode that a word names, and whether with an error code, after no value.
 fn send_mode(word: &[u8]) -> Option<(SetMode, bool)>
     ensures { result ≡ send_mode word.now }
 {
-    if is_text(word, b"c") {
-        Some((SetMode::Send, false))
-    } else if is_text(word, b"cp") {
-        Some((SetMode::Send, true))
-    } else {
-        None
-    }
+    named(word, SetMode::Send, b"c", b"cp")
 }
 
 // After a number above 255.
 fn word_mode(word: &[u8]) -> Option<(SetMode, bool)>
     ensures { result ≡ word_mode word.now }
 {
-    if is_text(word, b"w") {
-        Some((SetMode::Word, false))
-    } else if is_text(word, b"wp") {
-        Some((SetMode::Word, true))
-    } else {
-        None
-    }
+    named(word, SetMode::Word, b"w", b"wp")
 }
 
 // Behind several bytes, few of which are a block of `i` too.
 fn block_mode(short: bool, word: &[u8]) -> Option<(SetMode, bool)>
     ensures { result ≡ block_mode short word.now }
 {
-    if is_text(word, b"s") {
-        Some((SetMode::Block, false))
-    } else if is_text(word, b"sp") {
-        Some((SetMode::Block, true))
-    } else if short && is_text(word, b"i") {
-        Some((SetMode::I2cBlock, false))
-    } else {
-        None
+    match named(word, SetMode::Block, b"s", b"sp") {
+        None if short && is_text(word, b"i") => Some((SetMode::I2cBlock, false)),
+        mode => mode,
     }
 }
 
@@ -110,12 +107,9 @@ fn block_mode(short: bool, word: &[u8]) -> Option<(SetMode, bool)>
 fn byte_mode(word: &[u8]) -> Option<(SetMode, bool)>
     ensures { result ≡ byte_mode word.now }
 {
-    if is_text(word, b"b") {
-        Some((SetMode::Byte, false))
-    } else if is_text(word, b"bp") {
-        Some((SetMode::Byte, true))
-    } else {
-        word_mode(word).or(block_mode(true, word))
+    match named(word, SetMode::Byte, b"b", b"bp") {
+        None => word_mode(word).or(block_mode(true, word)),
+        mode => mode,
     }
 }
 
@@ -180,6 +174,21 @@ fn block_mode_at(words: &[&[u8]], at: u16, short: bool) -> Result<(SetMode, bool
     block_mode(short, word).ok_or(WordRefused(at))
 }
 
+// The line with these values, and this mode, if any.
+fn set_to(head: SetHead, values: Words, mode: Option<SetMode>, pec: bool) -> Cmd
+    ensures { result ≡ set_to head values mode pec }
+{
+    Cmd::Tool(ToolCmd::Set(Set {
+        force: head.force,
+        bus: head.bus,
+        addr: head.addr,
+        reg: head.reg,
+        values,
+        mode,
+        pec,
+    }))
+}
+
 // Nothing stands behind the mode.
 fn end(
     words: &[&[u8]],
@@ -190,33 +199,8 @@ fn end(
 ) -> Result<Cmd, LineFault>
     ensures { Gives (read_at (set_by head values mode) (texts words.now) at) result }
 {
-    if !is_past(words, at) {
-        return Err(LineFault::Word(at));
-    }
-    Ok(Cmd::Tool(ToolCmd::Set(Set {
-        force: head.force,
-        bus: head.bus,
-        addr: head.addr,
-        reg: head.reg,
-        values,
-        mode: Some(mode.0),
-        pec: mode.1,
-    })))
-}
-
-// A line without MODE.
-fn bare(head: SetHead, values: Words) -> Cmd
-    ensures { result ≡ set_to head values None false }
-{
-    Cmd::Tool(ToolCmd::Set(Set {
-        force: head.force,
-        bus: head.bus,
-        addr: head.addr,
-        reg: head.reg,
-        values,
-        mode: None,
-        pec: false,
-    }))
+    let set = set_to(head, values, Some(mode.0), mode.1);
+    Ok(over_at(words, at, set)?)
 }
 
 // So few bytes are a block of `i` too.
@@ -268,7 +252,7 @@ fn read_byte(
 {
     let mut values = first;
     if is_past(words, at) {
-        return Ok(bare(head, values));
+        return Ok(set_to(head, values, None, false));
     }
     if more == 0 {
         let mode = byte_mode_at(words, at)?;
@@ -283,30 +267,8 @@ fn read_byte(
     }
 }
 
-// Reads what stands behind a value.
-#[tactic(auto, unfolding(crate::specs::Sets::set_number))]
-fn read_number(
-    words: &[&[u8]],
-    at: u16,
-    head: SetHead,
-    first: Words,
-    value: u16,
-    more: u16,
-) -> Result<Cmd, LineFault>
-    requires near { at < 900 }
-    requires few { more < 900 }
-    requires first { first ≡ value ∷ [] }
-    ensures { Gives (read_at (set_number head (nat_le value 255) more value) (texts words.now) at) result }
-{
-    if value <= 255 {
-        return read_byte(words, at, head, first, value, more);
-    }
-    let mode = word_mode_at(words, at)?;
-    end(words, at + 1, head, first, mode)
-}
-
 // Reads what stands behind REG.
-#[tactic(auto, unfolding(crate::specs::Sets::set_values))]
+#[tactic(auto, unfolding(crate::specs::Sets::set_values, crate::specs::Sets::set_number))]
 fn read_values(
     alloc: Global,
     words: &[&[u8]],
@@ -320,13 +282,17 @@ fn read_values(
 {
     let mut values = Words::new(alloc);
     if is_past(words, at) {
-        return Ok(bare(head, values));
+        return Ok(set_to(head, values, None, false));
     }
     match first_piece_at(words, at)? {
         SetPiece::Named(mode) => end(words, at + 1, head, values, mode),
         SetPiece::Value(value) => {
             values.push(value)?;
-            read_number(words, at + 1, head, values, value, more)
+            if value <= 255 {
+                return read_byte(words, at + 1, head, values, value, more);
+            }
+            let mode = word_mode_at(words, at + 1)?;
+            end(words, at + 2, head, values, mode)
         }
     }
 }
