@@ -9,6 +9,7 @@ pub mod Dialogues
 pub mod DriverLines
 pub mod DumpTables
 pub mod Dumps
+pub mod Examples
 pub mod Gets
 pub mod Grammars
 pub mod HandleLines
