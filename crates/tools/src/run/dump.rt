@@ -275,13 +275,12 @@ fn push_byte_row(dump: &Dump, replies: &Window<'_>, out: &mut Text, row: u8)
     out.push_byte(b'\n');
 }
 
-// How many rows of 16 registers there are.
-fn byte_rows(dump: &Dump) -> u8
-    ensures value { result ≡ rows 16 dump.now.first dump.now.last }
-    ensures few { dump.now.first / 16 + result ≤ 16 }
+// How many rows there are from one to another, or one where the other stands above it.
+fn rows_between(first: u8, last: u8) -> u8
+    requires { last ≤ 31 }
+    ensures { result ≡ last - first + 1 }
 {
-    let Dump { first, last, .. } = *dump;
-    (last / 16).saturating_sub(first / 16) + 1
+    last.saturating_sub(first) + 1
 }
 
 // Prints the table of bytes.
@@ -293,8 +292,9 @@ fn push_byte_table(dump: &Dump, replies: &Window<'_>, out: &mut Text)
     ensures room { out.old.room ≤ out.new.room + 72 * (rows 16 dump.now.first dump.now.last + 1) }
 {
     out.push(b"     0  1  2  3  4  5  6  7  8  9  a  b  c  d  e  f    0123456789abcdef\n");
-    let begin = dump.first / 16;
-    let rows = byte_rows(dump);
+    let Dump { first, last, .. } = *dump;
+    let begin = first / 16;
+    let rows = rows_between(begin, last / 16);
     for row in 0..rows {
         push_byte_row(dump, replies, out, 16 * (begin + row));
     }
@@ -367,15 +367,6 @@ fn push_word_row(dump: &Dump, replies: &Window<'_>, out: &mut Text, row: u8)
     out.push_byte(b'\n');
 }
 
-// How many rows of 8 registers there are.
-fn word_rows(dump: &Dump) -> u8
-    ensures value { result ≡ rows 8 dump.now.first dump.now.last }
-    ensures few { dump.now.first / 8 + result ≤ 32 }
-{
-    let Dump { first, last, .. } = *dump;
-    (last / 8).saturating_sub(first / 8) + 1
-}
-
 // Prints the table of words.
 fn push_word_table(dump: &Dump, replies: &Window<'_>, out: &mut Text)
     requires fit { AreReplies (dumps dump.now) 0 replies.now }
@@ -384,8 +375,9 @@ fn push_word_table(dump: &Dump, replies: &Window<'_>, out: &mut Text)
     ensures bytes { out.new.bytes ≡ out.old.bytes ++ flat_map line_ended (word_table dump.now replies.now) }
     ensures room { out.old.room ≤ out.new.room + 44 * rows 8 dump.now.first dump.now.last }
 {
-    let begin = dump.first / 8;
-    let rows = word_rows(dump);
+    let Dump { first, last, .. } = *dump;
+    let begin = first / 8;
+    let rows = rows_between(begin, last / 8);
     for row in 0..rows {
         push_word_row(dump, replies, out, 8 * (begin + row));
     }
@@ -415,8 +407,9 @@ pub fn print(dump: &Dump, replies: Window<'_>, out: &mut Text)
 pub fn most(dump: &Dump) -> usize
     ensures { result ≡ (dumps dump.now).most }
 {
+    let Dump { first, last, .. } = *dump;
     match dump.mode {
-        DumpMode::Word => 44 * usize::from(word_rows(dump)),
-        _ => 72 * (usize::from(byte_rows(dump)) + 1),
+        DumpMode::Word => 44 * usize::from(rows_between(first / 8, last / 8)),
+        _ => 72 * (usize::from(rows_between(first / 16, last / 16)) + 1),
     }
 }
