@@ -1,6 +1,9 @@
 -- The laws of the lines of a script, and what a line is read as. They hold of any grammar whose ends are in range.
-use Rattle.tools.proofs.Cited.{◌≡◌, ℕ, suc, ◌+◌, true, List, [], ◌∷◌, take, Some, None, Ok, refl, sym, ap, ◌∙◌, cond, arith, is_command}
-use Rattle.tools.proofs.Cited.{words_of, read_at, Word, IsWithin, follow_words, MOST_WORDS, IsInRange, FaultIs, Cmd, LineFault}
+use Rattle.tools.proofs.Cited.{◌≡◌, ℕ, suc, ◌+◌, true, List, [], ◌∷◌, take, Some, None, Result, Ok, Err, refl, sym, ap, ◌∙◌, cond, arith}
+use Rattle.tools.proofs.Cited.{is_command, words_of, read_at, Word, IsWithin, follow_words, MOST_WORDS, IsInRange, FaultIs, Cmd}
+use Rattle.tools.proofs.Cited.{LineFault}
+use Rattle.std.specs.Prelude.{MatchResult}
+use Rattle.tools.specs.Readers.{Gives}
 use Rattle.tools.specs.Lines.{some_command, words_read, line_read, ReadsLines, RefusesBehindLongest, MeansInRange, NoneIsLonger}
 use Rattle.tools.specs.Lines.{FirstWordsDecide}
 use Rattle.tools.specs.Commands.{grammar, script_lines}
@@ -49,11 +52,12 @@ command_words limit line ws same is =
     ∙ ap (λ b. cond b (some_command (follow_words (script_lines limit) 0 ws)) (Ok None)) is
     ∙ ap some_command (follow (grammar limit) 0 ws)
 
-pub command_read : (limit : ℕ) (line : List ℕ) (ws : List Word) (c : Cmd) → ws ≡ take (MOST_WORDS + 1) (words_of line)
-    → is_command ws ≡ true → read_at (grammar limit) ws 0 ≡ Ok c → line_read limit line ≡ Ok (Some c)
-command_read limit line ws c same is e = command_words limit line ws same is ∙ ap some_command e
+-- what is read is given as the command of the line, or a fault
+abbrev pub IsOfLine : (limit : ℕ) (line : List ℕ) → Result Cmd LineFault → Type 0
+IsOfLine limit line result = MatchResult result (λ c. line_read limit line ≡ Ok (Some c)) (FaultIs (line_read limit line))
 
-pub command_faulty : (limit : ℕ) (line : List ℕ) (ws : List Word) (e : LineFault) → ws ≡ take (MOST_WORDS + 1) (words_of line)
-    → is_command ws ≡ true → FaultIs (read_at (grammar limit) ws 0) e → FaultIs (line_read limit line) e
-command_faulty limit line ws (fault.Word k) same is h = command_words limit line ws same is ∙ ap some_command h
-command_faulty limit line ws fault.Memory same is h = tt
+pub of_words : (limit : ℕ) (line : List ℕ) (ws : List Word) (result : Result Cmd LineFault) → ws ≡ take (MOST_WORDS + 1) (words_of line)
+    → is_command ws ≡ true → Gives (read_at (grammar limit) ws 0) result → IsOfLine limit line result
+of_words limit line ws (Ok c) same is h = command_words limit line ws same is ∙ ap some_command h
+of_words limit line ws (Err (fault.Word k)) same is h = command_words limit line ws same is ∙ ap some_command h
+of_words limit line ws (Err fault.Memory) same is h = tt
