@@ -10,7 +10,7 @@ pub use Rattle.std.specs.Option.{option_map, option_map_or}
 pub use Rattle.std.specs.Prelude.{All, slice_get, unwrap_or, codes}
 pub use Rattle.toml.specs.Data.{get_member}
 pub use Rattle.toml.specs.View.{table_view, view}
-pub use Rattle.i2c_base.proofs.ListLemmas.{one-made, AreMade}
+pub use Rattle.i2c_base.proofs.ListLemmas.{AreMade}
 pub use Rattle.i2c_base.specs.Addr.{IsTargetAddress}
 pub use Rattle.i2c_base.specs.Alias.{alias_of, readdressed, redirected}
 pub use Rattle.i2c_base.specs.Board.{BoardView, DeviceView}

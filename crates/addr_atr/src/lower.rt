@@ -49,7 +49,7 @@ fn copy_runs(alloc: Global, runs: &[MemoryRun]) -> Result<Vec<MemoryRun>, AllocE
 {
     let mut copy = Vec::with_capacity(alloc, runs.len())?;
     for run in runs {
-        copy.push_reserved(copy_run(alloc, run)?);
+        copy.push(copy_run(alloc, run)?)?;
     }
     Ok(copy)
 }
@@ -86,7 +86,7 @@ fn lowered_devices(
 {
     let mut devices = Vec::with_capacity(alloc, board.devices().len())?;
     for device in board.devices() {
-        devices.push_reserved(lowered_device(alloc, board, translators, device)?);
+        devices.push(lowered_device(alloc, board, translators, device)?)?;
     }
     Ok(devices)
 }

@@ -68,7 +68,7 @@ fn pairs_of(alloc: Global, values: &[Value]) -> Result<Vec<AliasPair>, AllocErro
 {
     let mut pairs = Vec::with_capacity(alloc, values.len())?;
     for value in values {
-        pairs.push_reserved(pair(value));
+        pairs.push(pair(value))?;
     }
     Ok(pairs)
 }

@@ -1,6 +1,5 @@
-use Rattle.addr_atr.proofs.Cited.{vec_capacity, vec_len, view, AreMade, pair_value}
+use Rattle.addr_atr.proofs.Cited.{◌≡◌, map, view, pair_value, take}
 use Rattle.addr_atr.proofs.text.pairs_of.Given as goal
 
 abbrev pub invariant-loop-value : goal.invariant-loop-value
-invariant-loop-value l =
-    AreMade (λ v. pair_value (view v)) l.values l.value-index l.pairs.items (vec_len l.pairs) (vec_capacity l.pairs)
+invariant-loop-value l = l.pairs.items ≡ map pair_value (map view (take l.value-index l.values))
