@@ -87,14 +87,24 @@ module _ (script : ScriptView) (cs : List CommandView) (taken : PackedView Reply
       ]) (omega (arith, owed, same, sum_falls (λ t. 1) cs before r k.transfer k.next))
 
   -- the reply has room
-  pub has_place : HasRoom cs taken printed turn → IsTaking cs before turn r → 0 < taken.room
+  has_place : HasRoom cs taken printed turn → IsTaking cs before turn r → 0 < taken.room
   has_place room k = omega (arith, room.replies, sum_falls (λ t. 1) cs before r k.transfer k.next)
 
   -- .. and so have its bytes
-  pub has_room : HasRoom cs taken printed turn → IsTaking cs before turn r → (bytes : List ℕ) → bytes ≡ bytes_given r
+  has_room : HasRoom cs taken printed turn → IsTaking cs before turn r → (bytes : List ℕ) → bytes ≡ bytes_given r
       → length bytes ≤ taken.room_bytes
   has_room room k bytes these =
       omega (arith, ap length these, k.few, room.bytes, sum_falls most_brought cs before r k.transfer k.next)
+
+  -- what a call is told, and what is kept where it is ready, give room for both
+  pub place_and_room : (ready : Bool) (view : CallerView) → record { script = script; taken = before; spare = spare_of ready } ≡ view
+      → (t : TransferView) × (asked_by view.script view.taken ≡ Some t) × Fits t r → Covers view.spare (owed_by view.script view.taken)
+      → (ready ≡ true → HasRoom cs taken printed turn) → (bytes : List ℕ) → bytes ≡ bytes_given r
+      → (0 < taken.room) × (length bytes ≤ taken.room_bytes)
+  place_and_room ready view seen asked covers kept bytes these =
+      let k : IsTaking cs before turn r = taking ready view seen asked in
+      let room : HasRoom cs taken printed turn = kept (ready_to_take ready view seen k covers) in
+      (has_place room k, has_room room k bytes these)
 
   module _ (room : HasRoom cs taken printed turn) (k : IsTaking cs before turn r) (c : CommandView)
       (there : slice_get cs turn ≡ Some c) where

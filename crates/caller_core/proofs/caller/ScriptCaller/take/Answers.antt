@@ -3,8 +3,9 @@ use Rattle.caller_core.proofs.Cited.{slice_get, sum_by, Reply, reply_by, AreRepl
 use Rattle.caller_core.proofs.Cited.{command_text, quiet_text, room_of, command_talk, quiet_front, CommandView, ScriptView}
 use Rattle.std.proofs.Math.Seq.{drop-drop}
 use Rattle.caller_core.proofs.QuietLemmas.{front_parts, sum_there}
-use Rattle.caller_core.proofs.TakeLemmas.{IsTaking, given_by, at_place, taking, ready_to_take, has_place, has_room, replies_so, stays_so}
+use Rattle.caller_core.proofs.TakeLemmas.{IsTaking, given_by, at_place, taking, ready_to_take, place_and_room, replies_so, stays_so}
 use Rattle.caller_core.proofs.TakeLemmas.{stays_room, goes_on, goes_room, covered}
+use Rattle.caller_core.specs.Scripts.{front_room}
 use Rattle.caller_core.proofs.caller.ScriptCaller.take.Goals as goal
 use Rattle.caller_core.proofs.caller.ScriptCaller.take.Goals.{After-get}
 
@@ -79,13 +80,27 @@ module _ (c : After-get) where
       command there c.args.head c.args.bytes.now c.push.new.self refl (given_by c.args.head c.args.bytes.now c.requires.few)
       c.push.ensures.items c.push.ensures.room c.push.ensures.room_bytes
 
-  over_room : (text : TextView) (to : ℕ) → sum_by room_of (drop to c.self.inside.commands) ≤ text.room
+  over_room : (out text : TextView) (to : ℕ) → c.self.inside.printed.room ≤ out.room + room_of command
+      → out.room ≤ text.room + front_room (drop (c.self.inside.turn + 1) c.self.inside.commands)
+      → to ≡ c.self.inside.turn + 1 + quiet_front (drop (c.self.inside.turn + 1) c.self.inside.commands)
       → HasRoom c.self.inside.commands c.push.new.self text to
-  over_room =
+  over_room out text to told quiet is_to =
       let s = c.self.inside in
+      let rest : List CommandView = drop (s.turn + 1) s.commands in
+      let behind : drop (quiet_front rest) rest ≡ drop to s.commands =
+      drop-drop (quiet_front rest) (s.turn + 1) s.commands ∙ ap (λ n. drop n s.commands) (sym is_to) in
       goes_room script s.commands s.taken s.printed s.turn s.from s.place s.totals reply c.self.invariant.0 room taken
       command there c.args.head c.args.bytes.now c.push.new.self refl (given_by c.args.head c.args.bytes.now c.requires.few)
-      c.push.ensures.items c.push.ensures.room c.push.ensures.room_bytes
+      c.push.ensures.items c.push.ensures.room c.push.ensures.room_bytes text to
+      (omega (
+        arith,
+        quiet,
+        told,
+        room.text,
+        sum_there s.commands s.turn command there,
+        front_parts rest,
+        ap (λ xs. sum_by room_of xs) behind,
+      ))
 
   -- a script that is ready stays so
   still : {X : Type 0} → c.self.inside.is_ready ≡ false → X
@@ -94,24 +109,16 @@ module _ (c : After-get) where
 pub push-requires-clause-room : goal.push-requires-clause-room
 push-requires-clause-room c =
     let s = c.self.inside in
-    let script : ScriptView = record { board = s.board.value; text = s.text.value.items } in
-    let reply : Reply = reply_by c.args.head c.args.bytes.now in
-    let k = taking script s.commands s.taken s.printed s.turn s.from s.place s.totals reply c.self.invariant.0 s.is_ready
-    c.args.self.now c.self.view_is c.requires.fits in
-    has_place script s.commands s.taken s.printed s.turn s.from s.place s.totals reply c.self.invariant.0
-    (c.self.invariant.1.room (ready_to_take script s.commands s.taken s.printed s.turn s.from s.place s.totals reply c.self.invariant.0
-    s.is_ready c.args.self.now c.self.view_is k c.requires.room)) k
+    (place_and_room (record { board = s.board.value; text = s.text.value.items }) s.commands s.taken s.printed s.turn s.from s.place
+    s.totals (reply_by c.args.head c.args.bytes.now) c.self.invariant.0 s.is_ready c.args.self.now c.self.view_is c.requires.fits
+    c.requires.room c.self.invariant.1.room c.args.bytes.now (given_by c.args.head c.args.bytes.now c.requires.few)).0
 
 pub push-requires-clause-room_bytes : goal.push-requires-clause-room_bytes
 push-requires-clause-room_bytes c =
     let s = c.self.inside in
-    let script : ScriptView = record { board = s.board.value; text = s.text.value.items } in
-    let reply : Reply = reply_by c.args.head c.args.bytes.now in
-    let k = taking script s.commands s.taken s.printed s.turn s.from s.place s.totals reply c.self.invariant.0 s.is_ready
-    c.args.self.now c.self.view_is c.requires.fits in
-    has_room script s.commands s.taken s.printed s.turn s.from s.place s.totals reply c.self.invariant.0
-    (c.self.invariant.1.room (ready_to_take script s.commands s.taken s.printed s.turn s.from s.place s.totals reply c.self.invariant.0
-    s.is_ready c.args.self.now c.self.view_is k c.requires.room)) k c.args.bytes.now (given_by c.args.head c.args.bytes.now c.requires.few)
+    (place_and_room (record { board = s.board.value; text = s.text.value.items }) s.commands s.taken s.printed s.turn s.from s.place
+    s.totals (reply_by c.args.head c.args.bytes.now) c.self.invariant.0 s.is_ready c.args.self.now c.self.view_is c.requires.fits
+    c.requires.room c.self.invariant.1.room c.args.bytes.now (given_by c.args.head c.args.bytes.now c.requires.few)).1
 
 pub behind-place-requires : goal.behind-place-requires
 behind-place-requires c =
@@ -151,24 +158,13 @@ pub invariant_of-self-else-place-places : goal.invariant_of-self-else-place-plac
 invariant_of-self-else-place-places c =
     let s = c.self.inside in
     let g = (goal.at.invariant_of-self-else-place-places c).After-get in
-    let quiet = c.push_quiet-self-inside in
-    let rest : List CommandView = drop (s.turn + 1) s.commands in
-    let to : drop (quiet_front rest) rest ≡ drop quiet.result s.commands =
-    drop-drop (quiet_front rest) (s.turn + 1) s.commands ∙ ap (λ n. drop n s.commands) (sym quiet.ensures.behind) in (
+    let quiet = c.push_quiet-self-inside in (
       over g quiet.new.out c.behind-place.result c.len-self-inside.result quiet.result (c.behind-place.ensures c.args.bytes.now)
           (omega (arith, c.if-place-places.false, c.places.ensures.value)) c.len-self-inside.ensures quiet.ensures.behind
           (quiet.ensures.bytes ∙ ap (λ (x : List ℕ). x ++ quiet_text (drop (s.turn + 1) s.commands)) c.push_command.ensures.bytes),
       record {
-        room = λ yes. over_room g quiet.new.out quiet.result
-            (omega (
-              arith,
-              quiet.ensures.room,
-              c.push_command.ensures.room,
-              (room g).text,
-              sum_there s.commands s.turn (command g) (there g),
-              front_parts rest,
-              ap (λ xs. sum_by room_of xs) to,
-            ));
+        room = λ yes. over_room g c.push_command.new.out quiet.new.out quiet.result c.push_command.ensures.room quiet.ensures.room
+            quiet.ensures.behind;
         untaken = still g;
       },
       c.self.invariant.2,
@@ -187,20 +183,9 @@ returns-else-place-places-clause-room c =
     let s = c.self.inside in
     let g = (goal.at.returns-else-place-places-clause-room c).After-get in
     let quiet = c.push_quiet-self-inside in
-    let rest : List CommandView = drop (s.turn + 1) s.commands in
-    let to : drop (quiet_front rest) rest ≡ drop quiet.result s.commands =
-    drop-drop (quiet_front rest) (s.turn + 1) s.commands ∙ ap (λ n. drop n s.commands) (sym quiet.ensures.behind) in
     covered (script g) s.commands c.push.new.self quiet.new.out quiet.result c.len-self-inside.result 0 s.totals s.is_ready
     (over g quiet.new.out c.behind-place.result c.len-self-inside.result quiet.result (c.behind-place.ensures c.args.bytes.now)
     (omega (arith, c.if-place-places.false, c.places.ensures.value)) c.len-self-inside.ensures quiet.ensures.behind
     (quiet.ensures.bytes ∙ ap (λ (x : List ℕ). x ++ quiet_text (drop (s.turn + 1) s.commands)) c.push_command.ensures.bytes))
-    (over_room g quiet.new.out quiet.result
-    (omega (
-      arith,
-      quiet.ensures.room,
-      c.push_command.ensures.room,
-      (room g).text,
-      sum_there s.commands s.turn (command g) (there g),
-      front_parts rest,
-      ap (λ xs. sum_by room_of xs) to,
-    ))) (ready g)
+    (over_room g c.push_command.new.out quiet.new.out quiet.result c.push_command.ensures.room quiet.ensures.room
+    quiet.ensures.behind) (ready g)
