@@ -73,7 +73,7 @@ module _ {P C S : Type 0} (g : PortGhosts P) (c : CallerGhosts C S) (x : CoreIns
           board = step.board;
           start = step.start;
           scripts = step.scripts;
-          roots = step.roots;
+          setups = step.setups;
           places = step.places;
           counted = step.counted;
         };

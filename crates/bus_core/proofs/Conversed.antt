@@ -19,7 +19,8 @@ use Rattle.bus_core.proofs.Kept.{standing, fair, seated-here, one-kept, two-kept
 use Rattle.bus_core.proofs.Converse.{ComesNext, goes, on-bus, calls, call-left, few, words2, is-sent}
 use Rattle.bus_core.proofs.Heard.{heard-place, heard-got, heard-seated, settle-first, settled-place}
 use Rattle.bus_core.proofs.Reseating.{seated_settled}
-use Rattle.bus_core.proofs.RootsStay.{roots-stay}
+use Rattle.bus_core.proofs.SetupsStay.{setups-stay}
+use Rattle.bus_core.specs.State.{setups_of}
 
 module _ {P C S : Type 0} {g : PortGhosts P} {c : CallerGhosts C S} {x : CoreInside P C} {place : ℕ} {next : NextMsg} {s : Seat C}
     (kept : IsKept g c x) (m : ComesNext x place next s) {sockets2 : List RootPort} {bytes : List ℕ} {sent : MsgResult}
@@ -95,8 +96,9 @@ module _ {P C S : Type 0} {g : PortGhosts P} {c : CallerGhosts C S} {x : CoreIns
       sockets : root_ports g new.ports.items ≡ set (root_ports g x.ports.items) s.port said.after
       sockets = ports ∙ said.set_is
 
-      roots : roots_of new.ports.items ≡ roots_of x.ports.items
-      roots = roots-stay g x.ports.items new.ports.items s.port said.before said.after said.here sockets said.sent.spoke.root
+      setups : setups_of g.setup new.ports.items ≡ setups_of g.setup x.ports.items
+      setups = setups-stay g x.ports.items new.ports.items s.port said.before said.after said.here sockets said.sent.spoke.root
+          said.sent.spoke.setup
 
       -- NO SETTLE came
       pub conversed-quiet : new.seats.items ≡ set x.seats.items place t → new.journal ≡ j
@@ -116,7 +118,7 @@ module _ {P C S : Type 0} {g : PortGhosts P} {c : CallerGhosts C S} {x : CoreIns
               (is-sent kept m said) gone left partway (sym room) j.room_bytes (sym room_bytes) in
               let number : t.number ≡ s.number = ap (λ (y : Seat C). y.number) heard.same in
               let script : c.script t.caller ≡ c.script s.caller = ap (λ (y : Seat C). c.script y.caller) heard.same in
-              one-kept g c x kept place s here new t same_board seats number script roots seated _ core
+              one-kept g c x kept place s here new t same_board seats number script setups seated _ core
               (message_entry s.number next bytes sent) (ap (λ (y : JournalView). y.entries) journal ∙ entries) refl
               (ap (λ (y : JournalView). y.room + 1) journal ∙ room) (ap (λ (y : JournalView). y.room) journal)
               (ap (λ (y : JournalView). y.room_bytes) journal) (ap (set whole.places place) place-is) locks sockets start places refl refl
@@ -162,7 +164,7 @@ module _ {P C S : Type 0} {g : PortGhosts P} {c : CallerGhosts C S} {x : CoreIns
               let seated2 = seated_settled c x.board locks2 (roots_of x.ports.items) t u seated verdict made.settled in
               let place2 = settled-place c x.board locks2 (roots_of x.ports.items) verdict t u made.settled reply refl first2
               ∙ ap (λ (q : Place). record q { tree = rest_of q.tree Passed; owed = reply ∷ []; got = []; cut = cut_at.No }) place-is in
-              two-kept g c x kept place s here new u same_board seats number script roots seated2 _ core message settle all refl (sym rooms)
+              two-kept g c x kept place s here new u same_board seats number script setups seated2 _ core message settle all refl (sym rooms)
               refl refl (ap (set whole.places place) place2) locks sockets start places refl refl refl refl
 
       -- EITHER, as it is told

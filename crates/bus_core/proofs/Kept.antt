@@ -9,6 +9,8 @@ use Rattle.bus_core.proofs.Cited.{asks_in, run_of, whole_of, IsKept, HasStepped,
 use Rattle.bus_core.proofs.Cited.{scripts_of, script_at, asks_of, CoreInside, Seat, map_at}
 use Rattle.std.proofs.Common.{◌==◌}
 use Rattle.i2c_base.specs.declared.caller.Caller.{Ghosts as CallerGhosts}
+use Rattle.bus_core.specs.State.{setups_of}
+use Rattle.bus_core.proofs.SetupsStay.{roots-stay}
 use Rattle.ports.specs.declared.port.Port.{Ghosts as PortGhosts}
 use Rattle.i2c_spec.specs.Cost.{cost_of}
 use Rattle.i2c_spec.proofs.AddressLemmas.{tree_of}
@@ -144,7 +146,10 @@ module _ {P C S : Type 0} (g : PortGhosts P) (c : CallerGhosts C S) (x : CoreIns
     -- THE WHOLE with another seat at the place
     module _ (new : CoreInside P C) (t : Seat C) (same_board : new.board ≡ x.board) (seats : new.seats.items ≡ set x.seats.items place t)
         (number : t.number ≡ s.number) (script : c.script t.caller ≡ c.script s.caller)
-        (roots : roots_of new.ports.items ≡ roots_of x.ports.items) where
+        (setups : setups_of g.setup new.ports.items ≡ setups_of g.setup x.ports.items) where
+      roots : roots_of new.ports.items ≡ roots_of x.ports.items
+      roots = roots-stay g.setup x.ports.items new.ports.items setups
+
       new-scripts : scripts_of c new.seats.items ≡ scripts_of c x.seats.items
       new-scripts = ap (scripts_of c) seats ∙ same_scripts c x.seats.items place s t here number script
 
@@ -228,7 +233,7 @@ module _ {P C S : Type 0} (g : PortGhosts P) (c : CallerGhosts C S) (x : CoreIns
               board = same_board;
               start = start;
               scripts = new-scripts;
-              roots = roots;
+              setups = setups;
               places = places;
               room = omega (arith, less, some);
               counted = omega (arith, less, count);

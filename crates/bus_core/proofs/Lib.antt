@@ -12,9 +12,9 @@ pub mod Locks
 pub mod ReadsRoom
 pub mod Converse
 pub mod Heard
-pub mod RootsStay
 pub mod Conversed
 pub mod Refuse
+pub mod SetupsStay
 pub mod Switch
 pub mod Advances
 pub mod Loops

@@ -10,6 +10,7 @@ use Rattle.std.specs.Prelude.{Result, Ok, Err, OnOk, IfErr}
 use Rattle.i2c_base.specs.declared.caller.Caller.{Ghosts as CallerGhosts}
 use Rattle.i2c_base.specs.declared.entry.Entry.TheVariants as entry
 use Rattle.i2c_base.specs.declared.reply.Cut.TheVariants as cut_at
+use Rattle.bus_core.specs.State.{setups_of}
 use Rattle.ports.specs.declared.port.Port.{Ghosts as PortGhosts}
 use Rattle.core_laws.specs.Behind.{passed}
 use Rattle.seg_locks.specs.Locks.{IsBelowHeld}
@@ -106,7 +107,7 @@ module _ {P C S : Type 0} {g : PortGhosts P} {c : CallerGhosts C S} {x : CoreIns
     take-kept =
         let bytes : new.journal.room_bytes ≡ x.journal.room_bytes = omega (arith, room_bytes) in
         one-kept g c x kept place s here new t same_board seats (ap (λ (y : Seat C). y.number) went.same)
-        (ap (λ (y : Seat C). c.script y.caller) went.same) (ap (λ (y : _). roots_of y.items) ports) seated _ core
+        (ap (λ (y : Seat C). c.script y.caller) went.same) (ap (λ (y : _). setups_of g.setup y.items) ports) seated _ core
         (entry.Take s.number l) entries refl room refl bytes
         (ap (set whole.places place) (went-place c s t _ cut_at.No went.same went.walk)) locks
         (ap (λ (y : _). root_ports g y.items) ports) start places refl refl
@@ -163,7 +164,7 @@ module _ {P C S : Type 0} {g : PortGhosts P} {c : CallerGhosts C S} {x : CoreIns
         → IsKept g c new × HasStepped g c place x new
     by-whole number script q is ks m core =
         let bytes : new.journal.room_bytes ≡ x.journal.room_bytes = omega (arith, room_bytes) in
-        one-kept g c x kept place s here new t same_board seats number script (ap (λ (y : _). roots_of y.items) ports) freed.seated _ core
+        one-kept g c x kept place s here new t same_board seats number script (ap (λ (y : _). setups_of g.setup y.items) ports) freed.seated _ core
         (entry.Free s.number l) entries refl room refl bytes (ap (set whole.places place) is) locks
         (ap (λ (y : _). root_ports g y.items) ports) start places refl refl
 

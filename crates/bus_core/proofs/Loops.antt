@@ -72,7 +72,7 @@ script-none (x ∷ xs) n none =
 
 -- what comes of what comes
 pub come-refl : {P C S : Type 0} (g : PortGhosts P) (c : CallerGhosts C S) (x : CoreInside P C) → HasCome g c x x
-come-refl g c x = record { board = refl; start = refl; scripts = refl; roots = refl; places = refl; counted = refl }
+come-refl g c x = record { board = refl; start = refl; scripts = refl; setups = refl; places = refl; counted = refl }
 
 pub come-then : {P C S : Type 0} (g : PortGhosts P) (c : CallerGhosts C S) (x y z : CoreInside P C) → HasCome g c x y → HasCome g c y z
     → HasCome g c x z
@@ -81,7 +81,7 @@ come-then g c x y z a b =
       board = b.board ∙ a.board;
       start = b.start ∙ a.start;
       scripts = b.scripts ∙ a.scripts;
-      roots = b.roots ∙ a.roots;
+      setups = b.setups ∙ a.setups;
       places = b.places ∙ a.places;
       counted = b.counted ∙ a.counted;
     }

@@ -7,6 +7,7 @@ use Rattle.bus_core.proofs.Cited.{place_of, MayRefuse, IsRefusedIn, CoreInside, 
 use Rattle.i2c_base.specs.declared.caller.Caller.{Ghosts as CallerGhosts}
 use Rattle.i2c_base.specs.declared.entry.Entry.TheVariants as entry
 use Rattle.i2c_base.specs.declared.reply.Reply.TheVariants as answer
+use Rattle.bus_core.specs.State.{setups_of}
 use Rattle.ports.specs.declared.port.Port.{Ghosts as PortGhosts}
 use Rattle.bus_spec.specs.Grammar.{plain}
 use Rattle.core_laws.proofs.Laws.{core-lone, core-lone-finished, settle-lone, lone-due, turn-lone}
@@ -43,14 +44,14 @@ module _ {P C S : Type 0} (g : PortGhosts P) (c : CallerGhosts C S) (x : CoreIns
     abbrev settle : Entry
     settle = entry.Settle s.number (answer.Err errno) s.cut
 
-    roots : roots_of new.ports.items ≡ roots_of x.ports.items
-    roots = ap (λ (y : _). roots_of y.items) ports
+    setups : setups_of g.setup new.ports.items ≡ setups_of g.setup x.ports.items
+    setups = ap (λ (y : _). setups_of g.setup y.items) ports
 
     by-whole : (q : Place) → place_of c t ≡ q → (ks : List LockId) (m : ℕ)
         → CoreKept run (record (with_place whole place q ks m) { past = settle ∷ whole.past; room = new.journal.room })
         → IsKept g c new × HasStepped g c place x new
     by-whole q is ks m core =
-        turn-kept g c x kept place s here new t same_board seats refused.ended.number refused.ended.handed.script roots refused.seated _
+        turn-kept g c x kept place s here new t same_board seats refused.ended.number refused.ended.handed.script setups refused.seated _
         core (record { caller = s.number; entries = settle ∷ [] }) refl refused.entries (reverse-append x.journal.entries (settle ∷ []))
         (omega arith) refused.room refl refused.room_bytes (ap (set whole.places place) is) locks
         (ap (λ (y : _). root_ports g y.items) ports) start places

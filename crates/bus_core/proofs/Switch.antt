@@ -34,7 +34,8 @@ use Rattle.bus_core.proofs.Converse.{port, length-applied, holds_mux, updates-he
 use Rattle.bus_core.proofs.Heard.{went-on-place, settle-first, settled-place}
 use Rattle.bus_core.proofs.Reseating.{seated_on, seated_settled}
 use Rattle.bus_core.proofs.SeatLemmas.{read_comes}
-use Rattle.bus_core.proofs.RootsStay.{roots-stay}
+use Rattle.bus_core.proofs.SetupsStay.{setups-stay}
+use Rattle.bus_core.specs.State.{setups_of}
 use Rattle.bus_core.specs.Kept.{HasShift}
 
 -- a gpio mux is switched by a line
@@ -200,8 +201,8 @@ module _ {P C S : Type 0} {g : PortGhosts P} {c : CallerGhosts C S} {x : CoreIns
           shifted = subst (λ (l : ℕ). Shifted g.tells (line_mux job) l failed old now) (sym m.to_level)
               (subst (λ (i : ℕ). Shifted g.tells i level failed old now) (sym m.of_mux) was)
 
-          roots : roots_of new.ports.items ≡ roots_of x.ports.items
-          roots = roots-stay g x.ports.items new.ports.items s.port old now port_here sockets shifted.root
+          setups : setups_of g.setup new.ports.items ≡ setups_of g.setup x.ports.items
+          setups = setups-stay g x.ports.items new.ports.items s.port old now port_here sockets shifted.root shifted.setup
 
           marked : AreMarked x.board p.tree x.locks (Lined failed) words
           marked = record {
@@ -247,7 +248,7 @@ module _ {P C S : Type 0} {g : PortGhosts P} {c : CallerGhosts C S} {x : CoreIns
                   (standing g c x kept place s here).stands j.room job s.port old now failed words is-shifted left (sym room) in
                   let number : t.number ≡ s.number = ap (λ (y : Seat C). y.number) went.same in
                   let script : c.script t.caller ≡ c.script s.caller = ap (λ (y : Seat C). c.script y.caller) went.same in
-                  one-kept g c x kept place s here new t same_board seats number script roots seated _ core
+                  one-kept g c x kept place s here new t same_board seats number script setups seated _ core
                   (line_entry p job failed) (ap (λ (y : JournalView). y.entries) journal ∙ entries) refl
                   (ap (λ (y : JournalView). y.room + 1) journal ∙ room) (ap (λ (y : JournalView). y.room) journal)
                   (ap (λ (y : JournalView). y.room_bytes) journal ∙ same_bytes) (ap (set whole.places place) place-is)
@@ -293,7 +294,7 @@ module _ {P C S : Type 0} {g : PortGhosts P} {c : CallerGhosts C S} {x : CoreIns
                   (answer.Err err) reply first2
                   ∙ ap (λ (q : Place). record q { tree = rest_of q.tree Passed; owed = answer.Err err ∷ []; got = []; cut = cut_at.No })
                   place-is in
-                  two-kept g c x kept place s here new u same_board seats number script roots seated2 _ core line settle all refl
+                  two-kept g c x kept place s here new u same_board seats number script setups seated2 _ core line settle all refl
                   (sym rooms) refl bytes (ap (set whole.places place) place2) locks sockets start places refl refl refl refl
 
           -- EITHER, as it is told

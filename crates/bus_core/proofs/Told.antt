@@ -11,6 +11,7 @@ use Rattle.std.proofs.Common.{append-nil}
 use Rattle.std.specs.Option.{is_some}
 use Rattle.i2c_base.specs.declared.caller.Caller.{Ghosts as CallerGhosts}
 use Rattle.i2c_base.specs.declared.port.PortCall.{PortCall}
+use Rattle.bus_core.proofs.SetupsStay.{roots-stay}
 use Rattle.ports.specs.declared.port.Port.{Ghosts as PortGhosts}
 use Rattle.core_laws.proofs.Laws.{finished-asks, free-ready, holder-same}
 use Rattle.bus_core.specs.Opens.{IsOpenedWith, opening_of, uncalled}
@@ -70,7 +71,7 @@ opened-with g c b ports callers limit x is =
     ∙ ap (λ (ss : List (ℕ × _)). record (state_of g c x).opening { board = b; scripts = ss }) is.scripts
     ∙ ap (λ (ps : List (ℕ × _)). record (opening_of g c b ports callers) { worlds = worlds_of g.world ps }) is.start
 
--- what came of a core was opened with the same, and has the same roots
+-- what came of a core was opened with the same, and its ports are set up the same, with the same roots
 module _ {P C S : Type 0} (g : PortGhosts P) (c : CallerGhosts C S) (old new : CoreInside P C) (come : HasCome g c old new) where
   pub opening-same : (state_of g c new).opening ≡ (state_of g c old).opening
   opening-same =
@@ -79,7 +80,7 @@ module _ {P C S : Type 0} (g : PortGhosts P) (c : CallerGhosts C S) (old new : C
       ∙ ap (λ (y : _). record (state_of g c old).opening { worlds = worlds_of g.world y.value.items }) come.start
 
   pub roots-same : roots_in (state_of g c new) ≡ roots_in (state_of g c old)
-  roots-same = roots-told g.world new.ports.items ∙ come.roots ∙ sym (roots-told g.world old.ports.items)
+  roots-same = roots-told g.world new.ports.items ∙ roots-stay g.setup old.ports.items new.ports.items come.setups ∙ sym (roots-told g.world old.ports.items)
 
 -- a step that was made, or wasn't
 pub came-by : {P C S : Type 0} (g : PortGhosts P) (c : CallerGhosts C S) (x new : CoreInside P C) (core : IsCore g c x) (caller place : ℕ)
@@ -263,6 +264,7 @@ pub went-by : {P C S : Type 0} (g : PortGhosts P) (c : CallerGhosts C S) (x new 
     → record {
       opening : (state_of g c new).opening ≡ v.opening;
       roots : roots_in (state_of g c new) ≡ roots_in v;
+      setups : (state_of g c new).setups ≡ v.setups;
       told : IsTrue g.tells → CoreTold c.asked (state_of g c new);
       through : AllThrough c.asked g.tells (state_of g c new);
       follows : IsTrue g.tells → GoesOnBy words v.journal.entries new.journal.entries;
@@ -270,6 +272,7 @@ pub went-by : {P C S : Type 0} (g : PortGhosts P) (c : CallerGhosts C S) (x new 
 went-by g c x new v words is core come through follows = record {
   opening = opening-same g c x new come ∙ ap (λ (u : CoreState _). u.opening) is;
   roots = roots-same g c x new come ∙ ap roots_in is;
+  setups = come.setups ∙ ap (λ (u : CoreState _). u.setups) is;
   told = core-told g c new core;
   through = through;
   follows = λ tell. subst (λ (u : CoreState _). GoesOnBy words u.journal.entries new.journal.entries) is (follows tell);

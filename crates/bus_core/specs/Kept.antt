@@ -22,6 +22,7 @@ use Rattle.ports.specs.declared.port.Port.{Ghosts as PortGhosts}
 use Rattle.bus_core.specs.Looks.{AreLooked}
 use Rattle.bus_core.specs.Opening.{IsSetUp}
 use Rattle.bus_core.specs.Places.{HasCounted, walk_left, places_of, scripts_of, asks_of, left_of}
+use Rattle.bus_core.specs.State.{setups_of}
 use Rattle.bus_core.specs.declared.parts.CoreInside.{CoreInside}
 use Rattle.bus_core.specs.declared.seat.Seat.{Seat}
 
@@ -108,7 +109,7 @@ pub record HasStepped {P C S : Type 0} (p : PortGhosts P) (c : CallerGhosts C S)
   pub board : new.board ≡ old.board
   pub start : new.start ≡ old.start
   pub scripts : scripts_of c new.seats.items ≡ scripts_of c old.seats.items
-  pub roots : roots_of new.ports.items ≡ roots_of old.ports.items
+  pub setups : setups_of p.setup new.ports.items ≡ setups_of p.setup old.ports.items
   pub places : new.places ≡ old.places
   pub room : new.journal.room < old.journal.room
   pub counted : length new.journal.entries + new.journal.room ≡ length old.journal.entries + old.journal.room
@@ -137,6 +138,6 @@ pub record HasCome {P C S : Type 0} (p : PortGhosts P) (c : CallerGhosts C S) (o
   pub board : new.board ≡ old.board
   pub start : new.start ≡ old.start
   pub scripts : scripts_of c new.seats.items ≡ scripts_of c old.seats.items
-  pub roots : roots_of new.ports.items ≡ roots_of old.ports.items
+  pub setups : setups_of p.setup new.ports.items ≡ setups_of p.setup old.ports.items
   pub places : new.places ≡ old.places
   pub counted : length new.journal.entries + new.journal.room ≡ length old.journal.entries + old.journal.room

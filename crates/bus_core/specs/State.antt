@@ -20,7 +20,7 @@ use Rattle.bus_core.specs.declared.parts.CoreInside.{CoreInside}
 use Rattle.bus_core.specs.declared.seat.Seat.{Seat}
 
 -- what it was opened with; each caller's number with the replies that it was handed; the journal and the lock words; and
--- of each port its root with its world, and with its log
+-- of each port its root with its world, with its log, and with how it was set up
 pub record CoreState (S : Type 0) : Type 0 where
   pub opening : Opening S
   pub taken : List (ℕ × List Reply)
@@ -28,12 +28,16 @@ pub record CoreState (S : Type 0) : Type 0 where
   pub locks : LocksView
   pub worlds : List (ℕ × World)
   pub logs : List (ℕ × List PortCall)
+  pub setups : List (ℕ × List ℕ)
 
 abbrev pub worlds_of : {P : Type 0} → (P → World) → List (ℕ × P) → List (ℕ × World)
 worlds_of world ports = map (λ (p : ℕ × _). (p.0, world p.1)) ports
 
 abbrev pub logs_of : {P : Type 0} → (P → List PortCall) → List (ℕ × P) → List (ℕ × List PortCall)
 logs_of log ports = map (λ (p : ℕ × _). (p.0, log p.1)) ports
+
+abbrev pub setups_of : {P : Type 0} → (P → List ℕ) → List (ℕ × P) → List (ℕ × List ℕ)
+setups_of setup ports = map (λ (p : ℕ × _). (p.0, setup p.1)) ports
 
 abbrev pub taken_of : {C S : Type 0} → CallerGhosts C S → List (Seat C) → List (ℕ × List Reply)
 taken_of c seats = map (λ s. (s.number, c.taken s.caller)) seats
@@ -47,6 +51,7 @@ state_of p c x =
       locks = x.locks;
       worlds = worlds_of p.world x.ports.items;
       logs = logs_of p.log x.ports.items;
+      setups = setups_of p.setup x.ports.items;
     }
 
 -- the root of each port

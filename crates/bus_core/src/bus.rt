@@ -6,7 +6,7 @@ ghost use Rattle.core_laws.specs.Opens.{AreFree};
 ghost use Rattle.bus_core.specs.Answers.{HasAdded, WaitsFor, HasUsedUp, IsOverIn, IsLeast};
 ghost use Rattle.bus_core.specs.Opens.{MayOpen, opening_of, uncalled, untaken};
 ghost use Rattle.bus_core.specs.Places.{scripts_of};
-ghost use Rattle.bus_core.specs.State.{AllThrough, CoreTold, has_caller, roots_in, worlds_of, logs_of, taken_of};
+ghost use Rattle.bus_core.specs.State.{AllThrough, CoreTold, has_caller, roots_in, worlds_of, logs_of, setups_of, taken_of};
 ghost use Rattle.bus_core.specs.declared.steps.StepAnswer.TheVariants as answer;
 
 use crate::opening::open;
@@ -23,7 +23,7 @@ use std::alloc::Global;
 use std::marker::Model;
 
 /// The core of a board's buses. A contract sees its state: what it was opened with, the replies that each caller was
-/// handed, the journal, the lock words, and the worlds and logs of its ports.
+/// handed, the journal, the lock words, and the worlds, logs and setups of its ports.
 #[derive(Drop)]
 pub struct BusCore<'b, P: Port, C: Caller> {
     parts: CoreInside<'b, P, C>,
@@ -67,6 +67,7 @@ impl<'b, P: Port, C: Caller> BusCore<'b, P, C> {
         ensures opening { IfOk result (λ core. core.opening ≡ opening_of P.Port C.Caller board.now ports.items callers.items) }
         ensures worlds { IfOk result (λ core. core.worlds ≡ worlds_of P.world ports.items) }
         ensures logs { IsTrue P.tells → IfOk result (λ core. core.logs ≡ uncalled ports.items) }
+        ensures setups { IfOk result (λ core. core.setups ≡ setups_of P.setup ports.items) }
         ensures taken { IfOk result (λ core. core.taken ≡ untaken callers.items) }
         ensures locks { IfOk result (λ core. AreFree core.locks) }
         ensures entries { IfOk result (λ core. core.journal.entries ≡ []) }
@@ -91,6 +92,7 @@ impl<'b, P: Port, C: Caller> BusCore<'b, P, C> {
         requires has { has_caller self.old.opening.scripts caller ≡ true }
         ensures opening { self.new.opening ≡ self.old.opening }
         ensures roots { roots_in self.new ≡ roots_in self.old }
+        ensures setups { self.new.setups ≡ self.old.setups }
         ensures told { IsTrue P.tells → CoreTold C.asked self.new }
         ensures stepped { result ≡ answer.Stepped → HasAdded C.asked P.tells caller self.old self.new }
         ensures blocked { (l : LockId) (h : ℕ) → result ≡ answer.Blocked l h → (self.new ≡ self.old) × WaitsFor C.asked P.tells self.old caller l h }
@@ -115,6 +117,7 @@ impl<'b, P: Port, C: Caller> BusCore<'b, P, C> {
     pub fn finish(&mut self)
         ensures opening { self.new.opening ≡ self.old.opening }
         ensures roots { roots_in self.new ≡ roots_in self.old }
+        ensures setups { self.new.setups ≡ self.old.setups }
         ensures told { IsTrue P.tells → CoreTold C.asked self.new }
         ensures through { AllThrough C.asked P.tells self.new }
         ensures follows { IsTrue P.tells → GoesOnBy [] self.old.journal.entries self.new.journal.entries }
@@ -128,6 +131,7 @@ impl<'b, P: Port, C: Caller> BusCore<'b, P, C> {
         requires words { All (λ c. has_caller self.old.opening.scripts c ≡ true) words.now }
         ensures opening { self.new.opening ≡ self.old.opening }
         ensures roots { roots_in self.new ≡ roots_in self.old }
+        ensures setups { self.new.setups ≡ self.old.setups }
         ensures told { IsTrue P.tells → CoreTold C.asked self.new }
         ensures through { AllThrough C.asked P.tells self.new }
         ensures follows { IsTrue P.tells → GoesOnBy words.now self.old.journal.entries self.new.journal.entries }
@@ -148,6 +152,7 @@ impl<'b, P: Port, C: Caller> BusCore<'b, P, C> {
         ensures taken { taken_of C.Caller result.seats.items ≡ self.entry.taken }
         ensures worlds { worlds_of P.world result.ports.items ≡ self.entry.worlds }
         ensures logs { logs_of P.log result.ports.items ≡ self.entry.logs }
+        ensures setups { setups_of P.setup result.ports.items ≡ self.entry.setups }
         ensures journal { result.journal ≡ self.entry.journal }
     {
         ClosedCore {

@@ -121,4 +121,5 @@ no_core b =
       locks = record { depths = []; roots = []; buses = []; marks = []; kept = [] };
       worlds = [];
       logs = [];
+      setups = [];
     }

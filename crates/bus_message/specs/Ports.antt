@@ -19,16 +19,17 @@ use Rattle.ports.specs.LineCalls.{HasLine}
 use Rattle.bus_message.specs.Talks.{HasMoved, IsSendable, TellsTalk}
 use Rattle.bus_message.specs.declared.message.MsgResult.{MsgResult}
 
--- a port by its root: what it has come to and what was called, the oldest first
+-- a port by its root: how it was set up, what it has come to and what was called, the oldest first
 pub record RootPort : Type 0 where
   pub root : ℕ
+  pub setup : List ℕ
   pub world : World
   pub log : List PortCall
   pub phase : Phase
 
 -- .. what its ghost members tell of it
 abbrev pub root_port : {P : Type 0} → PortGhosts P → ℕ × P → RootPort
-root_port p x = record { root = x.0; world = p.world x.1; log = p.log x.1; phase = p.phase x.1 }
+root_port p x = record { root = x.0; setup = p.setup x.1; world = p.world x.1; log = p.log x.1; phase = p.phase x.1 }
 
 abbrev pub root_ports : {P : Type 0} → PortGhosts P → List (ℕ × P) → List RootPort
 root_ports p xs = map (root_port p) xs
@@ -47,6 +48,7 @@ pub record IsStarted {P : Type 0} (p : PortGhosts P) (limit : ℕ) (m : MessageV
 -- unless it went through and isn't the last of its transfer
 pub record Spoke (tells last : Bool) (most : ℕ) (bytes : List ℕ) (e : End) (old new : RootPort) : Type 0 where
   pub root : new.root ≡ old.root
+  pub setup : new.setup ≡ old.setup
   pub start : MayStart new.phase
   pub idle : (new.phase ≡ Idle) ⊎ ((last ≡ false) × (e ≡ end.Ok))
   pub grows : IsTrue tells → length new.log ≤ length old.log + (most + 2)
@@ -78,6 +80,7 @@ pub record MayShift (tells : Bool) (mux level : ℕ) (x : RootPort) : Type 0 whe
 -- a line step was done there
 pub record Shifted (tells : Bool) (mux level : ℕ) (failed : Bool) (old new : RootPort) : Type 0 where
   pub root : new.root ≡ old.root
+  pub setup : new.setup ≡ old.setup
   pub idle : new.phase ≡ Idle
   pub world : IsTrue tells → new.world ≡ after old.world (line_step mux level failed)
   pub log : IsTrue tells → new.log ≡ old.log ++ line_step mux level failed ∷ []

@@ -85,6 +85,7 @@ pub record MessageEnded {P : Type 0} (p : PortGhosts P) (last : Bool) (left : Op
   pub idle : (p.phase new ≡ Idle) ⊎ ((last ≡ false) × (e ≡ end.Ok))
   pub grows : IsTrue p.tells → length (p.log new) ≤ length (p.log old) + (most + 1)
   pub later : p.faults old ≤ p.faults new
+  pub setup : p.setup new ≡ p.setup old
   pub few : length bytes ≤ length got + most
   pub fails : HasFailed calls (calls + most) (p.faults old) (p.faults new) e
   pub told : IsTrue p.tells → (whole : TalkTold World) (before : List PortCall)

@@ -32,6 +32,8 @@ impl Port for QuietPort {
 
     ghost faults = { λ p. 0 };
 
+    ghost setup = { λ p. [] };
+
     fn start(&mut self, _addr: Addr, _reading: bool) -> Result<Answer, Failed> {
         self.phase = Phase::Unanswered;
         Ok(Answer::Nack)

@@ -64,6 +64,10 @@ impl Rig for QuietRig {
 
     ghost port_faults = { λ r. [] };
 
+    ghost setups = { λ r b. [] };
+
+    ghost returned = { λ r. [] };
+
     fn plug(&mut self, alloc: Global, board: &Accepted) -> Result<Vec<QuietPort>, RigFail>
         ensures plugs { self.new.plugs ≡ counted self.old.plugs }
         ensures unplugs { self.new.unplugs ≡ self.old.unplugs }

@@ -110,6 +110,8 @@ impl<L: ByteLines + Send> Port for BitPort<L> {
 
     ghost faults = { λ p. p.faults };
 
+    ghost setup = { λ p. [] };
+
     /// It fails exactly where SCL, once let go, looked low 65 times in a row, but in the acknowledge clock, where that is Slow.
     #[inline(always)]
     fn start(&mut self, addr: Addr, reading: bool) -> Result<Answer, Failed>

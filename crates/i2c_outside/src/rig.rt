@@ -40,6 +40,12 @@ pub trait Rig {
     /// The counts of the ports that were last given back.
     ghost port_faults: { Self → List ℕ };
 
+    /// How it sets up the ports of a board, one for each root in order, which no plug and no unplug changes.
+    ghost setups: { Self → BoardView → List (List ℕ) };
+
+    /// How the ports that were last given back were set up.
+    ghost returned: { Self → List (List ℕ) };
+
     /// Gives one port for each root of the board, in order, each in its opening world with an empty log.
     fn plug(&mut self, alloc: Global, board: &Accepted) -> Result<Vec<Self::P>, RigFail>
         ensures later { faults self.old ≤ faults self.new }
@@ -53,7 +59,9 @@ pub trait Rig {
         ensures fresh { IfOk result (λ ports. All (λ p. Self.P.faults p ≡ 0) ports.items) }
         ensures empty { IsTrue Self.P.tells → IfOk result (λ ports. All (λ p. Self.P.log p ≡ []) ports.items) }
         ensures worlds { IsTrue Self.P.tells → IfOk result (λ ports. map Self.P.world ports.items ≡ openings board.now) }
-        ensures board { OnOk result (board_of self.new ≡ board.now) };
+        ensures board { OnOk result (board_of self.new ≡ board.now) }
+        ensures setups { IsTrue tells → IfOk result (λ ports. map Self.P.setup ports.items ≡ setups self.old board.now) }
+        ensures settled { setups self.new ≡ setups self.old };
 
     /// Takes the ports back. Where they are one for each root of the board, in order, the rig then holds the
     /// devices as they left them, and their logs.
@@ -64,6 +72,8 @@ pub trait Rig {
         ensures unplugs { unplugs self.new ≡ counted (unplugs self.old) }
         ensures later { faults self.old ≤ faults self.new }
         ensures counts { IsTrue tells → port_faults self.new ≡ map Self.P.faults ports.items }
+        ensures returned { IsTrue tells → returned self.new ≡ map Self.P.setup ports.items }
+        ensures settled { setups self.new ≡ setups self.old }
         ensures states { IsTrue tells → IsTrue Self.P.tells → AreWorldsOf (board_of self.old) (map Self.P.world ports.items)
             → states self.new ≡ devices_of (board_of self.old) (map Self.P.world ports.items) }
         ensures logs { IsTrue tells → IsTrue Self.P.tells → AreWorldsOf (board_of self.old) (map Self.P.world ports.items)

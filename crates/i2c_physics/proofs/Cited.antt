@@ -42,7 +42,7 @@ pub use Rattle.i2c_physics.specs.Heard.{numbers_of, nodes_of}
 pub use Rattle.i2c_physics.specs.Places.{PlaceView, mux_place, device_place, event_if, joins}
 pub use Rattle.i2c_physics.specs.Reach.{to_those, is_among, AreRising, joins_at, has_at, addressed, others, union_of, IsReach, wired_at}
 pub use Rattle.i2c_physics.specs.SimPorts.{PortView, opening_port}
-pub use Rattle.i2c_physics.specs.SimRigs.{device_of, state_at, states_from, IsThere, taken_out, none_of}
+pub use Rattle.i2c_physics.specs.SimRigs.{device_of, state_at, states_from, IsThere, taken_out, none_of, unset}
 pub use Rattle.i2c_physics.specs.SimWorlds.{seen_on, opened_on}
 pub use Rattle.i2c_physics.specs.Sites.{numbers_at, numbers_below}
 pub use Rattle.i2c_physics.specs.declared.wired_and.WiredAnd.{WiredAnd}

@@ -2,6 +2,7 @@ pub mod AloneLemmas
 pub mod FailLemmas
 pub mod FeedLemmas
 pub mod LineLemmas
+pub mod MarkLemmas
 pub mod NumberLemmas
 pub mod OwnLemmas
 pub mod PlaceLemmas

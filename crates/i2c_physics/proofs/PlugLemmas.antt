@@ -9,12 +9,11 @@ module _ {X : Type 0} (opened : ℕ → X) where
   all_opened : (P : X → Type 0) → ((r : ℕ) → P (opened r)) → (rs : List ℕ) → All P (map opened rs)
   all_opened P each rs = All-map P opened rs (λ k d h. each (get_or rs k d))
 
-  worlds_of : (b : BoardView) (world : X → World) → ((r : ℕ) → world (opened r) ≡ opening_world b r) → (rs : List ℕ)
-      → map world (map opened rs) ≡ map (opening_world b) rs
-  worlds_of b world each [] = refl
-  worlds_of b world each (r ∷ rs) =
+  seen_of : {Y : Type 0} (f : X → Y) (g : ℕ → Y) → ((r : ℕ) → f (opened r) ≡ g r) → (rs : List ℕ) → map f (map opened rs) ≡ map g rs
+  seen_of f g each [] = refl
+  seen_of f g each (r ∷ rs) =
       let head = each r in
-      let rest = worlds_of b world each rs in
+      let rest = seen_of f g each rs in
       cc
 
   module _ (b : BoardView) (ps : List X) (are : ps ≡ map opened (range_with_len 0 (length b.roots))) where
@@ -25,7 +24,11 @@ module _ {X : Type 0} (opened : ℕ → X) where
     opened-all P each = rw are (all_opened P each (range_with_len 0 (length b.roots)))
 
     pub opened-worlds : (world : X → World) → ((r : ℕ) → world (opened r) ≡ opening_world b r) → map world ps ≡ openings b
-    opened-worlds world each = rw are (worlds_of b world each (range_with_len 0 (length b.roots)))
+    opened-worlds world each = rw are (seen_of world (opening_world b) each (range_with_len 0 (length b.roots)))
+
+    pub opened-seen : {Y : Type 0} (f : X → Y) (g : ℕ → Y) → ((r : ℕ) → f (opened r) ≡ g r)
+        → map f ps ≡ map g (range_with_len 0 (length b.roots))
+    opened-seen f g each = rw are (seen_of f g each (range_with_len 0 (length b.roots)))
 
 -- the ports of the roots below one are opened, in a vector of this length with room for those of all
 pub record HaveOpened {X : Type 0} (port_of : ℕ → X) (roots root : ℕ) (ports : List X) (len capacity : ℕ) : Type 0 where

@@ -1,7 +1,7 @@
 -- The ports of the rig of two wires, as they are opened, and as they are taken apart.
 use Rattle.i2c_physics.proofs.Cited.{◌≡◌, ℕ, ◌+◌, ◌<◌, ◌≤◌, List, [], ◌∷◌, ◌++◌, length, map, append_assoc, refl, sym, ap, ◌∙◌, arith, All}
 use Rattle.i2c_physics.proofs.Cited.{range_with_len, length-map, map-append, get_or-map, All-head, All-tail, splat_is_map, BoardView}
-use Rattle.i2c_physics.proofs.Cited.{AreWorldsOf, openings, BitPortView, PortView, wired, opening_wired, parted, edges_of, none_of}
+use Rattle.i2c_physics.proofs.Cited.{AreWorldsOf, openings, BitPortView, PortView, wired, opening_wired, parted, edges_of, none_of, unset}
 use Rattle.std.specs.Prelude.{min, sum_by}
 use Rattle.std.proofs.lemmas.List.Sums.{sum_by-append}
 use Rattle.ports.specs.Causes.{MOST}
@@ -48,6 +48,10 @@ no_fault (p ∷ ps) none =
 pub none_counted : (ps : List BitPortView) → All (λ (p : BitPortView). p.faults ≡ 0) ps
     → none_of (length (map (λ (p : BitPortView). p.log) ps)) ≡ map (λ (p : BitPortView). p.faults) ps
 none_counted ps none = splat_is_map ps _ 0 (sym (length-map ps (λ (p : BitPortView). p.log))) ∙ no_fault ps none
+
+-- nothing was set up of any of these ports
+pub none_set : (ps : List BitPortView) → unset (length (map (λ (p : BitPortView). p.log) ps)) ≡ map (λ (p : BitPortView). []) ps
+none_set ps = splat_is_map ps _ [] (sym (length-map ps (λ (p : BitPortView). p.log)))
 
 -- one port more is taken apart
 pub one_more_parted : (old now new : List PortView) (ps : List BitPortView) (p : BitPortView) → now ≡ old ++ map parted ps

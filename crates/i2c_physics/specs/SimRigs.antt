@@ -40,6 +40,10 @@ no_board = record { version = 0; roots = []; muxes = []; devices = [] }
 abbrev pub none_of : ℕ → List ℕ
 none_of n = replicate n 0
 
+-- so many ports that nothing was set up of
+abbrev pub unset : ℕ → List (List ℕ)
+unset n = replicate n []
+
 -- what a rig tells after an unplug, and before it
 abbrev pub kept_states : Option Unplugged → List TargetState
 kept_states None = []

@@ -4,7 +4,7 @@ ghost use Rattle.std.specs.List.{range_with_len};
 ghost use Rattle.i2c_spec.specs.World.{AreWorldsOf, devices_of};
 ghost use Rattle.ports.specs.Causes.{counted};
 ghost use Rattle.i2c_physics.specs.BitRigs.{edges_of, opening_wired, wired};
-ghost use Rattle.i2c_physics.specs.SimRigs.{no_board, none_of, kept_states};
+ghost use Rattle.i2c_physics.specs.SimRigs.{no_board, none_of, unset, kept_states};
 
 use crate::WirePort;
 use crate::parted_port::PartsBuffer;
@@ -133,6 +133,10 @@ impl Rig for BitRig {
     // A 0 for each port that was last given back, which is its count (`counts` of `unplug`).
     ghost port_faults = { λ r. none_of (length r.logs) };
 
+    ghost setups = { λ r b. unset (length b.roots) };
+
+    ghost returned = { λ r. unset (length r.logs) };
+
     /// It never fails, except when out of memory. Neither wire of a root has changed yet.
     fn plug(&mut self, alloc: Global, board: &Accepted) -> Result<Vec<WirePort>, RigFail>
         ensures ports { IfOk result (λ ports. map wired ports.items ≡ map (opening_wired board.now) (range_with_len 0 (length board.now.roots))) }
@@ -164,6 +168,7 @@ impl Rig for BitRig {
         ensures plugs { self.new.sim.plugs ≡ self.old.sim.plugs }
         ensures unplugs { self.new.sim.unplugs ≡ counted self.old.sim.unplugs }
         ensures counts { none_of (length self.new.logs) ≡ map (λ p. p.faults) ports.items }
+        ensures returned { unset (length self.new.logs) ≡ map (λ p. []) ports.items }
         ensures states { AreWorldsOf (unwrap_or self.old.sim.room no_board) (map (λ p. p.world) ports.items)
             → kept_states self.new.sim.kept ≡ devices_of (unwrap_or self.old.sim.room no_board) (map (λ p. p.world) ports.items) }
         ensures logs { AreWorldsOf (unwrap_or self.old.sim.room no_board) (map (λ p. p.world) ports.items)

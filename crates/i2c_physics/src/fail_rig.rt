@@ -1,19 +1,18 @@
 //! A rig whose plugs, or calls on its ports, fail where it is told.
-ghost use Rattle.std.specs.Prelude.{◌≡◌, ◌≢◌, ◌↔◌, ◌⊎◌, ℕ, ◌≤◌, [], true, List, Option, Some, None, Err, OnErr, IfOk, length, map, is_some, unwrap_or};
+ghost use Rattle.std.specs.Prelude.{◌≡◌, ◌≢◌, ◌↔◌, ◌⊎◌, ℕ, ◌≤◌, true, Some, None, Err, OnErr, IfOk, length, map, is_some, unwrap_or};
 ghost use Rattle.std.specs.List.{range_with_len};
-ghost use Rattle.std.specs.Option.{option_map_or};
 ghost use Rattle.i2c_spec.specs.World.{AreWorldsOf, devices_of};
 ghost use Rattle.ports.specs.Causes.{counted};
-ghost use Rattle.i2c_physics.specs.FailPorts.{failed_calls_in, opening_fails};
+ghost use Rattle.i2c_physics.specs.FailPorts.{HaveFailedJustAt, counts_given, failed_calls_in, fails_given, fails_on, logs_given, opening_fails};
 ghost use Rattle.i2c_physics.specs.SimRigs.{no_board, kept_states, kept_logs};
 
 use crate::FailPort;
+use crate::fail_port::GivenPorts;
 use crate::sim_rig::SimRig;
 use i2c_base::{PortCall, SegId};
 use i2c_board::Accepted;
 use i2c_outside::{Rig, RigFail};
 use std::alloc::{AllocError, Global};
-use std::snapshot::Snapshot;
 use targets::DeviceState;
 
 /// The rig of the same boards as `SimRig`, whose plugs fail, or calls on its ports, where it is told.
@@ -24,7 +23,7 @@ pub struct FailRig {
     calls: Vec<(SegId, u32)>,
     sim: SimRig,
     /// The ports that were last given back.
-    given: Option<Snapshot<Vec<FailPort>>>,
+    given: Option<GivenPorts>,
 }
 
 impl FailRig {
@@ -37,6 +36,22 @@ impl FailRig {
             calls,
             sim: SimRig::new(),
             given: None,
+        }
+    }
+
+    /// From the next plug on, these calls on its ports fail, and no others.
+    pub fn arm(&mut self, calls: Vec<(SegId, u32)>)
+        ensures { self.new ≡ record self.old { calls = calls } }
+    {
+        self.calls = calls;
+    }
+
+    /// On each port that was last given back, a call failed just where its number was listed for it.
+    pub fn failed_where_told(&self)
+        ensures { HaveFailedJustAt (fails_given self.now.given) (logs_given self.now.given) }
+    {
+        if let Some(given) = &self.given {
+            given.fail_as_listed();
         }
     }
 
@@ -93,9 +108,13 @@ impl Rig for FailRig {
 
     ghost states = { λ r. kept_states r.sim.kept };
 
-    ghost logs = { λ r. kept_logs r.sim.kept };
+    ghost logs = { λ r. logs_given r.given };
 
-    ghost port_faults = { λ r. option_map_or (λ ports. map (λ p. failed_calls_in p.port.log) ports.value.items) r.given [] };
+    ghost port_faults = { λ r. counts_given r.given };
+
+    ghost setups = { λ r b. map (fails_on r.calls.items) (range_with_len 0 (length b.roots)) };
+
+    ghost returned = { λ r. fails_given r.given };
 
     /// It fails by a fault exactly where it is told to.
     fn plug(&mut self, alloc: Global, board: &Accepted) -> Result<Vec<FailPort>, RigFail>
@@ -128,13 +147,14 @@ impl Rig for FailRig {
         ensures plugs { self.new.sim.plugs ≡ self.old.sim.plugs }
         ensures unplugs { self.new.sim.unplugs ≡ counted self.old.sim.unplugs }
         ensures calm { self.new.sim.faults ≡ self.old.sim.faults }
-        ensures counts { option_map_or (λ given. map (λ p. failed_calls_in p.port.log) given.value.items) self.new.given [] ≡ map (λ p. failed_calls_in p.port.log) ports.items }
+        ensures given { self.new.given ≡ Some ports.items }
+        ensures calls { self.new.calls ≡ self.old.calls }
         ensures states { AreWorldsOf (unwrap_or self.old.sim.room no_board) (map (λ p. p.port.world) ports.items)
             → kept_states self.new.sim.kept ≡ devices_of (unwrap_or self.old.sim.room no_board) (map (λ p. p.port.world) ports.items) }
         ensures logs { AreWorldsOf (unwrap_or self.old.sim.room no_board) (map (λ p. p.port.world) ports.items)
-            → kept_logs self.new.sim.kept ≡ map (λ p. p.port.log) ports.items }
+            → kept_logs self.new.sim.kept ≡ logs_given self.new.given }
     {
-        self.given = Some(Snapshot::of(&ports));
+        self.given = Some(GivenPorts::of(&ports));
         self.sim.take_back(ports);
     }
 }

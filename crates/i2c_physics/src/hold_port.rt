@@ -1,5 +1,5 @@
 //! A port that waits for another root.
-ghost use Rattle.std.specs.Prelude.{◌≡◌, true, IfOk};
+ghost use Rattle.std.specs.Prelude.{◌≡◌, [], true, IfOk};
 ghost use Rattle.i2c_physics.specs.SimPorts.{opening_port};
 
 use crate::SimPort;
@@ -87,6 +87,8 @@ impl Port for HoldPort {
     ghost phase = { λ p. p.phase };
 
     ghost faults = { λ p. 0 };
+
+    ghost setup = { λ p. [] };
 
     fn start(&mut self, addr: Addr, reading: bool) -> Result<Answer, Failed> {
         self.come();

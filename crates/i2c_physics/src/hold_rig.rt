@@ -5,7 +5,7 @@ ghost use Rattle.i2c_base.specs.declared.port.Phase.{Phase};
 ghost use Rattle.i2c_spec.specs.World.{AreWorldsOf, openings, devices_of};
 ghost use Rattle.ports.specs.Causes.{Rose, counted};
 ghost use Rattle.i2c_physics.specs.SimPorts.{opening_port};
-ghost use Rattle.i2c_physics.specs.SimRigs.{no_board, none_of, kept_states, kept_logs};
+ghost use Rattle.i2c_physics.specs.SimRigs.{no_board, none_of, unset, kept_states, kept_logs};
 
 use crate::HoldPort;
 use crate::sim_rig::SimRig;
@@ -119,6 +119,10 @@ impl Rig for HoldRig {
 
     ghost port_faults = { λ r. none_of r.given };
 
+    ghost setups = { λ r b. unset (length b.roots) };
+
+    ghost returned = { λ r. unset r.given };
+
     /// It never fails, except when out of memory.
     fn plug(&mut self, alloc: Global, board: &Accepted) -> Result<Vec<HoldPort>, RigFail>
         ensures later { self.old.sim.faults ≤ self.new.sim.faults }
@@ -133,6 +137,7 @@ impl Rig for HoldRig {
         ensures empty { IfOk result (λ ports. All (λ p. p.log ≡ []) ports.items) }
         ensures worlds { IfOk result (λ ports. map (λ p. p.world) ports.items ≡ openings board.now) }
         ensures board { OnOk result (unwrap_or self.new.sim.room no_board ≡ board.now) }
+        ensures setups { IfOk result (λ ports. map ⟦<HoldPort as Port>⟧.setup ports.items ≡ unset (length board.now.roots)) }
 
         // It takes every board, and counts no fault.
         ensures never { result ≢ Err RigFail.Failed }
@@ -156,6 +161,7 @@ impl Rig for HoldRig {
         ensures unplugs { self.new.sim.unplugs ≡ counted self.old.sim.unplugs }
         ensures later { self.old.sim.faults ≤ self.new.sim.faults }
         ensures counts { none_of self.new.given ≡ map ⟦<HoldPort as Port>⟧.faults ports.items }
+        ensures returned { unset self.new.given ≡ map ⟦<HoldPort as Port>⟧.setup ports.items }
         ensures states { AreWorldsOf (unwrap_or self.old.sim.room no_board) (map (λ p. p.world) ports.items)
             → kept_states self.new.sim.kept ≡ devices_of (unwrap_or self.old.sim.room no_board) (map (λ p. p.world) ports.items) }
         ensures logs { AreWorldsOf (unwrap_or self.old.sim.room no_board) (map (λ p. p.world) ports.items)

@@ -1,5 +1,5 @@
 //! A port of the simulated world, which never fails.
-ghost use Rattle.std.specs.Prelude.{◌≡◌, ◌<◌, ℕ, Bool, true, length, slice_get, IfOk, IsSome};
+ghost use Rattle.std.specs.Prelude.{◌≡◌, ◌<◌, ℕ, [], Bool, true, length, slice_get, IfOk, IsSome};
 ghost use Rattle.i2c_base.specs.Limits.{MOST_CALLS};
 ghost use Rattle.i2c_base.specs.Phases.{AnswersStart, phase_started, phase_put, phase_got};
 ghost use Rattle.i2c_base.specs.declared.port.Phase.TheVariants.{Idle};
@@ -151,6 +151,8 @@ impl Port for SimPort {
     ghost phase = { λ p. p.phase };
 
     ghost faults = { λ p. 0 };
+
+    ghost setup = { λ p. [] };
 
     fn start(&mut self, addr: Addr, reading: bool) -> Result<Answer, Failed> {
         Ok(self.call_start(addr, reading))

@@ -5,7 +5,7 @@ ghost use Rattle.i2c_base.specs.declared.port.Phase.{Phase};
 ghost use Rattle.i2c_spec.specs.World.{AreWorldsOf, openings, devices_of};
 ghost use Rattle.ports.specs.Causes.{Rose, counted};
 ghost use Rattle.i2c_physics.specs.SimPorts.{opening_port};
-ghost use Rattle.i2c_physics.specs.SimRigs.{no_board, none_of, kept_states, kept_logs};
+ghost use Rattle.i2c_physics.specs.SimRigs.{no_board, none_of, unset, kept_states, kept_logs};
 
 use crate::SimPort;
 use crate::unplug::{Logged, Returned, UnplugBuffer, Unplugged};
@@ -171,6 +171,10 @@ impl Rig for SimRig {
 
     ghost port_faults = { λ r. none_of r.given };
 
+    ghost setups = { λ r b. unset (length b.roots) };
+
+    ghost returned = { λ r. unset r.given };
+
     /// It never fails, except when out of memory.
     fn plug(&mut self, alloc: Global, board: &Accepted) -> Result<Vec<SimPort>, RigFail>
         ensures later { self.old.faults ≤ self.new.faults }
@@ -185,6 +189,7 @@ impl Rig for SimRig {
         ensures empty { IfOk result (λ ports. All (λ p. p.log ≡ []) ports.items) }
         ensures worlds { IfOk result (λ ports. map (λ p. p.world) ports.items ≡ openings board.now) }
         ensures board { OnOk result (unwrap_or self.new.room no_board ≡ board.now) }
+        ensures setups { IfOk result (λ ports. map ⟦<SimPort as Port>⟧.setup ports.items ≡ unset (length board.now.roots)) }
 
         // It takes every board, and counts no fault.
         ensures never { result ≢ Err RigFail.Failed }
@@ -204,6 +209,7 @@ impl Rig for SimRig {
         ensures unplugs { self.new.unplugs ≡ counted self.old.unplugs }
         ensures later { self.old.faults ≤ self.new.faults }
         ensures counts { none_of self.new.given ≡ map ⟦<SimPort as Port>⟧.faults ports.items }
+        ensures returned { unset self.new.given ≡ map ⟦<SimPort as Port>⟧.setup ports.items }
         ensures states { AreWorldsOf (unwrap_or self.old.room no_board) (map (λ p. p.world) ports.items)
             → kept_states self.new.kept ≡ devices_of (unwrap_or self.old.room no_board) (map (λ p. p.world) ports.items) }
         ensures logs { AreWorldsOf (unwrap_or self.old.room no_board) (map (λ p. p.world) ports.items)

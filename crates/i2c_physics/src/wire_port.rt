@@ -70,6 +70,8 @@ impl Port for WirePort {
 
     ghost faults = { λ p. p.faults };
 
+    ghost setup = { λ p. [] };
+
     /// It is answered, and is nine clock pulses, or ten where it is a repeated one; of one that is too slow the pulses aren't told.
     #[inline(always)]
     fn start(&mut self, addr: Addr, reading: bool) -> Result<Answer, Failed>

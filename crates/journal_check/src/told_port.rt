@@ -164,6 +164,8 @@ impl<N: Telling + Send> Port for ToldPort<N> {
 
     ghost faults = { λ p. failed_calls_in p.log };
 
+    ghost setup = { λ p. [] };
+
     #[inline(always)]
     fn start(&mut self, addr: Addr, reading: bool) -> Result<Answer, Failed> {
         if fails_next(&mut self.left, &mut self.place, self.gaps.as_slice()) {

@@ -29,12 +29,16 @@ pub trait Port: Send + Drop {
 
     ghost faults: { Self → ℕ };
 
+    /// How it was set up, which no call changes.
+    ghost setup: { Self → List ℕ };
+
     /// A start, or a repeated start: Ack, Nack, or Slow where a target holds the clock too long.
     fn start(&mut self, addr: Addr, reading: bool) -> Result<Answer, Failed>
         requires phase { MayStart (phase self.old) }
         requires room { IsTrue tells → length (log self.old) < MOST_CALLS }
         ensures cause { HasCause (faults self.old) (faults self.new) result }
         ensures later { faults self.old ≤ faults self.new }
+        ensures setup { setup self.new ≡ setup self.old }
         ensures answers { IfOk result AnswersStart }
         ensures phase { IfOk result (λ a. phase self.new ≡ phase_started reading a) }
         ensures failed { OnErr result (phase self.new ≡ Phase.Idle) }
@@ -50,6 +54,7 @@ pub trait Port: Send + Drop {
         requires room { IsTrue tells → length (log self.old) < MOST_CALLS }
         ensures cause { HasCause (faults self.old) (faults self.new) result }
         ensures later { faults self.old ≤ faults self.new }
+        ensures setup { setup self.new ≡ setup self.old }
         ensures phase { IfOk result (λ acked. phase self.new ≡ phase_put acked) }
         ensures failed { OnErr result (phase self.new ≡ Phase.Idle) }
         ensures answer { IsTrue tells → IfOk result (λ acked. acked ≡ takes (world self.old) byte) }
@@ -64,6 +69,7 @@ pub trait Port: Send + Drop {
         requires room { IsTrue tells → length (log self.old) < MOST_CALLS }
         ensures cause { HasCause (faults self.old) (faults self.new) result }
         ensures later { faults self.old ≤ faults self.new }
+        ensures setup { setup self.new ≡ setup self.old }
         ensures phase { OnOk result (phase self.new ≡ phase_got ack) }
         ensures failed { OnErr result (phase self.new ≡ Phase.Idle) }
         ensures answer { IsTrue tells → IfOk result (λ byte. byte ≡ gives (world self.old)) }
@@ -77,6 +83,7 @@ pub trait Port: Send + Drop {
         requires room { IsTrue tells → length (log self.old) < MOST_CALLS }
         ensures cause { HasCause (faults self.old) (faults self.new) result }
         ensures later { faults self.old ≤ faults self.new }
+        ensures setup { setup self.new ≡ setup self.old }
         ensures phase { phase self.new ≡ Phase.Idle }
         ensures world { IsTrue tells → OnOk result (world self.new ≡ after (world self.old) call.Stop) }
         ensures log { IsTrue tells → OnOk result (log self.new ≡ log self.old ++ call.Stop ∷ []) }
@@ -91,6 +98,7 @@ pub trait Port: Send + Drop {
         requires room { IsTrue tells → length (log self.old) < MOST_CALLS }
         ensures cause { HasCause (faults self.old) (faults self.new) result }
         ensures later { faults self.old ≤ faults self.new }
+        ensures setup { setup self.new ≡ setup self.old }
         ensures phase { phase self.new ≡ Phase.Idle }
         ensures world { IsTrue tells → OnOk result (world self.new ≡ after (world self.old) (call.Line mux level)) }
         ensures log { IsTrue tells → OnOk result (log self.new ≡ log self.old ++ call.Line mux level ∷ []) }

@@ -1,4 +1,4 @@
-use Rattle.bus_message.proofs.Cited.{◌≡◌, true, false, [], arith, common_steps, bytes_most, ending, moving}
+use Rattle.bus_message.proofs.Cited.{refl, ◌≡◌, true, false, [], arith, common_steps, bytes_most, ending, moving}
 use Rattle.i2c_base.specs.declared.entry.End.TheVariants as end
 use Rattle.bus_message.specs.Talks.{answered}
 use Rattle.bus_message.proofs.EndLemmas.{rest-ends}
@@ -11,7 +11,7 @@ returns-in-Ack g c =
     record {
       ended = rest-ends g.P.Port c.args.last (answered c.args.last c.args.limit m c.args.answer) 1
           (bytes_most c.args.limit m) [] c.args.port.now c.args.port.now c.move_data.new.port c.move_data.new.bytes
-          (λ tells. omega arith) (omega arith)
+          (λ tells. omega arith) (omega arith) refl
           c.args.last (moving c.args.last c.args.limit m) 1 (bytes_most c.args.limit m) [] c.move_data.result c.move_data.ensures.ended
           (λ more. more) (omega arith) (omega arith) (omega arith) (λ tells. omega arith)
           (λ tells whole before r. begins_data whole _ c.args.last c.args.limit m c.args.answer before _ _ _ _ c.in-Ack.is r);
@@ -24,7 +24,7 @@ returns-in-Slow g c =
     record {
       ended = rest-ends g.P.Port c.args.last (answered c.args.last c.args.limit m c.args.answer) 1
           (bytes_most c.args.limit m) [] c.args.port.now c.args.port.now c.stopped.new.port c.args.bytes.now
-          (λ tells. omega arith) (omega arith)
+          (λ tells. omega arith) (omega arith) refl
           true (ending true end.Slow) 1 0 c.args.bytes.now c.stopped.result (c.stopped.ensures.ended c.args.bytes.now)
           (λ no. absurd (let f : true ≡ false = no in cc)) (omega arith) (omega arith) (rw c.requires.started.none (omega arith))
           (λ tells. omega arith)
@@ -39,7 +39,7 @@ returns-in_default g c =
     record {
       ended = rest-ends g.P.Port c.args.last (answered c.args.last c.args.limit m c.args.answer) 1
           (bytes_most c.args.limit m) [] c.args.port.now c.args.port.now c.stopped-in_default.new.port c.args.bytes.now
-          (λ tells. omega arith) (omega arith)
+          (λ tells. omega arith) (omega arith) refl
           true (ending true end.Nack) 1 0 c.args.bytes.now c.stopped-in_default.result (c.stopped-in_default.ensures.ended c.args.bytes.now)
           (λ no. absurd (let f : true ≡ false = no in cc)) (omega arith) (omega arith) (rw c.requires.started.none (omega arith))
           (λ tells. omega arith)

@@ -12,11 +12,11 @@ returns-in-Err g c = record {
       fault-ends g.P.Port c.args.last
       (getting c.args.last c.args.len) c.args.calls c.args.len c.args.got.now c.args.port.now c.loop-count.port c.get.new.self
       c.loop-count.got
-      (λ tells. omega (arith, c.loop-count.invariant.log tells, c.loop-count-test.true)) c.loop-count.invariant.later
+      (λ tells. omega (arith, c.loop-count.invariant.log tells, c.loop-count-test.true)) c.loop-count.invariant.later c.loop-count.invariant.setup
       (c.args.calls + c.loop-count.count)
       (omega arith) (omega (arith, c.loop-count-test.true))
       (omega (arith, c.loop-count.invariant.got, c.loop-count-test.true)) c.in-Err.ensures.failed
-      c.in-Err.ensures.log_failed c.in-Err.ensures.later c.in-Err.ensures.cause
+      c.in-Err.ensures.log_failed c.in-Err.ensures.later c.in-Err.ensures.setup c.in-Err.ensures.cause
       (λ tells whole before r.
       get_failed whole c.args.last (c.args.len - c.loop-count.count) (c.args.len - (c.loop-count.count + 1)) before
       (c.args.calls + c.loop-count.count) c.loop-count.got _ _ _ _
@@ -34,6 +34,7 @@ loop-count-preserved g c = record {
       ∙ c.loop-count.invariant.first some;
   log = λ tells. omega (arith, ap length (c.in-Ok.ensures.log tells), c.loop-count.invariant.log tells, length-append {A = PortCall});
   later = search rules;
+  setup = search rules;
   said = λ tells cut behind whole before r.
       let one : c.args.calls + (c.loop-count.count + 1) ≡ c.args.calls + c.loop-count.count + 1 = omega arith in
       rw (c.push.ensures, one) (get_went whole cut c.args.last (c.args.len - c.loop-count.count)
@@ -51,7 +52,7 @@ returns g c = record {
       rest-ends g.P.Port c.args.last
       (getting c.args.last c.args.len) c.args.calls c.args.len c.args.got.now c.args.port.now c.loop-count.port c.through.new.port
       c.loop-count.got
-      (λ tells. grind (arith, common_steps)) c.loop-count.invariant.later
+      (λ tells. grind (arith, common_steps)) c.loop-count.invariant.later c.loop-count.invariant.setup
       c.args.last (ending c.args.last end.Ok) _ 0 c.loop-count.got c.through.result (c.through.ensures c.loop-count.got)
       (λ more. more) (grind (arith, common_steps)) (grind (arith, common_steps)) (grind (arith, common_steps))
       (λ tells. grind (arith, common_steps))

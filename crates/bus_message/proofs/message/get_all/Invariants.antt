@@ -11,6 +11,7 @@ invariant-loop-count g l =
       first : 0 < length l.initial.got → count_of l.got ≡ count_of l.initial.got;
       log : IsTrue g.P.Port.tells → length (g.P.Port.log l.port) ≤ length (g.P.Port.log l.initial.port) + l.count;
       later : g.P.Port.faults l.initial.port ≤ g.P.Port.faults l.port;
+      setup : g.P.Port.setup l.port ≡ g.P.Port.setup l.initial.port;
       -- what was said and what is left are the whole, for each place of failure from here on
       said : IsTrue g.P.Port.tells → (cut : Option ℕ) → ((k : ℕ) → cut ≡ Some k → l.calls + l.count ≤ k)
           → (whole : TalkTold World) (before : List PortCall)

@@ -1,4 +1,4 @@
-use Rattle.bus_message.proofs.Cited.{◌≡◌, true, false, ◌+◌, ◌-◌, [], sym, ap, ◌∙◌, arith, length, length-append, common_steps, PortCall}
+use Rattle.bus_message.proofs.Cited.{refl, ◌≡◌, true, false, ◌+◌, ◌-◌, [], sym, ap, ◌∙◌, arith, length, length-append, common_steps, PortCall}
 use Rattle.bus_message.proofs.Cited.{counting, getting, over_limit}
 use Rattle.bus_message.proofs.EndLemmas.{fault-ends, rest-ends}
 use Rattle.bus_message.proofs.MessageLemmas.{count_failed, count_over, count_within}
@@ -10,8 +10,8 @@ returns-in-Err g c = record {
   ended =
       fault-ends g.P.Port c.args.last (counting c.args.last c.args.limit c.args.len) 1
       (c.args.limit + c.args.len) [] c.args.port.now c.args.port.now c.get.new.self c.args.got.now
-      (λ tells. omega arith) (omega arith) 1 (omega arith) (omega arith) (grind (arith, common_steps)) c.in-Err.ensures.failed
-      c.in-Err.ensures.log_failed c.in-Err.ensures.later c.in-Err.ensures.cause
+      (λ tells. omega arith) (omega arith) refl 1 (omega arith) (omega arith) (grind (arith, common_steps)) c.in-Err.ensures.failed
+      c.in-Err.ensures.log_failed c.in-Err.ensures.later c.in-Err.ensures.setup c.in-Err.ensures.cause
       (λ tells whole before r.
       rw c.requires.none (count_failed whole c.args.last c.args.limit c.args.len before 1 [] _ _ _ _ (c.in-Err.ensures.world_failed tells)
       (c.in-Err.ensures.log_failed tells) r));
@@ -23,7 +23,7 @@ returns-then-is_bad_count g c = record {
   ended =
       rest-ends g.P.Port c.args.last (counting c.args.last c.args.limit c.args.len) 1
       (c.args.limit + c.args.len) [] c.args.port.now c.get.new.self c.get_one_more.new.port c.get_one_more.new.got
-      (λ tells. omega (arith, ap length (c.in-Ok.ensures.log tells), length-append {A = PortCall})) c.in-Ok.ensures.later
+      (λ tells. omega (arith, ap length (c.in-Ok.ensures.log tells), length-append {A = PortCall})) c.in-Ok.ensures.later c.in-Ok.ensures.setup
       true over_limit 2 1 c.push.new.self c.get_one_more.result c.get_one_more.ensures.ended
       (λ no. absurd (let f : true ≡ false = no in cc)) (omega arith) (grind (arith, common_steps)) (grind (arith, common_steps))
       (λ tells. omega (arith, ap length (c.in-Ok.ensures.log tells), length-append {A = PortCall}))
@@ -41,7 +41,7 @@ returns-else-is_bad_count g c = record {
   ended =
       rest-ends g.P.Port c.args.last (counting c.args.last c.args.limit c.args.len) 1
       (c.args.limit + c.args.len) [] c.args.port.now c.get.new.self c.get_all.new.port c.get_all.new.got
-      (λ tells. omega (arith, ap length (c.in-Ok.ensures.log tells), length-append {A = PortCall})) c.in-Ok.ensures.later
+      (λ tells. omega (arith, ap length (c.in-Ok.ensures.log tells), length-append {A = PortCall})) c.in-Ok.ensures.later c.in-Ok.ensures.setup
       c.args.last (getting c.args.last _) 2 _ c.push.new.self c.get_all.result c.get_all.ensures.ended
       (λ more. more) (omega arith) (grind (arith, common_steps)) (grind (arith, common_steps)) (λ tells. grind (arith, common_steps))
       (λ tells whole before r.

@@ -1,4 +1,4 @@
-use Rattle.bus_message.proofs.Cited.{sym, ◌∙◌, ap, arith, rules, [], length, ◌+◌, common_steps, bytes_most, counting, getting, moving}
+use Rattle.bus_message.proofs.Cited.{refl, sym, ◌∙◌, ap, arith, rules, [], length, ◌+◌, common_steps, bytes_most, counting, getting, moving}
 use Rattle.bus_message.proofs.Cited.{putting}
 use Rattle.bus_message.proofs.EndLemmas.{rest-ends}
 use Rattle.bus_message.proofs.MessageLemmas.{data_written, data_counted, data_read}
@@ -10,7 +10,7 @@ returns-then-not-message g c =
     record {
       ended = rest-ends g.P.Port c.args.last (moving c.args.last c.args.limit m) 1
           (bytes_most c.args.limit m) [] c.args.port.now c.args.port.now c.put_all.new.port c.put_all.new.sent
-          (λ tells. omega arith) (omega arith)
+          (λ tells. omega arith) (omega arith) refl
           c.args.last (putting c.args.last c.message.inside.bytes.now) 1
           (length c.message.inside.bytes.now) [] c.put_all.result c.put_all.ensures.ended
           (λ more. more) (omega arith) (grind (arith, common_steps)) (grind (arith, common_steps)) (λ tells. grind (arith, common_steps))
@@ -29,7 +29,7 @@ returns-then-message g c =
     record {
       ended = rest-ends g.P.Port c.args.last (moving c.args.last c.args.limit m) 1
           (bytes_most c.args.limit m) [] c.args.port.now c.args.port.now c.get_counted.new.port c.get_counted.new.got
-          (λ tells. omega arith) (omega arith)
+          (λ tells. omega arith) (omega arith) refl
           c.args.last (counting c.args.last c.args.limit c.message.inside.len) 1
           (c.args.limit + c.message.inside.len) [] c.get_counted.result c.get_counted.ensures.ended
           (λ more. more) (omega arith) (grind (arith, common_steps)) (grind (arith, common_steps)) (λ tells. grind (arith, common_steps))
@@ -45,7 +45,7 @@ returns-else-message g c =
     record {
       ended = rest-ends g.P.Port c.args.last (moving c.args.last c.args.limit m) 1
           (bytes_most c.args.limit m) [] c.args.port.now c.args.port.now c.get_all.new.port c.get_all.new.got
-          (λ tells. omega arith) (omega arith)
+          (λ tells. omega arith) (omega arith) refl
           c.args.last (getting c.args.last c.message.inside.len) 1 c.message.inside.len c.args.bytes.now c.get_all.result
           c.get_all.ensures.ended
           (λ more. more) (omega arith) (grind (arith, common_steps)) (grind (arith, common_steps)) (λ tells. grind (arith, common_steps))

@@ -11,9 +11,9 @@ returns-in-Err g c = record {
   ended =
       fault-ends g.P.Port c.args.last (putting c.args.last c.args.bytes.now) 1
       (length c.args.bytes.now) [] c.args.port.now c.loop-byte.port c.put.new.self c.loop-byte.sent
-      (λ tells. omega (arith, c.loop-byte.invariant.log tells, c.loop-byte-test.true)) c.loop-byte.invariant.later c.loop-byte.calls
+      (λ tells. omega (arith, c.loop-byte.invariant.log tells, c.loop-byte-test.true)) c.loop-byte.invariant.later c.loop-byte.invariant.setup c.loop-byte.calls
       (grind (arith, common_steps)) (grind (arith, common_steps)) (grind (arith, common_steps)) c.in-Err.ensures.failed
-      c.in-Err.ensures.log_failed c.in-Err.ensures.later c.in-Err.ensures.cause
+      c.in-Err.ensures.log_failed c.in-Err.ensures.later c.in-Err.ensures.setup c.in-Err.ensures.cause
       (λ tells whole before r.
       put_failed whole c.args.last c.args.bytes.now c.loop-byte.byte-index _ before c.loop-byte.calls c.loop-byte.sent _ _ _ _
       c.loop-byte-test.true refl (c.in-Err.ensures.world_failed tells) (c.in-Err.ensures.log_failed tells)
@@ -37,7 +37,7 @@ returns-in-Ok-false g c = record {
             (c.in-Ok-false.ensures.log tells),
         length-append {A = PortCall},
       ))
-      (omega (arith, c.loop-byte.invariant.later, c.in-Ok-false.ensures.later))
+      (omega (arith, c.loop-byte.invariant.later, c.in-Ok-false.ensures.later)) (c.in-Ok-false.ensures.setup ∙ c.loop-byte.invariant.setup)
       true (ending true end.Refused) (c.loop-byte.calls + 1) 0 c.loop-byte.sent c.stopped.result (c.stopped.ensures.ended c.loop-byte.sent)
       (λ no. absurd (let f : true ≡ false = no in cc)) (omega (arith, c.loop-byte.invariant.calls))
       (omega (arith, c.loop-byte.invariant.calls, c.loop-byte-test.true)) (grind (arith, common_steps))
@@ -67,6 +67,7 @@ loop-byte-preserved g c = record {
   sent = grind (arith, common_steps);
   log = λ tells. omega (arith, ap length (c.in-Ok-true.ensures.log tells), c.loop-byte.invariant.log tells, length-append {A = PortCall});
   later = search rules;
+  setup = search rules;
   said = λ tells cut behind whole before r.
       rw c.push.ensures (put_taken whole cut c.args.last c.args.bytes.now c.loop-byte.byte-index _ before c.loop-byte.calls c.loop-byte.sent
       _ _ _ _
@@ -81,7 +82,7 @@ returns g c = record {
   ended =
       rest-ends g.P.Port c.args.last (putting c.args.last c.args.bytes.now) 1
       (length c.args.bytes.now) [] c.args.port.now c.loop-byte.port c.through.new.port c.loop-byte.sent
-      (λ tells. grind (arith, common_steps)) c.loop-byte.invariant.later
+      (λ tells. grind (arith, common_steps)) c.loop-byte.invariant.later c.loop-byte.invariant.setup
       c.args.last (ending c.args.last end.Ok) c.loop-byte.calls 0 c.loop-byte.sent c.through.result (c.through.ensures c.loop-byte.sent)
       (λ more. more) (grind (arith, common_steps)) (grind (arith, common_steps)) (grind (arith, common_steps))
       (λ tells. grind (arith, common_steps))

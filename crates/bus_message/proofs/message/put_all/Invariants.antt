@@ -12,6 +12,7 @@ invariant-loop-byte g l =
       sent : l.sent ≡ take l.byte-index l.bytes;
       log : IsTrue g.P.Port.tells → length (g.P.Port.log l.port) ≤ length (g.P.Port.log l.initial.port) + l.byte-index;
       later : g.P.Port.faults l.initial.port ≤ g.P.Port.faults l.port;
+      setup : g.P.Port.setup l.port ≡ g.P.Port.setup l.initial.port;
       -- what was said and what is left are the whole, for each place of failure from here on
       said : IsTrue g.P.Port.tells → (cut : Option ℕ) → ((k : ℕ) → cut ≡ Some k → l.calls ≤ k)
           → (whole : TalkTold World) (before : List PortCall)

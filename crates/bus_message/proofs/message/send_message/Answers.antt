@@ -15,6 +15,7 @@ returns-in-Err-clause-sent g c root =
       reading = grind (arith, common_steps);
       spoke = record {
         root = refl;
+        setup = c.in-Err.ensures.setup;
         start = idle_starts _ c.in-Err.ensures.failed;
         idle = inl c.in-Err.ensures.failed;
         grows = λ tells. omega (arith, ap length (c.in-Err.ensures.log_failed tells), length-append {A = PortCall});
@@ -37,6 +38,7 @@ returns-in-Ok-clause-sent g c root =
       reading = ap (λ m. m.reading) c.message.view_is;
       spoke = record {
         root = refl;
+        setup = done.setup ∙ c.in-Ok.ensures.setup;
         start = done.start;
         idle = done.idle;
         grows = λ tells. omega (arith, done.grows tells, ap length (c.in-Ok.ensures.log tells), length-append {A = PortCall});

@@ -62,6 +62,7 @@ returns-in-Some g c =
     record {
       opening = opening-same g.P.Port g.C.Caller x new (come g a) ∙ ap (λ (v : CoreState _). v.opening) c.self.view_is;
       roots = roots-same g.P.Port g.C.Caller x new (come g a) ∙ ap roots_in c.self.view_is;
+      setups = (come g a).setups ∙ ap (λ (v : CoreState _). v.setups) c.self.view_is;
       told = core-told g.P.Port g.C.Caller new (core g a);
       stepped = λ is. subst (λ (v : CoreState _). HasAdded asked tells c.args.caller v (state_of g.P.Port g.C.Caller new)) c.self.view_is
           (added g.P.Port g.C.Caller x new c.args.caller

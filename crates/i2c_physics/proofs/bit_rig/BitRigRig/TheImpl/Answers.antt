@@ -1,5 +1,5 @@
 use Rattle.i2c_physics.proofs.Cited.{◌≡◌, [], length, map, vec_len, Vec, Result, refl, arith, rules, All, IfOk, range_with_len, IfOk-weaker}
-use Rattle.i2c_physics.proofs.Cited.{Phase, BoardView, openings, BitPortView, opening_wired, wired}
+use Rattle.i2c_physics.proofs.Cited.{Phase, BoardView, openings, BitPortView, opening_wired, wired, sym, splat_is_map, unset}
 use Rattle.i2c_physics.proofs.WireLemmas.{wired_count, wired_all, wired_worlds}
 use Rattle.i2c_physics.proofs.bit_rig.BitRigRig.TheImpl.Goals as goal
 
@@ -30,4 +30,7 @@ plug-tells x c =
       worlds = λ _. given b c.result (λ ports. map (λ p. p.world) ports.items ≡ openings b) are
           (λ ports is. wired_worlds b ports.items is);
       board = search rules;
+      setups = λ _. given b c.result (λ ports. map (λ p. []) ports.items ≡ unset (length b.roots)) are
+          (λ ports is. sym (splat_is_map ports.items (length b.roots) [] (wired_count b ports.items is)));
+      settled = refl;
     }

@@ -2,7 +2,7 @@ use Rattle.i2c_physics.proofs.Cited.{◌≡◌, List, map, Some, sym, ap, ◌∙
 use Rattle.i2c_physics.proofs.Cited.{parted, PortView}
 use Rattle.i2c_physics.specs.BitRigs.{BitRigView}
 use Rattle.i2c_physics.specs.SimRigs.{no_board}
-use Rattle.i2c_physics.proofs.WireLemmas.{none_counted, parted_worlds, room_enough}
+use Rattle.i2c_physics.proofs.WireLemmas.{none_counted, none_set, parted_worlds, room_enough}
 use Rattle.i2c_physics.proofs.bit_rig.BitRigRig.unplug.Goals as goal
 
 -- the board of the room is the rig's
@@ -43,3 +43,6 @@ returns-in-Some-clause-states c = λ of.
 pub returns-in-Some-clause-counts : goal.returns-in-Some-clause-counts
 returns-in-Some-clause-counts c =
     rw c.of.ensures (none_counted c.args.ports.items c.fill-parted.ensures.faults)
+
+pub returns-in-Some-clause-returned : goal.returns-in-Some-clause-returned
+returns-in-Some-clause-returned c = rw c.of.ensures (none_set c.args.ports.items)

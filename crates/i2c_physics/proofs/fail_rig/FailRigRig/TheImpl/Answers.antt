@@ -1,7 +1,7 @@
 use Rattle.i2c_physics.proofs.Cited.{◌≡◌, ℕ, [], length, map, vec_len, Vec, Result, refl, arith, rules, All, IfOk, range_with_len}
-use Rattle.i2c_physics.proofs.Cited.{IfOk-weaker, Phase, BoardView, openings, opening_fails}
+use Rattle.i2c_physics.proofs.Cited.{IfOk-weaker, ap, Phase, BoardView, openings, fails_on, opening_fails}
 use Rattle.i2c_physics.specs.FailPorts.{FailView, failed_calls_in}
-use Rattle.i2c_physics.proofs.PlugLemmas.{opened-count, opened-all, opened-worlds}
+use Rattle.i2c_physics.proofs.PlugLemmas.{opened-count, opened-all, opened-seen, opened-worlds}
 use Rattle.i2c_physics.proofs.fail_rig.FailRigRig.TheImpl.Goals as goal
 
 -- what holds of the ports as they are opened
@@ -33,4 +33,8 @@ plug-tells x c =
       worlds = λ _. given opened b c.result (λ ports. map (λ p. p.port.world) ports.items ≡ openings b) are
           (λ ports is. opened-worlds opened b ports.items is (λ p. p.port.world) (λ r. refl));
       board = search rules;
+      setups = λ _. given opened b c.result (λ ports. map (λ p. p.fails) ports.items
+          ≡ map (fails_on c.args.self.now.calls.items) (range_with_len 0 (length b.roots))) are
+          (λ ports is. opened-seen opened b ports.items is (λ p. p.fails) (fails_on c.args.self.now.calls.items) (λ r. refl));
+      settled = ap (λ (v : Vec (ℕ × ℕ) _). λ (y : BoardView). map (fails_on v.items) (range_with_len 0 (length y.roots))) c.ensures.calls;
     }
