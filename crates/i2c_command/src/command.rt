@@ -2,7 +2,8 @@
 ghost use Rattle.std.specs.Prelude.{◌≡◌, ℕ, List, Some, map, string_bytes, IsTrue};
 ghost use Rattle.i2c_gen.specs.declared.plan.Plan.{Plan};
 ghost use Rattle.i2c_top.specs.forms.{Replay, Check, Generate, Verify, Atr, Cached, Clear, request_in, HasEnded};
-ghost use Rattle.i2c_top.specs.forms.Atrs.{AtrNames, HasTranslated};
+ghost use Rattle.i2c_top.specs.forms.Atrs.{HasTranslated};
+ghost use Rattle.i2c_top.specs.forms.Extras.{ExtraNames};
 ghost use Rattle.i2c_top.specs.forms.Caches.{HasCached};
 ghost use Rattle.i2c_top.specs.forms.Checks.{HasChecked};
 ghost use Rattle.i2c_top.specs.forms.Clears.{HasCleared};
@@ -49,7 +50,7 @@ fn run<H: Threads + Wait + Sync, S: Shelf, K: Sink, R: Rig>(
         → (names : VerifyNames) → request_in (map string_bytes words.now) ≡ Some (Verify names) → result ≡ status.Ok
         → HasVerified (S.file shelf.old) names (K.bytes sink.old) (K.bytes sink.new) }
     ensures translated { IsTrue S.tells → IsTrue K.tells → IsTrue R.tells → IsTrue R.P.tells
-        → (names : AtrNames) → request_in (map string_bytes words.now) ≡ Some (Atr names) → result ≡ status.Ok
+        → (names : ExtraNames) → request_in (map string_bytes words.now) ≡ Some (Atr names) → result ≡ status.Ok
         → HasTranslated (S.file shelf.old) names (K.bytes sink.old) (K.bytes sink.new) (R.logs rig.new) (R.states rig.new) (R.port_faults rig.new) }
     ensures cached { IsTrue S.tells → IsTrue K.tells → IsTrue R.tells → IsTrue R.P.tells
         → (names : Names) → request_in (map string_bytes words.now) ≡ Some (Cached names) → result ≡ status.Ok

@@ -8,4 +8,4 @@ mod command;
 mod words;
 
 pub use command::{Called, call};
-pub use words::Words;
+pub use words::{Words, words_of};

@@ -157,7 +157,7 @@ module _ (b : BoardView) (scripts : List CallerView) (opened : AreOpened b scrip
       where
         -- a port that tells, of which no more matters here
         g : PortGhosts P
-        g = record { tells = true; world = world; log = log; phase = λ p. Idle; faults = λ p. 0 }
+        g = record { tells = true; world = world; log = log; phase = λ p. Idle; faults = λ p. 0; setup = λ p. [] }
 
         same : scripts_of script_row x.seats.items ≡ map (λ (y : ℕ × CallerView). (y.0, y.1.script)) (enumerate_from 0 scripts)
         same = scripts_left ∙ ap (λ (o : Opening ScriptView). o.scripts) passed.followed.opening ∙ of.scripts_are

@@ -85,9 +85,9 @@ pub use Rattle.i2c_top.specs.Endings.{CameToRefusal, CameToSuccess, HasEndedAs, 
 pub use Rattle.i2c_top.specs.Faults.{AccountsForFaults, AreCounted}
 pub use Rattle.i2c_top.specs.Files.{Files, IsAnyName}
 pub use Rattle.i2c_top.specs.Form.{DecidesOnce, TellsItsFiles, KeepsShelf, Form, own_of, KeepsSkipped}
-pub use Rattle.i2c_top.specs.MapFiles.{HasBadMap}
+pub use Rattle.i2c_top.specs.MapFiles.{HasAtrRun}
 pub use Rattle.i2c_top.specs.Numbers.{is_numeral}
-pub use Rattle.i2c_top.specs.Readings.{AreScriptsIn, HasReadSomeMap, IsAcceptedIn, IsRejectedIn, IsRefusedAt, IsRefusedScript, IsScheduleIn}
+pub use Rattle.i2c_top.specs.Readings.{AreScriptsIn, IsAcceptedIn, IsRejectedIn, IsRefusedAt, IsRefusedScript, IsScheduleIn}
 pub use Rattle.i2c_top.specs.Readings.{IsBadBoard, IsTooDear, HasRead, HasReadSome, IsOrderIn, IsBadScript, IsFileRefusal}
 pub use Rattle.i2c_top.specs.Readings.{HasReadSomeJournal}
 pub use Rattle.i2c_top.specs.Runs.{MOST_COST, cost_of_texts, texts_of, AreOpened, asks_by, printed_by, script_row, section_of, HasRunTold}
@@ -100,7 +100,7 @@ pub use Rattle.i2c_top.specs.Written.{HasFront, lines_of}
 pub use Rattle.i2c_top.specs.declared.status.BoardRefusal.{BoardRefusal}
 pub use Rattle.i2c_top.specs.declared.status.Status.{Status}
 pub use Rattle.i2c_top.specs.forms.{HasEnded}
-pub use Rattle.i2c_top.specs.forms.Atrs.{AtrNames, HasMapped, HasAtrTexts, HasAtrFiles, as_run, atr_form, HasAtrRun, behind_of, atr_told}
+pub use Rattle.i2c_top.specs.forms.Atrs.{behind_of}
 pub use Rattle.i2c_top.specs.forms.Caches.{cached_form, HasCachedRun, IsCachedAnswer, cached_scripts}
 pub use Rattle.i2c_top.specs.forms.Checks.{accepted_text, check_form}
 pub use Rattle.i2c_top.specs.forms.Clears.{clear_form}

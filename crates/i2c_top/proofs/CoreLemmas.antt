@@ -19,11 +19,12 @@ use Rattle.i2c_spec.proofs.TreeLemmas.{tree_root_is}
 use Rattle.bus_laws.specs.Following.{GoesOnBy}
 use Rattle.bus_core.specs.Opens.{opening_of}
 use Rattle.bus_core.specs.Places.{script_of}
-use Rattle.bus_core.specs.State.{CoreTold, IsThrough}
+use Rattle.bus_core.specs.State.{CoreTold, IsThrough, setups_of}
 use Rattle.bus_core.proofs.Kept.{script-own}
 use Rattle.bus_core.proofs.Loops.{script-none}
 use Rattle.bus_core.proofs.Told.{has-by, roots-told}
 use Rattle.bus_groups.specs.Slots.{IsTold}
+use Rattle.journal_check.proofs.PortLemmas.{firsts}
 use Rattle.i2c_top.specs.Cores.{IsAsOne}
 use Rattle.i2c_top.proofs.RunLemmas.{same_asks}
 use Rattle.i2c_base.proofs.ListLemmas.{there, map_at}
@@ -142,6 +143,14 @@ module _ {P C S : Type 0} (g : PortGhosts P) (row : CallerGhosts C S) (b : Board
           let first : y.0.0 ≡ i = omega (arith, number) in
           let second : y.0.1 ≡ s = (let f : Some y.0.1 ≡ Some s = sym r.1 ∙ here in cc) in
           y.1 ∙ ap (λ (j : ℕ). Some (j, y.0.1)) first ∙ ap (λ (t : C). Some (i, t)) second
+
+-- how the ports are set up that are left of a core, where they are so as it was opened with them
+pub setups-alone : {P : Type 0} (setup : P → List ℕ) (left : List (ℕ × P)) (ports : List P)
+    → setups_of setup left ≡ setups_of setup (enumerate_from 0 ports) → map (λ (p : ℕ × P). setup p.1) left ≡ map setup ports
+setups-alone setup left ports is =
+    sym (map_map (λ (s : ℕ × List ℕ). s.1) (λ (p : ℕ × _). (p.0, setup p.1)) left) ∙ ap (map (λ (s : ℕ × List ℕ). s.1)) is
+    ∙ map_map (λ (s : ℕ × List ℕ). s.1) (λ (p : ℕ × _). (p.0, setup p.1)) (enumerate_from 0 ports)
+    ∙ sym (map_map setup (λ (p : ℕ × _). p.1) (enumerate_from 0 ports)) ∙ ap (map setup) (firsts 0 ports)
 
 -- a port for each root
 pub ports-count : {P C : Type 0} (x : ClosedCore P C) (ports : List P) → roots_of x.ports.items ≡ roots_of (enumerate_from 0 ports)

@@ -34,6 +34,7 @@ named (status.Schedule word) = tt
 named (status.Verify fault) = tt
 named (status.Map fault) = tt
 named (status.NoRoot bus) = tt
+named (status.Faults word) = tt
 
 -- the line of a refusal is due for it, and nothing else
 due_line : (form : Form) (shelf : ShelfView) (rig : RigView) (s : Status) (text : List ℕ) (c : Class) → IsNamed s c → (s ≡ status.Ok → ⊥)

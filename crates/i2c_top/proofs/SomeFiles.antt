@@ -1,13 +1,14 @@
 -- What a shelf gave, whatever it tells, as the files of other names: each file is called by the number of its place. The inductions go
 -- over the texts.
 use Rattle.i2c_top.proofs.Cited.{◌≡◌, ℕ, suc, zero, ◌+◌, ◌<◌, List, [], ◌∷◌, length, All, Option, None, Some, Ok, refl, sym, ◌∙◌, ap}
-use Rattle.i2c_top.proofs.Cited.{subst, arith, slice_get, is_some, option_map, length-map, All-head, All-tail, MapView, CallerView}
+use Rattle.i2c_top.proofs.Cited.{subst, arith, slice_get, is_some, option_map, length-map, All-head, All-tail, CallerView}
 use Rattle.i2c_top.proofs.Cited.{BoardView, IsSpelled, Files, IsAnyName, IsAcceptedIn, IsOrderIn, HasReadSome, HasReadSomeJournal}
-use Rattle.i2c_top.proofs.Cited.{HasReadSomeMap, texts_of, schedule_read, script_name, texts_in, IsInGrammar, HasScript, HasScripts}
-use Rattle.i2c_top.proofs.Cited.{AtrNames, Names, names_of, VerifyNames}
+use Rattle.i2c_top.proofs.Cited.{texts_of, schedule_read, script_name, texts_in, IsInGrammar, HasScript, HasScripts}
+use Rattle.i2c_top.proofs.Cited.{Names, names_of, VerifyNames}
 use Rattle.std.proofs.Common.{unwrap_or}
 use Rattle.i2c_top.specs.Files.{OfSomeFiles}
-use Rattle.i2c_top.specs.MapFiles.{IsMapSpelled}
+use Rattle.i2c_top.specs.Readings.{HasReadSomeExtra}
+use Rattle.i2c_top.specs.forms.Extras.{ExtraNames, ExtraRow, IsExtraSpelled}
 use Rattle.i2c_top.specs.Scripts.{AreScheduled, AreOrdered}
 
 -- the file of each place is one of these texts
@@ -157,20 +158,21 @@ some-read names b scripts callers words spelled grammar count known order =
     from : AreFrom all 2 texts
     from c at is = ap (slice_get all) (let e : at ≡ suc (suc c) = omega (arith, is) in e)
 
--- THE FILES of a call of `atr`
-pub some-map : (names : AtrNames) (b : BoardView) (scripts : List CallerView) (m : MapView) (callers : ℕ) (words : List ℕ) → IsSpelled b
-    → All (λ s. IsInGrammar b s.script.text) scripts → IsMapSpelled b m → length scripts ≡ length names.scripts
-    → callers ≡ length names.scripts → AreScheduled callers words → HasReadSomeMap names b m (texts_of scripts) words
-some-map names b scripts m callers words spelled grammar mapped count known order =
+-- THE FILES of a call with one file more
+pub some-extra : {V : Type 0} (x : ExtraRow V) (names : ExtraNames) (b : BoardView) (scripts : List CallerView) (v : V) (callers : ℕ)
+    (words : List ℕ) → IsSpelled b
+    → All (λ s. IsInGrammar b s.script.text) scripts → IsExtraSpelled x b v → length scripts ≡ length names.scripts
+    → callers ≡ length names.scripts → AreScheduled callers words → HasReadSomeExtra x names b v (texts_of scripts) words
+some-extra x names b scripts v callers words spelled grammar told count known order =
     record {
       file = contents all;
-      called = record { board = 0 ∷ []; map = 1 ∷ []; schedule = 2 ∷ []; scripts = numbered 3 texts };
+      called = record { board = 0 ∷ []; extra = 1 ∷ []; schedule = 2 ∷ []; scripts = numbered 3 texts };
       like = many;
       so = record {
-        board_in = accepted-numbered b spelled (mapped.text ∷ order.text ∷ texts);
+        board_in = accepted-numbered b spelled (told.text ∷ order.text ∷ texts);
         scripts = scripts-numbered all 3 b scripts grammar from;
         texts_are = sym (texts-numbered all 3 texts from);
-        map_in = record { has = record { text = mapped.text; there = refl; map = m; is_map = mapped.is_map }; same = refl };
+        extra_in = record { has = record { text = told.text; there = refl; value = v; spells = told.spells }; same = refl };
         words_in = record {
           has = record {
             text = order.text;
@@ -187,7 +189,7 @@ some-map names b scripts m callers words spelled grammar mapped count known orde
     texts = texts_of scripts
 
     all : List (List ℕ)
-    all = spelled.text ∷ mapped.text ∷ order.text ∷ texts
+    all = spelled.text ∷ told.text ∷ order.text ∷ texts
 
     many : length (numbered 3 texts) ≡ length names.scripts
     many = many-numbered 3 scripts (length names.scripts) count

@@ -3,15 +3,12 @@ use Rattle.std.specs.Prelude.{⊤, All, Option, None, Some, ◌≡◌, ℕ, ◌+
 use Rattle.i2c_base.specs.Board.{BoardView}
 use Rattle.ports.specs.Causes.{Rose}
 use Rattle.i2c_top.specs.Boards.{HasAccepted, HasRejected}
-use Rattle.addr_atr.specs.Maps.{MapView}
-use Rattle.addr_atr.specs.declared.fault.MapFault.{MapFault}
 use Rattle.i2c_top.specs.Files.{Files, OfSomeFiles}
-use Rattle.i2c_top.specs.MapFiles.{HasMap}
 use Rattle.caller_core.specs.View.{CallerView}
 use Rattle.i2c_top.specs.Scripts.{script_name, IsInGrammar, HasScript, HasBadScript, HasScripts, HasSchedule, HasBadSchedule, HasOrder, words_in, texts_in}
 use Rattle.i2c_top.specs.Traces.{IsUnread}
 use Rattle.i2c_top.specs.forms.Replays.{Names, AreLike, IsPlaceIn, IsScheduleAt, IsReadInTurn, IsReplayCause}
-use Rattle.i2c_top.specs.forms.Atrs.{AtrNames, AreAtrLike}
+use Rattle.i2c_top.specs.forms.Extras.{ExtraNames, ExtraRow, HasExtra, AreExtraLike}
 use Rattle.i2c_top.specs.forms.Verifies.{VerifyNames, AreVerifyLike}
 use Rattle.i2c_top.specs.Runs.{AreOpened, texts_of, MOST_COST}
 use Rattle.i2c_top.specs.declared.status.BoardRefusal.{BoardRefusal}
@@ -76,22 +73,24 @@ pub record HasReadJournal (file : Files) (names : VerifyNames) (board : BoardVie
 abbrev pub HasReadSomeJournal : VerifyNames → BoardView → List (List ℕ) → List ℕ → Type 0
 HasReadSomeJournal names board texts text = OfSomeFiles AreVerifyLike names (λ file called. HasReadJournal file called board texts text)
 
--- the map over a board is that of a file
-pub record IsMapIn (file : Files) (board : BoardView) (name : List ℕ) (map : MapView) : Type 0 where
-  pub has : HasMap file board name
-  pub same : map ≡ has.map
+-- what one file more spells over a board is that of a file
+pub record IsExtraIn {V : Type 0} (x : ExtraRow V) (file : Files) (board : BoardView) (name : List ℕ) (v : V) : Type 0 where
+  pub has : HasExtra x file board name
+  pub same : v ≡ has.value
 
--- .. behind a map of the board: its translators, the scripts' texts and the schedule's callers
-pub record HasReadMap (file : Files) (names : AtrNames) (board : BoardView) (map : MapView) (texts : List (List ℕ)) (words : List ℕ) : Type 0 where
+-- .. beside it: the board, the scripts' texts and the schedule's callers
+pub record HasReadExtra {V : Type 0} (x : ExtraRow V) (file : Files) (names : ExtraNames) (board : BoardView) (v : V) (texts : List (List ℕ))
+    (words : List ℕ) : Type 0 where
   pub board_in : IsAcceptedIn file names.board board
   pub scripts : HasScripts file board names.scripts (length names.scripts)
   pub texts_are : texts ≡ texts_in file names.scripts
-  pub map_in : IsMapIn file board names.map map
+  pub extra_in : IsExtraIn x file board names.extra v
   pub words_in : IsScheduleIn file names.schedule (length names.scripts) words
 
 -- .. of some files, whatever a shelf tells
-abbrev pub HasReadSomeMap : AtrNames → BoardView → MapView → List (List ℕ) → List ℕ → Type 0
-HasReadSomeMap names board map texts words = OfSomeFiles AreAtrLike names (λ file called. HasReadMap file called board map texts words)
+abbrev pub HasReadSomeExtra : {V : Type 0} → ExtraRow V → ExtraNames → BoardView → V → List (List ℕ) → List ℕ → Type 0
+HasReadSomeExtra x names board v texts words =
+    OfSomeFiles AreExtraLike names (λ file called. HasReadExtra x file called board v texts words)
 
 -- the file at this place was not read, or there was no memory, or what was read was bad
 abbrev pub IsRefusedAt : ℕ → (Status → Type 0) → ℕ → ℕ → Status → Type 0
@@ -114,10 +113,10 @@ pub record IsBadSchedule (why : ℕ → Type 0) (s : Status) : Type 0 where
   pub same : s ≡ status.Schedule word
   pub is_bad : why word
 
-pub record IsBadMap (why : MapFault → Type 0) (s : Status) : Type 0 where
-  pub fault : MapFault
-  pub same : s ≡ status.Map fault
-  pub is_bad : why fault
+pub record IsBadExtra {V : Type 0} (x : ExtraRow V) (tells : Bool) (file : Files) (board : BoardView) (name : List ℕ) (s : Status) : Type 0 where
+  pub text : List ℕ
+  pub there : IsTrue tells → file name ≡ Some text
+  pub fails : x.fails board text s
 
 -- the schedule was refused, where there is one
 abbrev pub IsRefusedOrder : Bool → Files → Option (List ℕ) → ℕ → (ℕ → ℕ) → (ℕ → ℕ) → Status → Type 0

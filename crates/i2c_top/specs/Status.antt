@@ -42,6 +42,7 @@ class_of (status.Schedule word) = Refused
 class_of (status.Verify fault) = Refused
 class_of (status.Map fault) = Refused
 class_of (status.NoRoot bus) = Refused
+class_of (status.Faults word) = Refused
 
 abbrev pub code_of : Status → ℕ
 code_of status.Ok = 0
@@ -57,6 +58,7 @@ code_of (status.Schedule word) = 9
 code_of (status.Verify fault) = 10
 code_of (status.Map fault) = 11
 code_of (status.NoRoot bus) = 12
+code_of (status.Faults word) = 13
 
 -- whose table a fault is in, or which tables are too few or too many
 abbrev pub table_text : TableName → List ℕ
@@ -136,3 +138,4 @@ refusal_text (status.Schedule word) name = codes "schedule word " ++ (decimal wo
 refusal_text (status.Verify fault) name = codes "not verified: " ++ verdict_text fault
 refusal_text (status.Map fault) name = codes "map: " ++ map_text fault
 refusal_text (status.NoRoot bus) name = codes "no root bus " ++ (decimal bus ++ codes "\n")
+refusal_text (status.Faults word) name = codes "fault word " ++ (decimal word ++ codes "\n")

@@ -1,6 +1,7 @@
 -- The shelf, the output and the rig of a call as contracts see them, and what may be done to the rig.
-use Rattle.std.specs.Prelude.{◌≡◌, ℕ, ◌≤◌, ◌⊎◌, Bool, false, List, Result, Err, IfErr, OnOk}
+use Rattle.std.specs.Prelude.{◌≡◌, ℕ, ◌≤◌, ◌⊎◌, Bool, false, IsTrue, List, Result, Err, IfErr, OnOk}
 use Rattle.i2c_base.specs.declared.port.PortCall.{PortCall}
+use Rattle.i2c_base.specs.Board.{BoardView}
 use Rattle.i2c_spec.specs.Targets.{TargetState}
 use Rattle.ports.specs.Causes.{Rose, counted}
 use Rattle.i2c_outside.specs.declared.rig.Rig.{Ghosts as RigGhosts}
@@ -117,6 +118,10 @@ pub record IsUnplugged (old new : RigView) : Type 0 where
   pub plugs : new.plugs ≡ old.plugs
   pub unplugs : new.unplugs ≡ counted old.unplugs
   pub unplugged : new.plugged ≡ false
+
+-- the ports of a board that a rig was given back are set up as it did, where a run came to its end
+abbrev pub AreReturned : {R P X : Type 0} → RigGhosts R P → BoardView → (old new : R) → Result X Status → Type 0
+AreReturned g b old new result = IsTrue g.tells → OnOk result (g.returned new ≡ g.setups old b)
 
 -- a run over a rig plugged it once, and did not leave it plugged, whatever came of it. It failed without memory, or where the rig counted
 -- a fault in that plug

@@ -10,7 +10,8 @@ use Rattle.i2c_top.specs.declared.status.Status.{Status}
 use Rattle.i2c_top.specs.declared.status.Status.TheVariants as status
 use Rattle.i2c_gen.specs.declared.plan.Plan.{Plan}
 use Rattle.i2c_top.specs.declared.forms.clear.ClearAt.{ClearAt}
-use Rattle.i2c_top.specs.forms.Atrs.{AtrNames, is_atr, atr_names, atr_form}
+use Rattle.i2c_top.specs.forms.Atrs.{is_atr, atr_form}
+use Rattle.i2c_top.specs.forms.Extras.{ExtraNames, extra_names}
 use Rattle.i2c_top.specs.forms.Caches.{is_cached, cached_form}
 use Rattle.i2c_top.specs.forms.Checks.{is_check, check_form}
 use Rattle.i2c_top.specs.forms.Clears.{clear_in, clear_form}
@@ -21,6 +22,7 @@ pub mod Atrs
 pub mod Caches
 pub mod Checks
 pub mod Clears
+pub mod Extras
 pub mod Generations
 pub mod Replays
 pub mod Verifies
@@ -33,7 +35,7 @@ pub data Request : Type 0 where
   Check : (board : List ℕ) → Request
   Generate : (plan : Plan) → Request
   Verify : (names : VerifyNames) → Request
-  Atr : (names : AtrNames) → Request
+  Atr : (names : ExtraNames) → Request
   Cached : (names : Names) → Request
   Clear : (board : List ℕ) (at : ClearAt) → Request
 
@@ -59,7 +61,7 @@ request_in words =
     else if is_run words then Some (Replay (run_names words))
     else if is_check words then Some (Check (word_at words 1))
     else if is_verify words then Some (Verify (verify_names words))
-    else if is_atr words then Some (Atr (atr_names words))
+    else if is_atr words then Some (Atr (extra_names words))
     else if is_cached words then Some (Cached (replay_names words)) else or_clear (plan_in words) words
 
 -- the line on usage

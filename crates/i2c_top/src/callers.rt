@@ -1,6 +1,7 @@
 //! The callers of a core that follow a schedule, and scripts as those of the cores of groups that run on threads.
 ghost use Rattle.std.specs.Prelude.{◌≡◌, ◌<◌, ◌≤◌, [], IfOk, IsTrue, All, length, map, vec_capacity};
 ghost use Rattle.std.specs.List.{enumerate_from, AllZip};
+ghost use Rattle.bus_core.specs.State.{setups_of};
 ghost use Rattle.bus_groups.specs.Rounds.{one_of};
 ghost use Rattle.bus_spec.specs.Schedule.{Follows};
 ghost use Rattle.caller_core.specs.Roots.{HasRoots};
@@ -67,6 +68,7 @@ pub fn opened<'b, P: Port, C: Caller>(
     requires numbered { ports.items ≡ enumerate_from 0 (map (λ p. p.1) ports.items) }
     ensures of { IfOk result (IsCoreOf C.Caller board.now callers.items (map (λ p. p.1) ports.items)) }
     ensures entries { IfOk result (λ core. core.journal.entries ≡ []) }
+    ensures setups { IfOk result (λ core. core.setups ≡ setups_of P.setup ports.items) }
 {
     board.board().roots();
     let callers = by_number(alloc, callers)?;
@@ -84,6 +86,7 @@ fn opened_counting<'b, P: Port, C: Caller>(
     requires may { MayRun P.Port C.Caller board.now callers.items ports.items limit }
     ensures of { IfOk result (IsCoreOf C.Caller board.now callers.items ports.items) }
     ensures entries { IfOk result (λ core. core.journal.entries ≡ []) }
+    ensures setups { IfOk result (λ core. core.setups ≡ setups_of P.setup (enumerate_from 0 ports.items)) }
 {
     let roots = board.board().roots().len();
     let ports = by_root(alloc, ports, roots)?;
@@ -124,6 +127,7 @@ pub fn followed<P: Port, C: Caller>(
     requires named { All (λ c. c < length callers.items) words.now }
     ensures left { IfOk result (IsLeftOf P.Port C.Caller board.now callers.items ports.items) }
     ensures follows { IsTrue P.tells → IfOk result (λ x. Follows words.now x.journal.entries) }
+    ensures setups { IfOk result (λ x. map (λ p. P.setup p.1) x.ports.items ≡ map P.setup ports.items) }
 {
     let mut core = opened_counting(alloc, board, callers, limit, ports)?;
     core.follow(words);
@@ -143,6 +147,7 @@ pub fn finished<P: Port, C: Caller>(
     requires named { All (λ c. c < length callers.items) words.now }
     ensures left { IfOk result (λ x. IsLeftOf P.Port C.Caller board.now callers.items ports.items (one_of x)) }
     ensures follows { IsTrue P.tells → IfOk result (λ x. Follows words.now (one_of x).journal.entries) }
+    ensures setups { IfOk result (λ x. map (λ p. P.setup p.1) x.ports.items ≡ map P.setup ports.items) }
 {
     let room = Vec::with_capacity(alloc, 1)?;
     let parts = followed(alloc, board, callers, limit, words, ports)?;

@@ -51,6 +51,8 @@ impl<P: Port> Port for CountedPort<P> {
 
     ghost faults = { λ p. P.faults p };
 
+    ghost setup = { λ p. P.setup p };
+
     #[inline(always)]
     fn start(&mut self, addr: Addr, reading: bool) -> Result<Answer, Failed> {
         self.port.start(addr, reading)

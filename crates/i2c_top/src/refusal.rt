@@ -163,6 +163,7 @@ fn push_refusal(out: &mut Vec<u8>, status: Status, name: &[u8]) -> Result<(), No
             push_map(out, fault)
         }
         Status::NoRoot(bus) => push_around(out, b"no root bus ", u64::from(bus), b"\n"),
+        Status::Faults(word) => push_around(out, b"fault word ", u64::from(word), b"\n"),
     }
 }
 

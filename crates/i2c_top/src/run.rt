@@ -10,7 +10,7 @@ ghost use Rattle.caller_core.specs.View.{CallerView};
 ghost use Rattle.i2c_top.specs.Callers.{AreReady, left_in, scripts_in, asks_in, printed_in, HasRunBy, HasRunOfAny};
 ghost use Rattle.i2c_top.specs.Cores.{AreFresh, AreGivenBack, HaveJournal, IsLeftOf};
 ghost use Rattle.i2c_top.specs.Faults.{AccountsForFaults};
-ghost use Rattle.i2c_top.specs.Traces.{IsAtMostOnce, IsRunOver, IsUnplugged, rig_view};
+ghost use Rattle.i2c_top.specs.Traces.{AreReturned, IsAtMostOnce, IsRunOver, IsUnplugged, rig_view};
 ghost use Rattle.i2c_top.specs.Runs.{AreOpened, texts_of, cost_of_texts, MOST_COST, HasRun, HasRunTold, script_row};
 ghost use Rattle.i2c_top.specs.forms.Generations.{summary_of};
 ghost use Rattle.i2c_top.specs.declared.status.Status.TheVariants as status;
@@ -59,6 +59,7 @@ fn plugged<R: Rig>(
     ensures fresh { IfOk result (λ p. AreFresh R.P.Port board.now p.0.items) }
     ensures room { IfOk result (λ p. (p.1.items ≡ []) × (length p.0.items ≤ vec_capacity p.1)) }
     ensures board { OnOk result ((R.plugged rig.new ≡ true) × (R.board_of rig.new ≡ board.now)) }
+    ensures setups { IsTrue R.tells → IfOk result (λ p. map R.P.setup p.0.items ≡ R.setups rig.old board.now) }
     ensures failed { IfErr result (λ e. (e ≡ status.Rig) ⊎ (e ≡ status.Memory)) }
     ensures rig { result ≡ Err status.Rig → Rose (R.faults rig.old) (R.faults rig.new) }
     ensures later { R.faults rig.old ≤ R.faults rig.new }
@@ -95,6 +96,7 @@ fn given_back<R: Rig>(ports: Vec<(SegId, CountedPort<R::P>)>, room: Vec<R::P>, r
     requires empty { room.items ≡ [] }
     requires room { length ports.items ≤ vec_capacity room }
     ensures given { IsTrue R.tells → IsTrue R.P.tells → AreGivenBack (R.board_of rig.old) (map (λ p. R.P.world p.1) ports.items) (map (λ p. R.P.log p.1) ports.items) (R.logs rig.new) (R.states rig.new) (R.port_faults rig.new) }
+    ensures returned { IsTrue R.tells → R.returned rig.new ≡ map (λ p. R.P.setup p.1) ports.items }
     ensures rig { IsUnplugged (rig_view R.Rig R.P.tells rig.old) (rig_view R.Rig R.P.tells rig.new) }
 {
     rig.unplug(alone(ports, room));
@@ -113,6 +115,7 @@ fn report_of_run<C: Printer, R: Rig>(
     requires fair { IsFairCaller C.asked C.left C.board }
     ensures run { IsTrue R.tells → IsTrue R.P.tells → (callers : List C) (ports : List _) → IfOk ran (λ x. IsLeftOf R.P.Port C.Caller (R.board_of rig.old) callers ports (one_of x))
         → IfOk result (λ text. HasRunBy (R.board_of rig.old) (length (scripts_in C.Caller callers)) (asks_in C.asked (scripts_in C.Caller callers)) (printed_in C.printed (scripts_in C.Caller callers)) (HaveJournal ran) text (R.logs rig.new) (R.states rig.new) (R.port_faults rig.new)) }
+    ensures returned { IsTrue R.tells → (setups : List (List ℕ)) → IfOk ran (λ x. map (λ p. R.P.setup p.1) x.ports.items ≡ setups) → OnOk result (R.returned rig.new ≡ setups) }
     ensures failed { IfErr result (λ e. e ≡ status.Memory) }
     ensures rig { IsUnplugged (rig_view R.Rig R.P.tells rig.old) (rig_view R.Rig R.P.tells rig.new) }
 {
@@ -179,6 +182,7 @@ pub fn run_callers<C: Printer, R: Rig>(
     requires covered { left_in C.Caller callers.items ≤ limit }
     requires cheap { limit ≤ MOST_COST }
     ensures run { IsTrue R.tells → IsTrue R.P.tells → IfOk result (λ text. HasRunOfAny C.asked C.printed board.now (scripts_in C.Caller callers.items) words.now text (R.logs rig.new) (R.states rig.new) (R.port_faults rig.new)) }
+    ensures returned { AreReturned R.Rig board.now rig.old rig.new result }
     ensures rig { IsRunOver (rig_view R.Rig R.P.tells rig.old) (rig_view R.Rig R.P.tells rig.new) result }
 {
     let (ports, room) = plugged(alloc, board, rig)?;
@@ -199,6 +203,7 @@ pub fn run_scripts<R: Rig>(
     requires named { All (λ c. c < length scripts.items) words.now }
     requires cheap { cost_of_texts board.now (texts_of scripts.items) ≤ MOST_COST }
     ensures run { IsTrue R.tells → IsTrue R.P.tells → IfOk result (λ text. HasRun board.now (texts_of scripts.items) (Some words.now) text (R.logs rig.new) (R.states rig.new) (R.port_faults rig.new)) }
+    ensures returned { AreReturned R.Rig board.now rig.old rig.new result }
     ensures rig { IsRunOver (rig_view R.Rig R.P.tells rig.old) (rig_view R.Rig R.P.tells rig.new) result }
 {
     scripts_are_fair();

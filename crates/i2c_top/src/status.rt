@@ -47,6 +47,8 @@ pub enum Status {
     Map(MapFault),
     /// The bus of this number is no root of the board.
     NoRoot(u16),
+    /// The first word of a list of failing calls, from 0, that names no call on a root of the board.
+    Faults(u32),
 }
 
 impl Status {
@@ -68,6 +70,7 @@ impl Status {
             Status::Verify(_) => 10,
             Status::Map(_) => 11,
             Status::NoRoot(_) => 12,
+            Status::Faults(_) => 13,
         }
     }
 }

@@ -1,5 +1,5 @@
-use Rattle.i2c_top.proofs.Cited.{◌≡◌, true, List, All, sym, subst, has_caller, JournalView, Follows}
-use Rattle.i2c_top.proofs.CoreLemmas.{words-placed, goes-on-whole, taken-apart}
+use Rattle.i2c_top.proofs.Cited.{◌≡◌, ◌∙◌, true, List, All, sym, subst, has_caller, JournalView, Follows}
+use Rattle.i2c_top.proofs.CoreLemmas.{words-placed, goes-on-whole, setups-alone, taken-apart}
 use Rattle.i2c_top.proofs.callers.followed.Goals as goal
 
 pub follow-requires-clause-words : goal.follow-requires-clause-words
@@ -21,3 +21,8 @@ returns-clause-follows g c tells =
     subst (λ (j : JournalView). Follows c.args.words.now j.entries) (sym c.take_apart.ensures.journal)
     (goes-on-whole c.args.words.now c.in_ok-core.core.journal.entries c.follow.new.self.journal.entries
     c.in_ok-core.ensures.entries (c.follow.ensures.follows tells))
+
+pub returns-clause-setups : goal.returns-clause-setups
+returns-clause-setups g c =
+    setups-alone g.P.Port.setup c.take_apart.result.ports.items c.args.ports.items
+    (c.take_apart.ensures.setups ∙ c.follow.ensures.setups ∙ c.in_ok-core.ensures.setups)

@@ -1,5 +1,6 @@
 use Rattle.i2c_top.proofs.Cited.{◌≡◌, ℕ, List, length, map, sym, ◌∙◌, ap, subst, arith, IfOk, enumerate_from, BoardView, IsPlainBoard}
 use Rattle.i2c_top.proofs.Cited.{IsCoreOf, MayRun}
+use Rattle.bus_core.specs.State.{setups_of}
 use Rattle.i2c_top.proofs.callers.opened_counting.Goals as goal
 use Rattle.journal_check.proofs.PortLemmas.{firsts}
 
@@ -25,3 +26,8 @@ pub returns-clause-of : goal.returns-clause-of
 returns-clause-of g c =
     subst (λ (ps : List g.row.P.Denot). IfOk c.opened.result (IsCoreOf g.C.Caller c.args.board.now c.args.callers.items ps))
     (ap (map (λ (p : ℕ × g.row.P.Denot). p.1)) c.in_ok-ports.ensures ∙ firsts 0 c.args.ports.items) c.opened.ensures.of
+
+pub returns-clause-setups : goal.returns-clause-setups
+returns-clause-setups g c =
+    subst (λ (ps : List (ℕ × g.row.P.Denot)). IfOk c.opened.result (λ core. core.setups ≡ setups_of g.P.Port.setup ps))
+    c.in_ok-ports.ensures c.opened.ensures.setups

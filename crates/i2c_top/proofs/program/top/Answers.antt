@@ -1,6 +1,7 @@
 use Rattle.i2c_top.proofs.Cited.{◌≡◌, Option, map, string_bytes, subst, Outside, outside, HasEnded}
 use Rattle.i2c_top.specs.forms.{Request, request_in}
-use Rattle.i2c_top.proofs.AtrLemmas.{ended_translated}
+use Rattle.i2c_top.specs.forms.Atrs.{map_row}
+use Rattle.i2c_top.proofs.ExtraLemmas.{ended_written}
 use Rattle.i2c_top.proofs.CachedLemmas.{ended_cached}
 use Rattle.i2c_top.proofs.CheckLemmas.{ended_checked}
 use Rattle.i2c_top.proofs.ClearLemmas.{ended_cleared}
@@ -39,7 +40,7 @@ returns-clause-verified g c =
 
 pub returns-clause-translated : goal.returns-clause-translated
 returns-clause-translated g c =
-    λ shelf sink rig ports names same ok. ended_translated names _ _ c.answer.result (ended g c _ same) shelf sink rig ports ok
+    λ shelf sink rig ports names same ok. ended_written map_row names _ _ c.answer.result (ended g c _ same) shelf sink rig ports ok
 
 pub returns-clause-cached : goal.returns-clause-cached
 returns-clause-cached g c =

@@ -26,3 +26,8 @@ returns-clause-given g c =
           (sym (length-map c.alone.result.items row.log) ∙ ap (λ (ls : List (List PortCall)). length ls) logged ∙ count)
           c.alone.ensures.accounts));
     }
+
+pub returns-clause-returned : goal.returns-clause-returned
+returns-clause-returned g c tells =
+    c.unplug.ensures.returned tells ∙ ap (map g.R.P.Port.setup) c.alone.ensures.ports
+    ∙ map_map g.R.P.Port.setup (λ p. p.1) c.args.ports.items

@@ -36,3 +36,9 @@ returns-clause-run g c =
           (c.given_back.ensures.given tells tell);
       ordered = record { left = c.in-Ok.ran; is = c.in-Ok.is; entries = refl };
     })
+
+pub returns-clause-returned : goal.returns-clause-returned
+returns-clause-returned g c =
+    λ tells setups are.
+    c.given_back.ensures.returned tells
+    ∙ subst (λ (r : Result (Ran _ _) _). IfOk r (λ x. map (λ p. g.R.P.Port.setup p.1) x.ports.items ≡ setups)) c.in-Ok.is are

@@ -1,4 +1,4 @@
-use Rattle.i2c_top.proofs.Cited.{◌≡◌, length, sym, subst, IfOk, BoardView, one_of, Follows, asks_in, printed_in, scripts_in, HasRunBy}
+use Rattle.i2c_top.proofs.Cited.{◌≡◌, ℕ, List, length, map, sym, subst, IfOk, BoardView, one_of, Follows, asks_in, printed_in, scripts_in, HasRunBy}
 use Rattle.i2c_top.proofs.Cited.{HasRunOfAny, HaveJournal, IsLeftOf}
 use Rattle.i2c_top.proofs.CoreLemmas.{if-ok, of-journal}
 use Rattle.i2c_top.proofs.run.run_callers.Goals as goal
@@ -40,3 +40,10 @@ returns-clause-run g c =
     (c.report_of_run.ensures.run tells tell callers ports
     (subst (λ (b : BoardView). IfOk ran (λ x. IsLeftOf g.R.P.Port g.C.Caller b callers ports (one_of x)))
     (sym same) c.finished-ran.ensures.left)))
+
+pub returns-clause-returned : goal.returns-clause-returned
+returns-clause-returned g c =
+    λ tells.
+    c.report_of_run.ensures.returned tells (g.R.Rig.setups c.args.rig.now c.args.board.now)
+    (subst (λ (ss : List (List ℕ)). IfOk c.finished-ran.result (λ x. map (λ p. g.R.P.Port.setup p.1) x.ports.items ≡ ss))
+    (c.in_ok-ports.ensures.setups tells) c.finished-ran.ensures.setups)
