@@ -1,0 +1,24 @@
+-- A text lists calls or has one first word that names none. No induction.
+use Rattle.std.proofs.Common.{◌≡◌, ℕ, List, Result, Ok, Err, refl, sym, ◌∙◌, ap, subst}
+use Rattle.i2c_top.specs.forms.Extras.{IsExtraRow, IsOfExtra}
+use Rattle.i2c_top.specs.declared.status.Status.TheVariants as status
+use Rattle.i2c_lab.specs.CallLists.{call_list}
+use Rattle.i2c_lab.specs.Faults.{list_row}
+
+abbrev Read : Type 0
+Read = Result (List (ℕ × ℕ)) ℕ
+
+both : (r : Read) (calls : List (ℕ × ℕ)) (word : ℕ) → r ≡ Ok calls → r ≡ Err word → ⊥
+both r calls word e k = absurd (let h : Ok calls ≡ Err word = sym e ∙ k in cc)
+
+abbrev word_or : ℕ → Read → ℕ
+word_or n (Ok calls) = n
+word_or n (Err word) = word
+
+pub list-row : IsExtraRow list_row
+list-row = record {
+  own = λ b text s f. subst IsOfExtra (sym f.same) tt;
+  either = λ b text calls s is f. both (call_list _ text) calls f.word is f.fails;
+  one = λ b text s r f g.
+      g.same ∙ ap (λ n. status.Faults n) (ap (word_or f.word) (sym g.fails ∙ f.fails)) ∙ sym f.same;
+}

@@ -1,0 +1,60 @@
+//! `lab`: what the laboratory's program does with the words of its command line.
+ghost use Rattle.std.specs.Prelude.{◌≡◌, true, Some, map, string_bytes, IsTrue};
+ghost use Rattle.i2c_top.specs.Endings.{IsWritten};
+ghost use Rattle.i2c_top.specs.Traces.{outside, output_view};
+ghost use Rattle.i2c_top.specs.forms.Extras.{ExtraNames};
+ghost use Rattle.i2c_top.specs.declared.status.Status.TheVariants as status;
+ghost use Rattle.i2c_physics.specs.FailPorts.{logs_given, counts_given};
+ghost use Rattle.i2c_physics.specs.SimRigs.{kept_states};
+ghost use Rattle.i2c_lab.specs.Faults.{HasFailedAsListed, HasFaulted};
+ghost use Rattle.i2c_lab.specs.Lab.{Faults, HasEnded, request_in, usage_text};
+
+use crate::faults::{faults_call, is_faults};
+use i2c_outside::{Rig, Shelf, Sink};
+use i2c_physics::FailRig;
+use i2c_top::{Status, write_due};
+use std::alloc::Global;
+
+const USAGE: &[u8] = b"usage: i2clab faults BOARD FAULTS SCHEDULE SCRIPT...\n";
+
+// Writes the line on usage.
+fn turn_down<K: Sink>(sink: &mut K) -> Status
+    ensures { IsWritten (output_view K.Sink sink.old) (output_view K.Sink sink.new) status.Usage usage_text result }
+{
+    write_due(Status::Usage, USAGE, sink)
+}
+
+/// Does what the laboratory's program does: `words` are the command line without the program's name, and the shelf's words.
+///
+/// `Usage` is told exactly where the words are in no form that is in force; then nothing is read or plugged. The other statuses are
+/// those of the form's call. It returns on every input.
+pub fn lab<S: Shelf, K: Sink>(
+    alloc: Global,
+    words: &[String],
+    shelf: &mut S,
+    sink: &mut K,
+    rig: &mut FailRig,
+) -> Status
+    requires { S.words shelf.old ≡ map string_bytes words.now }
+
+    // By the form of the words: the cause of each status and each status of a cause, what was written, and what is kept.
+    ensures ended { HasEnded (request_in (map string_bytes words.now))
+        (outside S.Shelf K.Sink ⟦<FailRig as Rig>⟧ true shelf.old sink.old rig.old)
+        (outside S.Shelf K.Sink ⟦<FailRig as Rig>⟧ true shelf.new sink.new rig.new) result }
+
+    // What a success wrote: the report of a run that is legal, complete and followed by the flat world; and that a call on a port
+    // failed just where the list names it.
+    ensures success { IsTrue S.tells → IsTrue K.tells
+        → (names : ExtraNames) → request_in (map string_bytes words.now) ≡ Some (Faults names) → result ≡ status.Ok
+        → HasFaulted (S.file shelf.old) names (K.bytes sink.old) (K.bytes sink.new)
+        (logs_given rig.new.given) (kept_states rig.new.sim.kept) (counts_given rig.new.given) }
+    ensures failed { IsTrue S.tells
+        → (names : ExtraNames) → request_in (map string_bytes words.now) ≡ Some (Faults names) → result ≡ status.Ok
+        → HasFailedAsListed (S.file shelf.old) names (logs_given rig.new.given) }
+{
+    if is_faults(words) {
+        faults_call(alloc, words, shelf, sink, rig)
+    } else {
+        turn_down(sink)
+    }
+}

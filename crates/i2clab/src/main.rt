@@ -1,0 +1,24 @@
+//! `i2clab`: runs of the buses of `i2cbus` while chosen calls of their controllers fail.
+//!
+//! It hands the real files, the standard output and a rig to `lab`, and ends with the status's number. The rig is `FailRig`: its ports
+//! are those of the bytes, and fail where a list says.
+#![tactic(auto)]
+
+use i2c_command::words_of;
+use i2c_lab::lab;
+use i2c_outside::{FileShelf, StdoutSink};
+use i2c_physics::FailRig;
+use i2c_top::Status;
+use std::process::ExitCode;
+
+fn main(rt: HostRuntime) -> ExitCode {
+    let alloc = rt.alloc();
+    let Ok(words) = words_of(&rt, alloc) else {
+        return ExitCode::from(Status::Memory.code());
+    };
+    let mut shelf = FileShelf::new(&rt, words.as_slice());
+    let mut sink = StdoutSink::new(&rt);
+    let mut rig = FailRig::new(false, Vec::new(alloc));
+    let status = lab(alloc, words.as_slice(), &mut shelf, &mut sink, &mut rig);
+    ExitCode::from(status.code())
+}
