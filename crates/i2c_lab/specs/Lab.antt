@@ -1,10 +1,9 @@
 -- What the words of a command line ask of the laboratory, and how a call ends.
-use Rattle.std.specs.Prelude.{◌≡◌, ℕ, List, Option, None, Some, codes, if◌then◌else◌}
-use Rattle.i2c_top.specs.Endings.{IsWritten, HasEndedAs}
+use Rattle.std.specs.Prelude.{ℕ, List, Option, None, Some, codes, if◌then◌else◌}
+use Rattle.i2c_top.specs.Endings.{HasEndedAs, IsTurnedDown}
 use Rattle.i2c_top.specs.Form.{Form}
-use Rattle.i2c_top.specs.Traces.{Outside, KeepsBut}
+use Rattle.i2c_top.specs.Traces.{Outside}
 use Rattle.i2c_top.specs.declared.status.Status.{Status}
-use Rattle.i2c_top.specs.declared.status.Status.TheVariants as status
 use Rattle.i2c_top.specs.forms.Extras.{ExtraNames, extra_names}
 use Rattle.i2c_lab.specs.Faults.{faults_form, is_faults}
 
@@ -24,13 +23,7 @@ request_in words = if is_faults words then Some (Faults (extra_names words)) els
 abbrev pub usage_text : List ℕ
 usage_text = codes "usage: i2clab faults BOARD FAULTS SCHEDULE SCRIPT...\n"
 
--- words in no form are turned down by the line on usage, or a front of it where the output failed; nothing is read or plugged
-pub record IsTurnedDown (old new : Outside) (result : Status) : Type 0 where
-  pub written : IsWritten old.sink new.sink status.Usage usage_text result
-  pub shelf : KeepsBut (λ place. ⊥) old.shelf new.shelf
-  pub rig : new.rig ≡ old.rig
-
 -- how a call ends, by what its words ask for
 abbrev pub HasEnded : Option Request → Outside → Outside → Status → Type 0
-HasEnded None old new result = IsTurnedDown old new result
+HasEnded None old new result = IsTurnedDown usage_text old new result
 HasEnded (Some request) old new result = HasEndedAs (form_of request) old new result

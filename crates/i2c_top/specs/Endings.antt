@@ -4,7 +4,7 @@ use Rattle.ports.specs.Causes.{Rose}
 use Rattle.tools.specs.Readers.{word_at}
 use Rattle.i2c_top.specs.Form.{Form, TellsItsFiles, IsStatusOf, IsCalm, KeepsShelf, KeepsUnreached, IsTold, IsTraced}
 use Rattle.i2c_top.specs.Status.{Class, Done, Misused, Refused, Unread, NoRig, Silent, class_of, refusal_text}
-use Rattle.i2c_top.specs.Traces.{ShelfView, OutputView, RigView, Outside, IsUnread}
+use Rattle.i2c_top.specs.Traces.{ShelfView, OutputView, RigView, Outside, KeepsBut, IsUnread}
 use Rattle.i2c_top.specs.Written.{HasFront}
 use Rattle.i2c_top.specs.declared.status.Status.{Status}
 use Rattle.i2c_top.specs.declared.status.Status.TheVariants as status
@@ -130,3 +130,9 @@ pub record HasEndedAs (form : Form) (old new : Outside) (result : Status) : Type
   pub said : result ≡ status.Ok → HasSaid form old new
   pub written : HasWritten form old new result
   pub kept : KeepsShelf form old.shelf new.shelf
+
+-- words in no form are turned down by this line on usage, or a front of it where the output failed; nothing is read or plugged
+pub record IsTurnedDown (usage : List ℕ) (old new : Outside) (result : Status) : Type 0 where
+  pub written : IsWritten old.sink new.sink status.Usage usage result
+  pub shelf : KeepsBut (λ place. ⊥) old.shelf new.shelf
+  pub rig : new.rig ≡ old.rig

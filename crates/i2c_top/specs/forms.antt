@@ -1,13 +1,12 @@
 -- The forms of the words of a command line, one after the other: what the words of each ask for, and its row. Each has a
 -- file of its own in `forms`.
-use Rattle.std.specs.Prelude.{◌≡◌, ℕ, ◌⊎◌, IsTrue, List, Option, None, Some, codes, if◌then◌else◌}
+use Rattle.std.specs.Prelude.{ℕ, IsTrue, List, Option, None, Some, codes, if◌then◌else◌}
 use Rattle.std.specs.Option.{option_map}
 use Rattle.tools.specs.Readers.{word_at}
-use Rattle.i2c_top.specs.Endings.{IsWritten, HasEndedAs}
+use Rattle.i2c_top.specs.Endings.{HasEndedAs, IsTurnedDown}
 use Rattle.i2c_top.specs.Form.{Form}
-use Rattle.i2c_top.specs.Traces.{Outside, KeepsBut}
+use Rattle.i2c_top.specs.Traces.{Outside}
 use Rattle.i2c_top.specs.declared.status.Status.{Status}
-use Rattle.i2c_top.specs.declared.status.Status.TheVariants as status
 use Rattle.i2c_gen.specs.declared.plan.Plan.{Plan}
 use Rattle.i2c_top.specs.declared.forms.clear.ClearAt.{ClearAt}
 use Rattle.i2c_top.specs.forms.Atrs.{is_atr, atr_form}
@@ -68,15 +67,9 @@ request_in words =
 abbrev pub usage_text : List ℕ
 usage_text = codes "usage: i2cbus run BOARD SCRIPT... | replay BOARD SCHEDULE SCRIPT... | check BOARD | gen SEED ROOTS LINES | verify BOARD JOURNAL SCRIPT... | atr BOARD MAP SCHEDULE SCRIPT... | cached BOARD SCHEDULE SCRIPT... | clear BOARD BUS ADDR CUT\n"
 
--- words in no form are turned down by the line on usage, or a front of it where the output failed; nothing is read or plugged
-pub record IsTurnedDown (old new : Outside) (result : Status) : Type 0 where
-  pub written : IsWritten old.sink new.sink status.Usage usage_text result
-  pub shelf : KeepsBut (λ place. ⊥) old.shelf new.shelf
-  pub rig : new.rig ≡ old.rig
-
 -- how a call ends, by what its words ask for
 abbrev pub HasEnded : Option Request → Outside → Outside → Status → Type 0
-HasEnded None old new result = IsTurnedDown old new result
+HasEnded None old new result = IsTurnedDown usage_text old new result
 HasEnded (Some request) old new result = HasEndedAs (form_of request) old new result
 
 -- the rig is plugged for it
