@@ -1,5 +1,5 @@
 -- What a run in which listed calls fail says of where they failed, and a success that was written. No induction.
-use Rattle.std.proofs.Common.{◌≡◌, ◌≢◌, ℕ, ◌≤◌, List, length, map, Result, Ok, Err, refl, sym, ◌∙◌, ap, subst, inl, inr}
+use Rattle.std.proofs.Common.{◌≡◌, ◌≢◌, ℕ, ◌≤◌, List, length, map, Result, Ok, Err, sym, ◌∙◌, ap, subst, inl, inr}
 use Rattle.std.specs.Prelude.{IfErr, OnOk}
 use Rattle.std.specs.List.{range_with_len}
 use Rattle.i2c_base.specs.declared.port.PortCall.{PortCall}

@@ -1,10 +1,10 @@
 -- Bytes that spell a number are a text.
-use Rattle.std.proofs.Common.{◌≡◌, ℕ, zero, suc, nat_le, ◌<◌, ◌^◌, Bool, true, false, List, [], ◌∷◌, None, refl, sym, ◌∙◌, ap, arith, if◌then◌else◌}
+use Rattle.std.proofs.Common.{◌≡◌, ℕ, zero, suc, nat_le, ◌<◌, Bool, true, false, List, [], ◌∷◌, None, refl, arith}
 use Rattle.std.proofs.lemmas.Bool.{and_parts, leb-true}
 use Rattle.std.specs.Char.{is_ascii_digit}
 use Rattle.std.proofs.lemmas.Str.{IsUtf8-from_ascii}
 use Rattle.std.specs.Str.{IsUtf8, IsAscii, all_ascii_digits}
-use Rattle.tools.specs.Numbers.{is_decimal, within}
+use Rattle.tools.specs.Numbers.{is_decimal}
 use Rattle.i2c_top.specs.Numbers.{is_numeral, number_named}
 
 digit-low : (c : ℕ) → is_ascii_digit c ≡ true → c < 128

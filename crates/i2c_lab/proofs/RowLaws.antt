@@ -1,5 +1,5 @@
 -- A text lists calls or has one first word that names none. No induction.
-use Rattle.std.proofs.Common.{◌≡◌, ℕ, List, Result, Ok, Err, refl, sym, ◌∙◌, ap, subst}
+use Rattle.std.proofs.Common.{◌≡◌, ℕ, List, Result, Ok, Err, sym, ◌∙◌, ap, subst}
 use Rattle.i2c_top.specs.forms.Extras.{IsExtraRow, IsOfExtra}
 use Rattle.i2c_top.specs.declared.status.Status.TheVariants as status
 use Rattle.i2c_lab.specs.CallLists.{call_list}

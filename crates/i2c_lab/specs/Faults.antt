@@ -1,5 +1,5 @@
 -- `faults BOARD FAULTS SCHEDULE SCRIPT...`, with 1 to 8 scripts: a replay in which the calls fail that a list names.
-use Rattle.std.specs.Prelude.{◌≡◌, ℕ, Bool, List, [], Some, length, map, codes}
+use Rattle.std.specs.Prelude.{ℕ, Bool, List, Some, length, map, codes}
 use Rattle.std.specs.List.{range_with_len}
 use Rattle.i2c_base.specs.declared.port.PortCall.{PortCall}
 use Rattle.i2c_spec.specs.Targets.{TargetState}

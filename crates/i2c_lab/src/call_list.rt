@@ -1,5 +1,5 @@
 //! A list of calls that fail, as one file more of a replay.
-ghost use Rattle.std.specs.Prelude.{◌≡◌, ◌<◌, ◌≤◌, ◌==◌, ◌⊎◌, true, length, Some, None, Ok, Err, OnOk, OnErr, IfOk, IfErr, IfSome};
+ghost use Rattle.std.specs.Prelude.{◌≡◌, ◌<◌, ◌≤◌, ◌==◌, ◌⊎◌, Some, None, Ok, Err, OnOk, OnErr, IfOk, IfErr, IfSome};
 ghost use Rattle.std.specs.List.{position};
 ghost use Rattle.i2c_top.specs.Schedules.{is_white};
 ghost use Rattle.i2c_top.specs.Runs.{HasRun};

@@ -1,5 +1,5 @@
 //! A number that bytes spell in decimal.
-ghost use Rattle.std.specs.Prelude.{◌≡◌, ◌-◌, ◌≤◌, ◌^◌, IfSome};
+ghost use Rattle.std.specs.Prelude.{◌≡◌, ◌-◌, ◌^◌};
 ghost use Rattle.i2c_top.specs.Numbers.{number_named};
 
 use i2c_top::number_named;

@@ -1,8 +1,8 @@
 -- The files of a call with one file more decide one status: of two that they are a cause of, both are the same. No induction.
-use Rattle.i2c_top.proofs.Cited.{◌≡◌, ℕ, ◌⊎◌, inl, inr, length, refl, sym, ◌∙◌, ap, subst, BoardView, HasAccepted, Files, DecidesOnce}
-use Rattle.i2c_top.proofs.Cited.{MOST_COST, HasBadSchedule, HasScripts, Status}
-use Rattle.i2c_top.specs.forms.Extras.{ExtraNames, ExtraRow, HasBadExtra, HasDearExtra, HasExtra, HasExtraFiles, HasExtraScripts}
-use Rattle.i2c_top.specs.forms.Extras.{HasExtraTexts, HasMisspelled, HasSpelled, IsExtraCause, IsExtraRow, IsOfExtra, as_run, extra_cost}
+use Rattle.i2c_top.proofs.Cited.{◌≡◌, ℕ, ◌⊎◌, inl, inr, length, refl, sym, ◌∙◌, ap, subst, HasAccepted, Files, DecidesOnce}
+use Rattle.i2c_top.proofs.Cited.{MOST_COST, HasBadSchedule, Status}
+use Rattle.i2c_top.specs.forms.Extras.{ExtraNames, ExtraRow, HasBadExtra, HasDearExtra, HasExtraFiles, HasExtraScripts}
+use Rattle.i2c_top.specs.forms.Extras.{HasExtraTexts, HasMisspelled, HasSpelled, IsExtraCause, IsExtraRow, as_run, extra_cost}
 use Rattle.i2c_top.specs.forms.Extras.{extra_form}
 use Rattle.i2c_top.specs.declared.status.Status.TheVariants as status
 use Rattle.i2c_top.proofs.BoardLemmas.{no_board, one_why, one_board_in, one_text}

@@ -5,10 +5,8 @@ use Rattle.i2c_base.specs.declared.rules.RuleBroken.{RuleBroken}
 use Rattle.addr_atr.specs.Maps.{TranslatorView}
 use Rattle.addr_atr.specs.MapTexts.{translators_of, Fails}
 use Rattle.addr_atr.specs.declared.fault.MapFault.TheVariants as fault
-use Rattle.i2c_top.specs.MapFiles.{IsMapFault}
 use Rattle.i2c_top.specs.forms.Atrs.{map_row}
 use Rattle.i2c_top.specs.forms.Extras.{IsExtraRow, IsOfExtra}
-use Rattle.i2c_top.specs.declared.status.Status.{Status}
 use Rattle.i2c_top.specs.declared.status.Status.TheVariants as status
 
 -- what a text says of a map, it says once

@@ -6,7 +6,7 @@ use Rattle.i2c_spec.specs.Targets.{TargetState}
 use Rattle.bus_spec.specs.Schedule.{Follows}
 use Rattle.addr_atr.specs.Lowering.{lowered}
 use Rattle.addr_atr.specs.Maps.{MapView}
-use Rattle.addr_atr.specs.MapTexts.{IsMapOf, Fails}
+use Rattle.addr_atr.specs.MapTexts.{Fails}
 use Rattle.addr_atr.specs.Runs.{translated_asks}
 use Rattle.addr_atr.specs.declared.fault.MapFault.{MapFault}
 use Rattle.addr_atr.specs.declared.fault.MapFault.TheVariants as fault

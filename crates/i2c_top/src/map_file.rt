@@ -1,5 +1,5 @@
 //! The file of a map of address translators.
-ghost use Rattle.std.specs.Prelude.{◌≡◌, ◌≢◌, ◌⊎◌, IfOk, IfErr};
+ghost use Rattle.std.specs.Prelude.{◌≡◌, ◌⊎◌, IfOk, IfErr};
 ghost use Rattle.addr_atr.specs.MapTexts.{IsMapOf};
 ghost use Rattle.i2c_top.specs.MapFiles.{HasAtrRun, IsMapFault};
 ghost use Rattle.i2c_top.specs.declared.status.Status.TheVariants as status;

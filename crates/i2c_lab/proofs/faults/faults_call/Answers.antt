@@ -2,7 +2,6 @@ use Rattle.std.proofs.Common.{subst}
 use Rattle.std.specs.Prelude.{OnOk}
 use Rattle.std.proofs.lemmas.Result.{IfErr-weaker}
 use Rattle.i2c_top.specs.forms.Extras.{ExtraNames, extra_told}
-use Rattle.i2c_top.specs.Endings.{name_in}
 use Rattle.i2c_top.proofs.EndingLemmas.{ended_as}
 use Rattle.i2c_top.proofs.ExtraCauses.{extra_decides}
 use Rattle.i2c_physics.specs.FailPorts.{logs_given}
