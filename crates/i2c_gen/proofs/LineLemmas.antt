@@ -19,7 +19,7 @@ use Rattle.tools.specs.Sets.{by_piece, mode_or}
 use Rattle.tools.specs.Splits.{words_of, joined_words}
 use Rattle.tools.specs.declared.command.Cmd.{Cmd}
 use Rattle.tools.specs.declared.command.get.GetMode.TheVariants as mode
-use Rattle.tools.proofs.LineLemmas.{command_read}
+use Rattle.tools.proofs.LineLemmas.{of_words}
 use Rattle.i2c_gen.specs.Scripts.{line_by}
 use Rattle.i2c_gen.proofs.NumberLemmas.{IsNumber, decimal_number, number_within, number_word, number_ne}
 use Rattle.i2c_gen.proofs.WordLemmas.{is_word, are_words, is_one_line, ended_line, words_of-joined, joined_line}
@@ -152,17 +152,17 @@ pub command_line : (op bus reg val : ℕ) → AreInRange bus reg val
     → line_read 32 (joined_words (words_by op bus reg val)) ≡ Ok (Some (cmd_by op bus reg val))
 command_line zero bus reg val h =
     let ws : List Word = words_by zero bus reg val in
-    command_read 32 (joined_words ws) ws (cmd_by zero bus reg val) (ap (take (MOST_WORDS + 1)) (front zero bus reg val h)) refl
+    of_words 32 (joined_words ws) ws (Ok (cmd_by zero bus reg val)) (ap (take (MOST_WORDS + 1)) (front zero bus reg val h)) refl
     (byte_read bus (decimal bus) (decimal_number bus (omega (arith, h.bus_is))) h.bus_is reg (decimal reg) (decimal val)
     (decimal_number reg (omega (arith, h.reg_is))) h.reg_is)
 command_line (suc zero) bus reg val h =
     let ws : List Word = words_by (suc zero) bus reg val in
-    command_read 32 (joined_words ws) ws (cmd_by (suc zero) bus reg val) (ap (take (MOST_WORDS + 1)) (front (suc zero) bus reg val h)) refl
+    of_words 32 (joined_words ws) ws (Ok (cmd_by (suc zero) bus reg val)) (ap (take (MOST_WORDS + 1)) (front (suc zero) bus reg val h)) refl
     (byte_written bus (decimal bus) (decimal_number bus (omega (arith, h.bus_is))) h.bus_is reg val (decimal reg) (decimal val)
     (decimal_number reg (omega (arith, h.reg_is))) h.reg_is (decimal_number val (omega (arith, h.val_is))) h.val_is)
 command_line (suc (suc op)) bus reg val h =
     let ws : List Word = words_by (suc (suc op)) bus reg val in
-    command_read 32 (joined_words ws) ws (cmd_by (suc (suc op)) bus reg val) (ap (take (MOST_WORDS + 1))
+    of_words 32 (joined_words ws) ws (Ok (cmd_by (suc (suc op)) bus reg val)) (ap (take (MOST_WORDS + 1))
     (front (suc (suc op)) bus reg val h))
     refl
     (word_read bus (decimal bus) (decimal_number bus (omega (arith, h.bus_is))) h.bus_is op (decimal reg) (decimal val))

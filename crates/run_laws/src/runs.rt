@@ -18,7 +18,7 @@ ghost use Rattle.i2c_spec.specs.Tree.{of_device};
 ghost use Rattle.i2c_top.specs.Checked.{checked_on};
 ghost use Rattle.i2c_top.specs.Files.{Files};
 ghost use Rattle.i2c_top.specs.Runs.{HasRun, HasRunTold, asks_by};
-ghost use Rattle.i2c_top.specs.forms.Atrs.{HasAtrRun};
+ghost use Rattle.i2c_top.specs.MapFiles.{HasAtrRun};
 ghost use Rattle.i2c_top.specs.forms.Generations.{HasSummary};
 ghost use Rattle.i2c_top.specs.forms.Replays.{Names, HasReport};
 ghost use Rattle.i2c_top.specs.forms.Verifies.{HasVerdict};
