@@ -1,9 +1,8 @@
 //! A case: what fails outside of the program, and a call that is made with it.
-ghost use Rattle.std.specs.Prelude.{◌≡◌, [], Some, map, string_bytes, IfOk, IfSome, OnSome};
-ghost use Rattle.std.specs.Option.{option_map_or};
+ghost use Rattle.std.specs.Prelude.{◌≡◌, Some, map, string_bytes, IfOk, IfSome, OnSome};
 ghost use Rattle.i2c_outside.specs.Shelves.{held};
-ghost use Rattle.i2c_physics.specs.SimRigs.{kept_states, kept_logs};
-ghost use Rattle.i2c_physics.specs.FailPorts.{failed_calls_in};
+ghost use Rattle.i2c_physics.specs.SimRigs.{kept_states};
+ghost use Rattle.i2c_physics.specs.FailPorts.{counts_given, logs_given};
 ghost use Rattle.i2c_top.specs.forms.{Replay, request_in};
 ghost use Rattle.i2c_top.specs.forms.Replays.{Names, HasReplayed};
 ghost use Rattle.i2c_top.specs.declared.status.Status.TheVariants as status;
@@ -183,8 +182,7 @@ fn call_over<H: Threads + Wait + Sync, G: Gate + Sync>(
     // What is in memory tells what it holds, so each premise of the headline is met, and this is so of every success.
     ensures replayed { (names : Names) → request_in (map string_bytes words.now) ≡ Some (Replay names) → result ≡ status.Ok
         → HasReplayed (held outside.old.shelf.files) names outside.old.sink.bytes outside.new.sink.bytes
-        (kept_logs outside.new.rig.sim.kept) (kept_states outside.new.rig.sim.kept)
-        (option_map_or (λ ports. map (λ p. failed_calls_in p.port.log) ports.value.items) outside.new.rig.given []) }
+        (logs_given outside.new.rig.given) (kept_states outside.new.rig.sim.kept) (counts_given outside.new.rig.given) }
 {
     top(
         rt,
