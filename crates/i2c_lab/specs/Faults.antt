@@ -1,5 +1,5 @@
 -- `faults BOARD FAULTS SCHEDULE SCRIPT...`, with 1 to 8 scripts: a replay in which the calls fail that a list names.
-use Rattle.std.specs.Prelude.{ℕ, Bool, List, Some, length, map, codes}
+use Rattle.std.specs.Prelude.{◌≡◌, ℕ, Bool, List, Some, length, map, codes}
 use Rattle.std.specs.List.{range_with_len}
 use Rattle.i2c_base.specs.declared.port.PortCall.{PortCall}
 use Rattle.i2c_spec.specs.Targets.{TargetState}
@@ -30,8 +30,9 @@ faults_form names = extra_form list_row names
 abbrev pub HasFaulted : Files → ExtraNames → (before now : List ℕ) → List (List PortCall) → List TargetState → List ℕ → Type 0
 HasFaulted file names before now logs states counts = HasWrittenExtra list_row file names before now logs states counts
 
--- on the port of each root a call failed just where the list names it: the calls on the ports are these
+-- these are the calls on the ports, one list for each root of the board, and on each a call failed just where the list names it
 pub record HasFailedAsListed (file : Files) (names : ExtraNames) (logs : List (List PortCall)) : Type 0 where
   pub files : HasExtraFiles list_row file names
+  pub count : length logs ≡ length files.texts.files.scripts.board.board.roots
   pub failed : HaveFailedJustAt (map (fails_on files.texts.files.extra.value)
       (range_with_len 0 (length files.texts.files.scripts.board.board.roots))) logs

@@ -54,7 +54,7 @@ fn faults<S: Shelf>(
 /// refusal writes its line. The words are those of the form, and the shelf's. The files are read in the order board, scripts, list,
 /// schedule; then the scripts' cost is tested.
 ///
-/// It returns on every input. A call that fails acts as a stop on its root, as a failed transfer of a real controller does. Calls
+/// It returns on every input. A call that fails acts as a stop on its root, and ends its transfer. Calls
 /// count from 0 on the port of their root, failed ones among them; one that is never made is none. `Faults` is told exactly at the
 /// first word that names no call on a root of the board. The rig is plugged at most once, and is not left plugged.
 pub fn faults_call<S: Shelf, K: Sink>(

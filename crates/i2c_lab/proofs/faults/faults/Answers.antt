@@ -11,7 +11,7 @@ use Rattle.i2c_top.specs.forms.Extras.{extra_told}
 use Rattle.i2c_top.proofs.ExtraLemmas.{extra_done, extra_failed}
 use Rattle.i2c_top.proofs.FileLemmas.{passed_on}
 use Rattle.i2c_lab.specs.Faults.{list_row}
-use Rattle.i2c_lab.proofs.FaultLemmas.{failed-as-listed}
+use Rattle.i2c_lab.proofs.FaultLemmas.{as-many, failed-as-listed}
 use Rattle.i2c_lab.proofs.faults.faults.Goals as goal
 use Rattle.i2c_lab.proofs.faults.faults.Goals.{After-run_scripts-outcome}
 
@@ -53,7 +53,7 @@ returns-clause-failed g c =
     let f = c.in_ok-board.field-0 in
     let read = c.in_ok-board.ensures in
     failed-as-listed _ (extra_told c.args.names.now) f.board f.extra (texts_of f.scripts.items) f.words.items (read.read t) read.cheap
-    c.run_scripts-outcome.result _ _ c.failed_where_told.ensures
+    c.run_scripts-outcome.result _ _ (as-many c.run_scripts-outcome.new.rig.given) c.failed_where_told.ensures
     (subst (λ (cs : List (ℕ × ℕ)). OnOk c.run_scripts-outcome.result (fails_given c.run_scripts-outcome.new.rig.given
     ≡ map (fails_on cs) (range_with_len 0 (length f.board.roots)))) (ap (λ v. v.calls.items) c.arm.ensures ∙ c.into_calls.ensures)
     (c.run_scripts-outcome.ensures.returned refl))
