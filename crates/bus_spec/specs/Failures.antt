@@ -1,5 +1,5 @@
 -- Which calls of the ports failed, told by the logs that a journal tells: by their root, and their number on it, from 0.
-use Rattle.std.specs.Prelude.{◌≡◌, ◌↔◌, ℕ, List, Some, slice_get}
+use Rattle.std.specs.Prelude.{◌≡◌, ◌<◌, ◌↔◌, ℕ, List, Some, length, slice_get}
 use Rattle.i2c_base.specs.declared.port.PortCall.TheVariants as call
 use Rattle.i2c_base.specs.declared.entry.Entry.{Entry}
 use Rattle.i2c_base.specs.Board.{BoardView}
@@ -10,6 +10,11 @@ use Rattle.bus_spec.specs.Past.{calls_of}
 abbrev pub HasFailed : BoardView → Asks → List Entry → ℕ → ℕ → Type 0
 HasFailed b asks past r n = slice_get (calls_of b asks past r) n ≡ Some call.Fault
 
--- in two journals the same calls failed
+-- it was made
+abbrev pub HasMade : BoardView → Asks → List Entry → ℕ → ℕ → Type 0
+HasMade b asks past r n = n < length (calls_of b asks past r)
+
+-- of the calls that were made in both of two journals the same failed
 abbrev pub FailAlike : BoardView → Asks → List Entry → List Entry → Type 0
-FailAlike b asks past other = (r n : ℕ) → HasFailed b asks past r n ↔ HasFailed b asks other r n
+FailAlike b asks past other =
+    (r n : ℕ) → HasMade b asks past r n → HasMade b asks other r n → HasFailed b asks past r n ↔ HasFailed b asks other r n

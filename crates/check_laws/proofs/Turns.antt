@@ -37,9 +37,9 @@ module _ (b : BoardView) (tree : IsTree b) (plain : IsPlainBoard b) (lines : Lin
       one_turn b tree plain lines asks some callers past steps t u is1 is2 own none1 none2
       (λ r. gone_on (gaps r) (one r) (length (two r))) (λ r. gone_on (gaps r) (two r) (length (one r)))
       (λ r. gone_on-more (gaps r) (one r) (length (two r))) (λ r. gone_on-more (gaps r) (two r) (length (one r)))
-      (λ r n failed. there (gaps r) (one r) (two r) (log-fails (past_after past t) fails1 r)
+      (λ r n low failed. there (gaps r) (one r) (two r) (log-fails (past_after past t) fails1 r)
       (log-fails (past_after past u) fails2 r) n failed)
-      (λ r n failed. there (gaps r) (two r) (one r) (log-fails (past_after past u) fails2 r)
+      (λ r n low failed. there (gaps r) (two r) (one r) (log-fails (past_after past u) fails2 r)
       (log-fails (past_after past t) fails1 r) n failed)
     where
       one : ℕ → List PortCall

@@ -14,12 +14,13 @@ use Rattle.journal_laws.proofs.past.CutTalks.{Went, BreaksOff, IsFront, talk-fro
 use Rattle.journal_laws.proofs.past.Failures.{number_of, number-older, number-of, none-failed, went-older}
 use Rattle.bus_laws.proofs.past.Known.{message_entry}
 
--- in the logs that come of an entry a call of this root failed
+-- in the logs that come of an entry a call of this root failed, and so it did in others, where it was made
 abbrev pub Logs : Type 0
 Logs = ℕ → List PortCall
 
 abbrev pub FailIn : Logs → Logs → Type 0
-FailIn logs others = (r n : ℕ) → number_of (logs r) n ≡ Some call.Fault → number_of (others r) n ≡ Some call.Fault
+FailIn logs others =
+    (r n : ℕ) → n < length (others r) → number_of (logs r) n ≡ Some call.Fault → number_of (others r) n ≡ Some call.Fault
 
 -- the logs of an entry go on from where it leaves them
 abbrev pub GoOnFrom : (ℕ → List PortCall) → Logs → Type 0
@@ -52,6 +53,24 @@ module _ (w : World) (limit : ℕ) (m : MessageView) (last : Bool) where
       ∙ ap (λ (cs : List PortCall). more ++ (cs ++ before)) broken.said)
       ∙ number-older more (call.Fault ∷ ((broken.own ++ []) ++ before)) (broken.place + length before) (omega (arith, own, all))
       ∙ number-of call.Fault ((broken.own ++ []) ++ before) (broken.place + length before) (omega (arith, own, all))
+
+  -- the calls up to it were made, and so was each of the whole message
+  made_up_to : (cut : Option ℕ) (f : IsFront cut [] (said cut) (said None)) (broken : BreaksOff cut [] f.more (said cut))
+      (more before log : List PortCall) → log ≡ more ++ ((said cut).calls ++ before) → (place : ℕ) → place < broken.place
+      → place + length before < length log
+  made_up_to cut f broken more before log is place low =
+      let own : length (broken.own ++ []) ≡ broken.place = broken.counted in
+      let all : length log ≡ length (more ++ (call.Fault ∷ ((broken.own ++ []) ++ before))) = ap (λ (xs : List PortCall). length xs)
+      (is ∙ ap (λ (cs : List PortCall). more ++ (cs ++ before)) broken.said) in
+      omega (arith, low, own, all, length-append more (call.Fault ∷ ((broken.own ++ []) ++ before)), length-append (broken.own ++ []) before)
+
+  made_whole : (cut : Option ℕ) (f : IsFront cut [] (said cut) (said None)) → said cut ≡ said None → (more before log : List PortCall)
+      → log ≡ more ++ ((said cut).calls ++ before) → (place : ℕ) → place < length f.more → place + length before < length log
+  made_whole cut f same more before log is place low =
+      let calls : (said cut).calls ≡ f.more = ap (λ (t : TalkTold World). t.calls) same ∙ f.grown ∙ append-nil f.more in
+      let all : length log ≡ length (more ++ (f.more ++ before)) = ap (λ (xs : List PortCall). length xs)
+      (is ∙ ap (λ (cs : List PortCall). more ++ (cs ++ before)) calls) in
+      omega (arith, low, all, length-append more (f.more ++ before), length-append f.more before)
 
   -- a call before the failed one went, and so did each of the whole message
   went_whole : (cut : Option ℕ) (f : IsFront cut [] (said cut) (said None)) → said cut ≡ said None → (more before log : List PortCall)
@@ -86,8 +105,8 @@ module _ (w : World) (limit : ℕ) (m : MessageView) (last : Bool) where
   -- so both end alike
   module _ (one two : Option ℕ) (more1 more2 before log1 log2 : List PortCall) (is1 : log1 ≡ more1 ++ ((said one).calls ++ before))
       (is2 : log2 ≡ more2 ++ ((said two).calls ++ before))
-      (there : (n : ℕ) → number_of log1 n ≡ Some call.Fault → number_of log2 n ≡ Some call.Fault) (back : (n : ℕ)
-      → number_of log2 n ≡ Some call.Fault → number_of log1 n ≡ Some call.Fault) where
+      (there : (n : ℕ) → n < length log2 → number_of log1 n ≡ Some call.Fault → number_of log2 n ≡ Some call.Fault) (back : (n : ℕ)
+      → n < length log1 → number_of log2 n ≡ Some call.Fault → number_of log1 n ≡ Some call.Fault) where
     f1 : IsFront one [] (said one) (said None)
     f1 = talk-front world_listener one limit w m last
 
@@ -100,10 +119,13 @@ module _ (w : World) (limit : ℕ) (m : MessageView) (last : Bool) where
           | inl h ↦ ap said (b1.cut_is ∙ ap Some h.1 ∙ sym b2.cut_is)
           | inr h ↦ elim (leb_tells b1.place b2.place) [
             | inl low ↦ absurd (let apart : b1.place ≡ b2.place → ⊥ = h.1 in
-                went_before two f2 b2 more2 before log2 is2 b1.place (omega (arith, low.1, apart))
-                (there (b1.place + length before) (fault_at one f1 b1 more1 before log1 is1)))
+                let sooner : b1.place < b2.place = omega (arith, low.1, apart) in
+                went_before two f2 b2 more2 before log2 is2 b1.place sooner
+                (there (b1.place + length before) (made_up_to two f2 b2 more2 before log2 is2 b1.place sooner)
+                (fault_at one f1 b1 more1 before log1 is1)))
             | inr high ↦ absurd (went_before one f1 b1 more1 before log1 is1 b2.place high.1
-                (back (b2.place + length before) (fault_at two f2 b2 more2 before log2 is2)))
+                (back (b2.place + length before) (made_up_to one f1 b1 more1 before log1 is1 b2.place high.1)
+                (fault_at two f2 b2 more2 before log2 is2)))
           ]
         ]
 
@@ -116,18 +138,20 @@ module _ (w : World) (limit : ℕ) (m : MessageView) (last : Bool) where
         elim f1.either [
           | inl w1 ↦ elim f2.either [
             | inl w2 ↦ w1 ∙ sym w2
-            | inr b2 ↦ absurd (went_whole one f1 w1 more1 before log1 is1 b2.place
-                (let within : b2.place < length f2.more = place_within two f2 b2 in
+            | inr b2 ↦ absurd (let within : b2.place < length f2.more = place_within two f2 b2 in
                 let same : length f1.more ≡ length f2.more = ap (λ (xs : List PortCall). length xs) more_same in
-                omega (arith, within, same))
-                (back (b2.place + length before) (fault_at two f2 b2 more2 before log2 is2)))
+                let low : b2.place < length f1.more = omega (arith, within, same) in
+                went_whole one f1 w1 more1 before log1 is1 b2.place low
+                (back (b2.place + length before) (made_whole one f1 w1 more1 before log1 is1 b2.place low)
+                (fault_at two f2 b2 more2 before log2 is2)))
           ]
           | inr b1 ↦ elim f2.either [
-            | inl w2 ↦ absurd (went_whole two f2 w2 more2 before log2 is2 b1.place
-                (let within : b1.place < length f1.more = place_within one f1 b1 in
+            | inl w2 ↦ absurd (let within : b1.place < length f1.more = place_within one f1 b1 in
                 let same : length f1.more ≡ length f2.more = ap (λ (xs : List PortCall). length xs) more_same in
-                omega (arith, within, same))
-                (there (b1.place + length before) (fault_at one f1 b1 more1 before log1 is1)))
+                let low : b1.place < length f2.more = omega (arith, within, same) in
+                went_whole two f2 w2 more2 before log2 is2 b1.place low
+                (there (b1.place + length before) (made_whole two f2 w2 more2 before log2 is2 b1.place low)
+                (fault_at one f1 b1 more1 before log1 is1)))
             | inr b2 ↦ both_broken b1 b2
           ]
         ]
@@ -209,18 +233,24 @@ module _ (b : BoardView) (asks : Asks) (n : Now) where
       ∙ number-older more (line_call job failed ∷ before) (length before) (omega arith)
       ∙ number-of (line_call job failed) before (length before) refl
 
+  line_made : (job : Job) (failed : Bool) (more before log : List PortCall) → log ≡ more ++ (line_call job failed ∷ before)
+      → length before < length log
+  line_made job failed more before log is =
+      let all : length log ≡ length (more ++ (line_call job failed ∷ before)) = ap (λ (xs : List PortCall). length xs) is in
+      omega (arith, all, length-append more (line_call job failed ∷ before))
+
   lines_alike : (job : Job) (f1 f2 : Bool) (more1 more2 before log1 log2 : List PortCall) → log1 ≡ more1 ++ (line_call job f1 ∷ before)
       → log2 ≡ more2 ++ (line_call job f2 ∷ before)
-      → ((k : ℕ) → number_of log1 k ≡ Some call.Fault → number_of log2 k ≡ Some call.Fault)
-      → ((k : ℕ) → number_of log2 k ≡ Some call.Fault → number_of log1 k ≡ Some call.Fault) → f1 ≡ f2
+      → ((k : ℕ) → k < length log2 → number_of log1 k ≡ Some call.Fault → number_of log2 k ≡ Some call.Fault)
+      → ((k : ℕ) → k < length log1 → number_of log2 k ≡ Some call.Fault → number_of log1 k ≡ Some call.Fault) → f1 ≡ f2
   lines_alike job true true more1 more2 before log1 log2 is1 is2 there back = refl
   lines_alike job false false more1 more2 before log1 log2 is1 is2 there back = refl
   lines_alike job true false more1 more2 before log1 log2 is1 is2 there back =
       absurd (let f : Some (line_call job false) ≡ Some call.Fault = sym (line_number job false more2 before log2 is2)
-      ∙ there (length before) (line_number job true more1 before log1 is1) in cc)
+      ∙ there (length before) (line_made job false more2 before log2 is2) (line_number job true more1 before log1 is1) in cc)
   lines_alike job false true more1 more2 before log1 log2 is1 is2 there back =
       absurd (let f : Some (line_call job false) ≡ Some call.Fault = sym (line_number job false more1 before log1 is1)
-      ∙ back (length before) (line_number job true more2 before log2 is2) in cc)
+      ∙ back (length before) (line_made job false more1 before log1 is1) (line_number job true more2 before log2 is2) in cc)
 
   -- ONE STEP
   module _ (callers : ℕ) (e1 e2 : Entry) (may1 : May b callers asks n e1) (may2 : May b callers asks n e2)

@@ -12,7 +12,11 @@ use Rattle.std.proofs.Common.{◌↔◌}
 use Rattle.std.specs.Prelude.{reverse, MatchBool, ◌==◌}
 use Rattle.std.specs.List.{find}
 use Rattle.i2c_base.specs.declared.entry.Entry.TheVariants as entry
-use Rattle.bus_spec.specs.Failures.{FailAlike}
+use Rattle.i2c_base.specs.declared.port.PortCall.TheVariants as call
+use Rattle.journal_laws.proofs.Cited.{length, length-reverse}
+use Rattle.std.proofs.lemmas.Option.{slice_get_within}
+use Rattle.bus_spec.specs.Failures.{FailAlike, HasFailed, HasMade}
+use Rattle.bus_spec.specs.Past.{calls_of}
 use Rattle.bus_spec.specs.Schedule.{waits_for, is_taken}
 use Rattle.bus_spec.specs.Legal.{is_stepping}
 use Rattle.bus_laws.specs.Coming.{IsOne, IsTwo}
@@ -405,6 +409,13 @@ module _ (b : BoardView) (tree : IsTree b) (plain : IsPlainBoard b) (lines : Lin
           absurd (let f : None ≡ Some (Settle made.verdict) = sym (ap (λ (w : WalkTree). first_act w) (complete.walked c)) ∙ made.settles in
           cc)
 
+  -- a call that was made, by its log as it is told, and one that failed was made
+  listed : (past : List Entry) (r n : ℕ) → n < length ((now b asks past).calls r) → HasMade b asks past r n
+  listed past r n low = omega (arith, low, length-reverse ((now b asks past).calls r))
+
+  made_there : (past : List Entry) (r n : ℕ) → HasFailed b asks past r n → HasMade b asks past r n
+  made_there past r n failed = slice_get_within (calls_of b asks past r) n call.Fault failed
+
   pub sole-journal : (words : List ℕ) (past other : List Entry) → IsStepwise b callers asks past → IsStepwise b callers asks other
       → IsComplete b callers asks past → IsComplete b callers asks other
       → Follows words (reverse past) → Follows words (reverse other) → FailAlike b asks past other → past ≡ other
@@ -413,8 +424,10 @@ module _ (b : BoardView) (tree : IsTree b) (plain : IsPlainBoard b) (lines : Lin
       (complete_free past steps1 complete1) in
       let w2 : IsItsTurns b tree plain lines asks some callers other = whole-comes b tree plain lines asks some callers other steps2
       (complete_free other steps2 complete2) in
-      let there : FailIn (now b asks past).calls (now b asks other).calls = λ r n failed. (alike r n).0 failed in
-      let back : FailIn (now b asks other).calls (now b asks past).calls = λ r n failed. (alike r n).1 failed in
+      let there : FailIn (now b asks past).calls (now b asks other).calls =
+      λ r n low failed. (alike r n (made_there past r n failed) (listed other r n low)).0 failed in
+      let back : FailIn (now b asks other).calls (now b asks past).calls =
+      λ r n low failed. (alike r n (listed past r n low) (made_there other r n failed)).1 failed in
       let same : turns (reverse past) ≡ turns (reverse other) =
       words_same words (turns (reverse past)) (turns (reverse other)) []
       (record {
