@@ -82,6 +82,10 @@ asked_by s taken = asked_at (progress (commands_of s) taken)
 abbrev pub cost_of_script : ScriptView → ℕ
 cost_of_script s = sum_by (sum_of (cost_of s.board)) (commands_of s)
 
+-- the scripts of a run that cost no more together are run
+abbrev pub MOST_COST : ℕ
+MOST_COST = 1000000
+
 abbrev pub left_of : ScriptView → List Reply → ℕ
 left_of s taken = sum_left (cost_of s.board) (progress (commands_of s) taken)
 

@@ -29,4 +29,5 @@ pub use examples::{
 };
 pub use reach::Reach;
 pub use run::CommandRun;
-pub use script::ScriptFault;
+pub use script::{ScriptFault, read_behind};
+pub use totals::{MOST_COST, cost_of_command};

@@ -59,8 +59,8 @@ fn fault_at(fault: LineFault, line: u32) -> ScriptFault
     }
 }
 
-// Reads a line after so many commands, over a board with this block limit. One more than the most is refused at its first word.
-fn read_behind<'a>(
+/// Reads a line after so many commands, over a board with this block limit. One more than the most is refused at its first word.
+pub fn read_behind<'a>(
     alloc: Global,
     words: &mut LineWords<'a>,
     line: &'a [u8],

@@ -18,6 +18,9 @@ use crate::run::CommandRun;
 use i2c_base::{SegId, Transfer, TransferKind};
 use i2c_board::{Accepted, BusBill};
 
+/// The most that the scripts of a run cost together.
+pub const MOST_COST: u64 = 1_000_000;
+
 /// Sums over transfers: their cost, how many they are, the bytes that their replies may have, and a bit for each root
 /// that they name.
 #[derive(Clone, Copy)]
@@ -97,6 +100,15 @@ fn totals_of_command(
         totals.roots |= one.roots;
     }
     totals
+}
+
+/// What a command costs. `transfer` is room for one after the other.
+pub fn cost_of_command(board: &Accepted, run: &CommandRun, transfer: &mut Transfer) -> u64
+    ensures cost { result ≡ sum_by (cost_of board.now) (transfers_of (command_dialogue run.now)) }
+    ensures small { result ≤ 2 ^ 32 * MOST_PLACES }
+{
+    let mut bill = board.bill(0);
+    totals_of_command(board, run, &mut bill, transfer).cost
 }
 
 /// The totals of these commands.
