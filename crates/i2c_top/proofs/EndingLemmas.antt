@@ -35,6 +35,7 @@ named (status.Verify fault) = tt
 named (status.Map fault) = tt
 named (status.NoRoot bus) = tt
 named (status.Faults word) = tt
+named status.Input = tt
 
 -- the line of a refusal is due for it, and nothing else
 due_line : (form : Form) (shelf : ShelfView) (rig : RigView) (s : Status) (text : List ℕ) (c : Class) → IsNamed s c → (s ≡ status.Ok → ⊥)

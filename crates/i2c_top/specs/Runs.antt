@@ -14,6 +14,7 @@ use Rattle.bus_spec.specs.Report.{report_of}
 use Rattle.bus_groups.specs.Homes.{homes_of, caller_home_at, AreByHomes}
 use Rattle.caller_core.specs.Callers.{IsOpened, board_of, owed_by}
 use Rattle.caller_core.specs.Roots.{HasRoots}
+pub use Rattle.caller_core.specs.Scripts.{MOST_COST}
 use Rattle.caller_core.specs.Scripts.{asked_by, left_of, commands_of, cost_of_script, section_text}
 use Rattle.caller_core.specs.View.{CallerView, ScriptView, script_on}
 use Rattle.i2c_top.specs.Callers.{asks_in, printed_in, IsRunBy}
@@ -53,10 +54,6 @@ section_of s = section_text (commands_of s.script) s.taken
 -- what the scripts of these texts cost over a board, all together
 abbrev pub cost_of_texts : BoardView → List (List ℕ) → ℕ
 cost_of_texts b texts = sum_by (λ text. cost_of_script (script_on b text)) texts
-
--- scripts that cost no more are run
-abbrev pub MOST_COST : ℕ
-MOST_COST = 1000000
 
 -- over an accepted board this journal is a run of scripts of these texts (`IsRunBy` in `specs/Callers.antt`)
 abbrev pub IsRunOf : BoardView → List (List ℕ) → List (List PortCall) → List TargetState → List ℕ → List Entry → Type 0

@@ -43,6 +43,7 @@ class_of (status.Verify fault) = Refused
 class_of (status.Map fault) = Refused
 class_of (status.NoRoot bus) = Refused
 class_of (status.Faults word) = Refused
+class_of status.Input = Refused
 
 abbrev pub code_of : Status → ℕ
 code_of status.Ok = 0
@@ -59,6 +60,7 @@ code_of (status.Verify fault) = 10
 code_of (status.Map fault) = 11
 code_of (status.NoRoot bus) = 12
 code_of (status.Faults word) = 13
+code_of status.Input = 5
 
 -- whose table a fault is in, or which tables are too few or too many
 abbrev pub table_text : TableName → List ℕ
@@ -139,3 +141,4 @@ refusal_text (status.Verify fault) name = codes "not verified: " ++ verdict_text
 refusal_text (status.Map fault) name = codes "map: " ++ map_text fault
 refusal_text (status.NoRoot bus) name = codes "no root bus " ++ (decimal bus ++ codes "\n")
 refusal_text (status.Faults word) name = codes "fault word " ++ (decimal word ++ codes "\n")
+refusal_text status.Input name = codes "cannot read the input\n"

@@ -5,11 +5,8 @@ ghost use Rattle.i2c_top.specs.Readings.{IsTooDear};
 ghost use Rattle.i2c_top.specs.Runs.{AreOpened, texts_of, cost_of_texts, MOST_COST};
 
 use crate::Status;
-use caller_core::Script;
+use caller_core::{MOST_COST, Script};
 use i2c_board::Accepted;
-
-/// The most that the scripts of a run cost together.
-const MOST_COST: u64 = 1_000_000;
 
 /// What scripts cost over their board, all together.
 pub fn cost_of(board: &Accepted, scripts: &[Script]) -> u64

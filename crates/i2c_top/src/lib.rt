@@ -41,10 +41,13 @@ mod words;
 mod write;
 
 pub use ending::{write_due, write_outcome};
+pub use files::read_accepted;
 pub use number::number_named;
 pub use program::top;
 pub use report::report_text;
 pub use run::run_scripts;
-pub use schedule::each_word_is_a_number;
+pub use schedule::{White, each_word_is_a_number};
 pub use status::{BoardRefusal, Status};
 pub use text::ReportText;
+pub use words::{is_name, word_at};
+pub use write::write_all;

@@ -164,6 +164,7 @@ fn push_refusal(out: &mut Vec<u8>, status: Status, name: &[u8]) -> Result<(), No
         }
         Status::NoRoot(bus) => push_around(out, b"no root bus ", u64::from(bus), b"\n"),
         Status::Faults(word) => push_around(out, b"fault word ", u64::from(word), b"\n"),
+        Status::Input => push_bytes(out, b"cannot read the input\n"),
     }
 }
 

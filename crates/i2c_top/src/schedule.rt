@@ -25,8 +25,8 @@ impl<T: Drop> From<AllocFailed<T>> for ScheduleFault {
     }
 }
 
-// The white space between the words of a schedule.
-struct White;
+/// The white space between the words of a list.
+pub struct White;
 
 impl Gap for White {
     ghost gaps = { is_white };

@@ -49,6 +49,8 @@ pub enum Status {
     NoRoot(u16),
     /// The first word of a list of failing calls, from 0, that names no call on a root of the board.
     Faults(u32),
+    /// The input failed, and counted a fault: the lines before were answered.
+    Input,
 }
 
 impl Status {
@@ -71,6 +73,7 @@ impl Status {
             Status::Map(_) => 11,
             Status::NoRoot(_) => 12,
             Status::Faults(_) => 13,
+            Status::Input => 5,
         }
     }
 }
