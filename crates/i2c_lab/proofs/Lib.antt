@@ -3,3 +3,4 @@ pub mod FaultLemmas
 pub mod ListLemmas
 pub mod NumberLemmas
 pub mod RowLaws
+pub mod SessionLemmas

@@ -2,3 +2,4 @@
 pub mod CallLists
 pub mod Faults
 pub mod Lab
+pub mod SessionForm

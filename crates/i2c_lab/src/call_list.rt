@@ -1,7 +1,6 @@
 //! A list of calls that fail, as one file more of a replay.
 ghost use Rattle.std.specs.Prelude.{◌≡◌, ◌<◌, ◌≤◌, ◌==◌, ◌⊎◌, Some, None, Ok, Err, OnOk, OnErr, IfOk, IfErr, IfSome};
 ghost use Rattle.std.specs.List.{position};
-ghost use Rattle.i2c_top.specs.Schedules.{is_white};
 ghost use Rattle.i2c_top.specs.Runs.{HasRun};
 ghost use Rattle.i2c_top.specs.declared.status.Status.TheVariants as status;
 ghost use Rattle.i2c_lab.specs.CallLists.{call_around, call_at, call_list, call_named, IsBadWord, IsListFault, ListsCalls, MOST_WORDS};
@@ -9,11 +8,11 @@ ghost use Rattle.i2c_lab.specs.CallLists.{call_around, call_at, call_list, call_
 use crate::number::number_in;
 use i2c_base::SegId;
 use i2c_board::Accepted;
-use i2c_top::Status;
 use i2c_top::extra::ExtraFile;
+use i2c_top::{Status, White};
 use std::alloc::Global;
 use std::marker::Model;
-use tools::{Gap, first_word, skip_gaps};
+use tools::{first_word, skip_gaps};
 
 /// The most words of a list.
 const MOST_WORDS: usize = 1_000_000;
@@ -37,17 +36,6 @@ impl CallList {
         ensures { result.items ≡ self }
     {
         self.calls
-    }
-}
-
-// The white space between the words of a list.
-struct White;
-
-impl Gap for White {
-    ghost gaps = { is_white };
-
-    fn is_gap(byte: u8) -> bool {
-        byte == b' ' || byte == b'\t' || byte == b'\n' || byte == b'\r'
     }
 }
 

@@ -7,15 +7,19 @@ ghost use Rattle.i2c_top.specs.declared.status.Status.TheVariants as status;
 ghost use Rattle.i2c_physics.specs.FailPorts.{logs_given, counts_given};
 ghost use Rattle.i2c_physics.specs.SimRigs.{kept_states};
 ghost use Rattle.i2c_lab.specs.Faults.{HasFailedAsListed, HasFaulted};
+ghost use Rattle.i2c_session.specs.Inputs.{lines_in};
 ghost use Rattle.i2c_lab.specs.Lab.{Faults, HasEnded, request_in, usage_text};
 
 use crate::faults::{faults_call, is_faults};
+use crate::session::{is_session, session_call};
 use i2c_outside::{Rig, Shelf, Sink};
 use i2c_physics::FailRig;
+use i2c_session::LineInput;
 use i2c_top::{Status, write_due};
 use std::alloc::Global;
+use std::io::BufRead;
 
-const USAGE: &[u8] = b"usage: i2clab faults BOARD FAULTS SCHEDULE SCRIPT...\n";
+const USAGE: &[u8] = b"usage: i2clab faults BOARD FAULTS SCHEDULE SCRIPT... | session BOARD\n";
 
 // Writes the line on usage.
 fn turn_down<K: Sink>(sink: &mut K) -> Status
@@ -27,11 +31,12 @@ fn turn_down<K: Sink>(sink: &mut K) -> Status
 /// Does what the laboratory's program does: `words` are the command line without the program's name, and the shelf's words.
 ///
 /// `Usage` is told exactly where the words are in no form that is in force; then nothing is read or plugged. The other statuses are
-/// those of the form's call. It returns on every input.
-pub fn lab<S: Shelf, K: Sink>(
+/// those of the form's call. It returns on every input that ends.
+pub fn lab<S: Shelf, R: BufRead + Drop, K: Sink>(
     alloc: Global,
     words: &[String],
     shelf: &mut S,
+    input: &mut LineInput<R>,
     sink: &mut K,
     rig: &mut FailRig,
 ) -> Status
@@ -40,9 +45,11 @@ pub fn lab<S: Shelf, K: Sink>(
     // By the form of the words: the cause of each status and each status of a cause, what was written, and what is kept.
     ensures ended { HasEnded (request_in (map string_bytes words.now))
         (outside S.Shelf K.Sink ⟦<FailRig as Rig>⟧ true shelf.old sink.old rig.old)
-        (outside S.Shelf K.Sink ⟦<FailRig as Rig>⟧ true shelf.new sink.new rig.new) result }
+        (outside S.Shelf K.Sink ⟦<FailRig as Rig>⟧ true shelf.new sink.new rig.new)
+        (record { lines = lines_in (R.remaining input.old.reader); faults = input.old.faults })
+        (record { lines = lines_in (R.remaining input.new.reader); faults = input.new.faults }) result }
 
-    // What a success wrote: the report of a run that is legal, complete and followed by the flat world; and that a call on a port
+    // What a success of `faults` wrote: the report of a run that is legal, complete and followed by the flat world; and that a call on a port
     // failed just where the list names it.
     ensures success { IsTrue S.tells → IsTrue K.tells
         → (names : ExtraNames) → request_in (map string_bytes words.now) ≡ Some (Faults names) → result ≡ status.Ok
@@ -54,6 +61,8 @@ pub fn lab<S: Shelf, K: Sink>(
 {
     if is_faults(words) {
         faults_call(alloc, words, shelf, sink, rig)
+    } else if is_session(words) {
+        session_call(alloc, words, shelf, input, sink)
     } else {
         turn_down(sink)
     }
