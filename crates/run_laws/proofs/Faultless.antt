@@ -59,7 +59,7 @@ pub none-alike : (b other : BoardView) (callers more : ℕ) (asks turns : Asks) 
     (states ends : List TargetState) (counts rises : List ℕ) (journal entries : List Entry)
     → IsRunBy b callers asks logs states counts journal → IsRunBy other more turns others ends rises entries
     → All (λ n. n ≡ 0) counts → All (λ n. n ≡ 0) rises → FaultsAlike logs others
-none-alike b other callers more asks turns logs others states ends counts rises journal entries one two none never r n = (
+none-alike b other callers more asks turns logs others states ends counts rises journal entries one two none never r n made made_too = (
   λ at. absurd (none-counted b (calls_by b one.legal.deeds (reverse journal)) logs counts one.called one.faults none r n at),
   λ at. absurd (none-counted other (calls_by other two.legal.deeds (reverse entries)) others rises two.called two.faults never r n at),
 )

@@ -14,14 +14,15 @@ use Rattle.i2c_spec.specs.History.{changed_at}
 use Rattle.bus_spec.specs.Walk.{Act, Job, job_bus, line_mux}
 use Rattle.bus_spec.specs.Grammar.{first_note}
 use Rattle.bus_spec.specs.Past.{Now, current, talk_of, sent_by, lined_by, line_call}
-use Rattle.bus_spec.specs.Failures.{HasFailed, FailAlike}
+use Rattle.bus_spec.specs.Failures.{HasFailed, HasMade, FailAlike}
 use Rattle.bus_laws.proofs.past.Marks.{home_there}
 use Rattle.bus_laws.proofs.past.StandsStep.{at_other}
 use Rattle.bus_laws.proofs.past.Whole.{line_root}
 use Rattle.journal_laws.proofs.past.Remotes.{job_there}
+use Rattle.run_laws.specs.Alike.{IsMadeAt}
 
 -- what a function gives at each number, listed from 0 on
-listed_at : {X : Type 0} (f : ℕ → X) (n r : ℕ) → r < n → slice_get (map f (range_with_len 0 n)) r ≡ Some (f r)
+pub listed_at : {X : Type 0} (f : ℕ → X) (n r : ℕ) → r < n → slice_get (map f (range_with_len 0 n)) r ≡ Some (f r)
 listed_at f n r low =
     slice_get-get_or (map f (range_with_len 0 n)) r (f r) (subst (λ (k : ℕ). r < k) (sym (length-map-range_with_len f 0 n)) low)
     ∙ ap (λ x. Some x) (get_or-map-range_with_len f 0 n r r (f r) low (zero-add r))
@@ -97,11 +98,25 @@ module _ (b : BoardView) (tree : IsTree b) (plain : IsPlainBoard b) (lines : Lin
             sym (ap (λ (cs : List PortCall). slice_get (reverse cs) n) (calls_nowhere r high past steps)) ∙ failed in cc)
       ]
 
-  -- so where the same calls of the logs are faults, the same calls failed
+  made-at : (past : List Entry) → IsStepwise b callers asks past → (logs : List (List PortCall)) → AreItsLogs b asks past logs → (r n : ℕ)
+      → HasMade b asks past r n → IsMadeAt logs r n
+  made-at past steps logs called r n made =
+      elim (cases_lt r (length b.roots)) [
+        | inl low ↦ record {
+          log = calls_of b asks past r;
+          here = ap (λ (xs : List (List PortCall)). slice_get xs r) called ∙ listed_at (calls_of b asks past) (length b.roots) r low;
+          low = made;
+        }
+        | inr high ↦ absurd (let none : length (calls_of b asks past r) ≡ 0 =
+            ap (λ (cs : List PortCall). length (reverse cs)) (calls_nowhere r high past steps) in omega (arith, made, none))
+      ]
+
+  -- so where the same calls of the logs are faults, of those that both have, the same calls failed
   pub fail-alike : (past other : List Entry) → IsStepwise b callers asks past → IsStepwise b callers asks other
       → (logs others : List (List PortCall)) → AreItsLogs b asks past logs → AreItsLogs b asks other others → FaultsAlike logs others
       → FailAlike b asks past other
-  fail-alike past other steps steps_too logs others called called_too alike = λ r n. (
-    λ failed. fault_failed other others called_too r n ((alike r n).0 (failed-fault past steps logs called r n failed)),
-    λ failed. fault_failed past logs called r n ((alike r n).1 (failed-fault other steps_too others called_too r n failed)),
-  )
+  fail-alike past other steps steps_too logs others called called_too alike = λ r n made made_too.
+      let same = alike r n (made-at past steps logs called r n made) (made-at other steps_too others called_too r n made_too) in (
+        λ failed. fault_failed other others called_too r n (same.0 (failed-fault past steps logs called r n failed)),
+        λ failed. fault_failed past logs called r n (same.1 (failed-fault other steps_too others called_too r n failed)),
+      )

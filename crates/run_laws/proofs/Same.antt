@@ -29,7 +29,7 @@ same-come told b texts x y logs others states ends counts rises journal other x_
     }
 
 -- a schedule's file names its callers once
-same_words : (file : Files) (name : List ℕ) (callers : ℕ) (h k : HasSchedule file name callers) → h.words ≡ k.words
+pub same_words : (file : Files) (name : List ℕ) (callers : ℕ) (h k : HasSchedule file name callers) → h.words ≡ k.words
 same_words file name callers h k =
     let texts : h.text ≡ k.text = one_text (file name) h.text k.text h.there k.there in
     cc (h.read, k.read, ap (schedule_read callers) texts)

@@ -1,6 +1,6 @@
 -- When the same calls of the ports fail in two runs, that two runs come to the same, the schedule that a run's own steps are, and the
 -- files by which its report is verified.
-use Rattle.std.specs.Prelude.{◌≡◌, ◌↔◌, ℕ, List, length, map, Some}
+use Rattle.std.specs.Prelude.{◌≡◌, ◌<◌, ◌↔◌, ℕ, List, length, map, slice_get, Some}
 use Rattle.i2c_base.specs.declared.entry.Entry.{Entry}
 use Rattle.i2c_base.specs.declared.port.PortCall.{PortCall}
 use Rattle.i2c_base.specs.Board.{BoardView}
@@ -12,9 +12,16 @@ use Rattle.i2c_top.specs.Runs.{HasRun}
 use Rattle.i2c_top.specs.forms.Replays.{Names}
 use Rattle.i2c_top.specs.forms.Verifies.{VerifyNames}
 
--- in two runs' logs the same calls are faults
+-- call n of the log of a root was made
+pub record IsMadeAt (logs : List (List PortCall)) (root n : ℕ) : Type 0 where
+  pub log : List PortCall
+  pub here : slice_get logs root ≡ Some log
+  pub low : n < length log
+
+-- of the calls that both of two runs made, the same are faults in their logs
 abbrev pub FaultsAlike : List (List PortCall) → List (List PortCall) → Type 0
-FaultsAlike logs others = (root n : ℕ) → FaultAt logs root n ↔ FaultAt others root n
+FaultsAlike logs others =
+    (root n : ℕ) → IsMadeAt logs root n → IsMadeAt others root n → FaultAt logs root n ↔ FaultAt others root n
 
 -- two runs come to the same: the bytes of the report, the logs, and the devices left
 pub record ComesToTheSame (x y : List ℕ) (logs others : List (List PortCall)) (states : List TargetState)

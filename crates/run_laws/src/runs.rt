@@ -19,10 +19,12 @@ ghost use Rattle.i2c_top.specs.Checked.{checked_on};
 ghost use Rattle.i2c_top.specs.Files.{Files};
 ghost use Rattle.i2c_top.specs.Runs.{HasRun, HasRunTold, asks_by};
 ghost use Rattle.i2c_top.specs.MapFiles.{HasAtrRun};
+ghost use Rattle.i2c_top.specs.forms.Extras.{ExtraNames, HasExtraReport};
 ghost use Rattle.i2c_top.specs.forms.Generations.{HasSummary};
 ghost use Rattle.i2c_top.specs.forms.Replays.{Names, HasReport};
 ghost use Rattle.i2c_top.specs.forms.Verifies.{HasVerdict};
 ghost use Rattle.journal_check.specs.Faults.{IsVerified};
+ghost use Rattle.i2c_lab.specs.Faults.{HasFailedAsListed, list_row};
 ghost use Rattle.run_laws.specs.Alike.{ComesToTheSame, FaultsAlike, IsTheReplay, beside, steps_of};
 
 use addr_atr::{
@@ -33,8 +35,8 @@ use caller_core::scripts_are_fair;
 use i2c_spec::an_accepted_board_is_a_tree;
 use journal_laws::{a_legal_journal_is_stepwise, a_schedule_has_one_legal_journal};
 
-/// A replay is a function of its files and of which calls of its ports fail. Two runs of one board, scripts and schedule, with the
-/// same calls failing, are the same bytes, whatever is told of their journals: their reports are, and the summaries of a generated
+/// A replay is a function of its files and of which calls of its ports fail. Two runs of one board, scripts and schedule, in which of the
+/// calls that both make the same fail, are the same bytes, whatever is told of their journals: their reports are, and the summaries of a generated
 /// run. They have the same calls on each port and the same devices left.
 ///
 /// Under another schedule others step first, and without one, as in `run`, the order is free. Where other calls fail a message
@@ -54,6 +56,18 @@ pub fn a_replay_has_one_report()
     a_schedule_has_one_legal_journal();
     an_accepted_board_is_a_tree();
     scripts_are_fair();
+}
+
+/// A replay in which the calls fail that a list names is a function of its files, the list among them: two runs of the same files come
+/// to the same bytes, logs and devices.
+///
+/// Each makes its own calls, and that a call failed is said of those alone that it made. A list of more calls may have the same runs.
+pub fn a_run_in_which_listed_calls_fail_is_a_function_of_its_files()
+    ensures { (file : Files) (names : ExtraNames) (x y : List ℕ) (logs others : List (List PortCall)) (states ends : List TargetState)
+        (counts rises : List ℕ) → HasExtraReport list_row file names x logs states counts → HasExtraReport list_row file names y others ends rises
+        → HasFailedAsListed file names logs → HasFailedAsListed file names others → ComesToTheSame x y logs others states ends }
+{
+    a_replay_has_one_report();
 }
 
 /// The steps of a run, whose order is free, are a schedule, and its report is the one that a replay by that schedule has, where
