@@ -1,8 +1,8 @@
 -- A read that is cut off in its address byte, and bus clear after it.
 use Rattle.bus_clear.proofs.Cited.{◌≡◌, ℕ, zero, suc, ◌+◌, Bool, true, false, cond, List, [], ◌∷◌, map, refl, ap, sym, ◌∙◌, arith, subst}
 use Rattle.bus_clear.proofs.Cited.{not, ◌&&◌, Table, Out, Site, Bit, site_of, shifted, value, rise, begin, hears, other, is_named}
-use Rattle.bus_clear.proofs.Cited.{is_reading, stands, some_one, pulls_line, sda, where_joined, stop_site, Mask, Counts, one_edge, one_flip}
-use Rattle.bus_clear.proofs.Cited.{Bus, holds_line, scl_level, sda_level, pulled, bus_of, calling, started, released, rejoin, free}
+use Rattle.bus_clear.proofs.Cited.{is_reading, stands, some_one, pulls_line, sda, where_joined, stop_site, Seen, Level, Started, Stopped}
+use Rattle.bus_clear.proofs.Cited.{Mask, Bus, holds_line, scl_level, sda_level, pulled, bus_of, calling, started, released, rejoin, free}
 use Rattle.bus_clear.proofs.Cited.{map_step, map_map, some_map, no_one, risen, call_sda, call_calm, stays_free, stop_run, MOST_PULSES}
 use Rattle.bus_clear.proofs.Cited.{cut_level, cut_rise, cut_clock, cut_clocks, clearing, clear_pulls, Free, map-id}
 use Rattle.wire_spec.specs.Wires.{finish, called}
@@ -13,18 +13,18 @@ use Rattle.bus_clear.proofs.Clocks.{rise_calm, clock_calm, start_stops, clears_f
 pub record Frees {X : Type 0} (t : Table X) (mask : Mask X) (made : ℕ) (high : Bool) (gs : List (Site X)) (w : Bus X) : Type 0 where
   pub up : scl_level w ≡ true
   pub level : sda_level t w ≡ high
-  pub counts : Counts
-  pub is : clear_pulls t mask w ≡ clearing (Free made) (free (rejoin mask (map (stop_site t) gs)) counts)
+  pub seen : Seen
+  pub is : clear_pulls t mask w ≡ clearing (Free made) (free (rejoin mask (map (stop_site t) gs)) seen)
 
 -- nobody pulls SDA: no pulse is made
-pub frees_at_once : {X : Type 0} (t : Table X) (mask : Mask X) (bs : List (Bit X)) (gs : List (Site X)) (c : Counts)
+pub frees_at_once : {X : Type 0} (t : Table X) (mask : Mask X) (bs : List (Bit X)) (gs : List (Site X)) (c : Seen)
     → map (where_joined begin) bs ≡ map (calling 8 0) gs
     → scl_level (bus_of false false bs c) ≡ true → sda_level t (bus_of false false bs c) ≡ true
     → Frees t mask 0 true gs (bus_of false false bs c)
 frees_at_once t mask bs gs c starts up high = record {
   up = up;
   level = high;
-  counts = one_flip (one_flip c);
+  seen = Stopped ∷ Started ∷ c;
   is =
       clears_from t mask bs c true up high
       ∙ ends_free t mask MOST_PULSES 0 (bus_of false false bs c) _ true refl (start_stops t mask bs gs c starts up high);
@@ -38,27 +38,27 @@ levels_from byte r (suc n) = cut_level byte r ∷ levels_from byte (suc r) n
 -- so much of an address has come in
 pub record Partway {X : Type 0} (ss : List (Site X)) (left v : ℕ) (w : Bus X) : Type 0 where
   pub low : Bool
-  pub counts : Counts
-  pub is : w ≡ bus_of true low (map (calling left v) ss) counts
+  pub seen : Seen
+  pub is : w ≡ bus_of true low (map (calling left v) ss) seen
 
 module _ {X : Type 0} (t : Table X) (mask : Mask X) (ss : List (Site X)) where
-  calls_on : (h low : Bool) (left v : ℕ) (c : Counts)
+  calls_on : (h low : Bool) (left v : ℕ) (c : Seen)
       → cut_clock t mask h (bus_of true low (map (calling (suc (suc left)) v) ss) c)
-      ≡ bus_of true (not h) (map (calling (suc left) (shifted v h)) ss) (one_edge c)
+      ≡ bus_of true (not h) (map (calling (suc left) (shifted v h)) ss) (Level h ∷ c)
   calls_on h low left v c =
       let l : Bool = sda t (map (calling (suc (suc left)) v) ss) h in
       clock_calm t mask h low (map (calling (suc (suc left)) v) ss) c (call_calm t (suc left) v ss h)
-      ∙ (ap (λ bs. bus_of true (not h) bs (one_edge c)) (map_step (calling (suc (suc left)) v) (calling (suc left) (shifted v l)) _
+      ∙ (ap (λ bs. bus_of true (not h) bs (Level l ∷ c)) (map_step (calling (suc (suc left)) v) (calling (suc left) (shifted v l)) _
       (λ s. call_one t left v l s.addr s.joined s.heard s.state) ss)
-      ∙ ap (λ b. bus_of true (not h) (map (calling (suc left) (shifted v b)) ss) (one_edge c)) (call_sda t (suc (suc left)) v ss h))
+      ∙ ap (λ b. bus_of true (not h) (map (calling (suc left) (shifted v b)) ss) (Level b ∷ c)) (call_sda t (suc (suc left)) v ss h))
 
-  pub calls_by : (byte n left all r v : ℕ) (low : Bool) (c : Counts) → all ≡ n + left
+  pub calls_by : (byte n left all r v : ℕ) (low : Bool) (c : Seen) → all ≡ n + left
       → Partway ss (suc left) (value v (levels_from byte r n)) (cut_clocks t mask byte r n (bus_of true low
       (map (calling (suc all) v) ss) c))
   calls_by byte zero left all r v low c is =
       let e : all ≡ left = omega (arith, is) in record {
         low = low;
-        counts = c;
+        seen = c;
         is =
             ap (λ m. bus_of true low (map (calling (suc m) v) ss) c) e;
       }
@@ -66,11 +66,11 @@ module _ {X : Type 0} (t : Table X) (mask : Mask X) (ss : List (Site X)) where
   calls_by byte (suc n) left (suc all) r v low c is =
       let h : Bool = cut_level byte r in
       let p : Partway ss (suc left) (value (shifted v h) (levels_from byte (suc r) n))
-      (cut_clocks t mask byte (suc r) n (bus_of true (not h) (map (calling (suc all) (shifted v h)) ss) (one_edge c))) =
-      calls_by byte n left all (suc r) (shifted v h) (not h) (one_edge c) (omega (arith, is)) in
+      (cut_clocks t mask byte (suc r) n (bus_of true (not h) (map (calling (suc all) (shifted v h)) ss) (Level h ∷ c))) =
+      calls_by byte n left all (suc r) (shifted v h) (not h) (Level h ∷ c) (omega (arith, is)) in
       record {
         low = p.low;
-        counts = p.counts;
+        seen = p.seen;
         is = ap (cut_clocks t mask byte (suc r) n) (calls_on h low all v c) ∙ p.is;
       }
 
@@ -105,26 +105,28 @@ module _ {X : Type 0} (t : Table X) (mask : Mask X) (ss : List (Site X)) where
   eighth_begin v l a false e x = refl
 
   -- what the last rise leaves, where SDA is let go in it
-  module _ (left v : ℕ) (c : Counts) where
+  module _ (left v : ℕ) (c : Seen) where
     abbrev ts : List (Bit X)
     ts = map (calling (suc left) v) ss
 
-    rises_to : (h low : Bool) → cut_rise t mask h (bus_of true low ts c) ≡ bus_of false (not h) (risen t ts h) (one_edge c)
-    rises_to h low = rise_calm t mask h low ts c (call_calm t left v ss h)
+    rises_to : (h low : Bool) → cut_rise t mask h (bus_of true low ts c) ≡ bus_of false (not h) (risen t ts h) (Level h ∷ c)
+    rises_to h low =
+        rise_calm t mask h low ts c (call_calm t left v ss h)
+        ∙ ap (λ l. bus_of false (not h) (risen t ts h) (Level l ∷ c)) (call_sda t (suc left) v ss h)
 
-    up : (h : Bool) → scl_level (bus_of false (not h) (risen t ts h) (one_edge c)) ≡ true
+    up : (h : Bool) → scl_level (bus_of false (not h) (risen t ts h) (Level h ∷ c)) ≡ true
     up h = ap not (call_calm t left v ss h).high
 
-    high_level : sda_level t (bus_of false false (risen t ts true) (one_edge c)) ≡ true
+    high_level : sda_level t (bus_of false false (risen t ts true) (Level true ∷ c)) ≡ true
     high_level = (call_calm t left v ss true).stays ∙ call_sda t (suc left) v ss true
 
     high_frees : (gs : List (Site X)) → map (where_joined begin) (risen t ts true) ≡ map (calling 8 0) gs → (low : Bool)
         → Frees t mask 0 true gs (pulled t mask (cut_rise t mask true (bus_of true low ts c)) false false)
     high_frees gs starts low =
-        let w : Bus X = bus_of false false (risen t ts true) (one_edge c) in
+        let w : Bus X = bus_of false false (risen t ts true) (Level true ∷ c) in
         let e : pulled t mask (cut_rise t mask true (bus_of true low ts c)) false false ≡ w =
-        ap (λ u. pulled t mask u false false) (rises_to true low) ∙ stays_free t mask (risen t ts true) (one_edge c) in
-        subst (Frees t mask 0 true gs) (sym e) (frees_at_once t mask (risen t ts true) gs (one_edge c) starts (up true) high_level)
+        ap (λ u. pulled t mask u false false) (rises_to true low) ∙ stays_free t mask (risen t ts true) (Level true ∷ c) in
+        subst (Frees t mask 0 true gs) (sym e) (frees_at_once t mask (risen t ts true) gs (Level true ∷ c) starts (up true) high_level)
 
   out_begin : (a : ℕ) (j e : Bool) (x : X) → where_joined begin (released (site_of a j e x)) ≡ calling 8 0 (site_of a j e x)
   out_begin a true e x = refl
@@ -139,7 +141,7 @@ module _ {X : Type 0} (t : Table X) (mask : Mask X) (ss : List (Site X)) where
   out_pulls a false e x = refl
 
   -- lines on which all are out of the message
-  pub out_frees : (gs : List (Site X)) (c : Counts) → Frees t mask 0 true gs (bus_of false false (map released gs) c)
+  pub out_frees : (gs : List (Site X)) (c : Seen) → Frees t mask 0 true gs (bus_of false false (map released gs) c)
   out_frees gs c =
       frees_at_once t mask (map released gs) gs c (map_step released (calling 8 0) _ (λ s. out_begin s.addr s.joined s.heard s.state) gs)
       (ap not (some_map released holds_line (λ x. false) (λ s. out_holds s.addr s.joined s.heard s.state) gs ∙ no_one gs))
@@ -151,21 +153,21 @@ module _ {X : Type 0} (t : Table X) (mask : Mask X) (ss : List (Site X)) where
   behind_bit true = ss
   behind_bit false = rejoin mask (map (stop_site t) ss)
 
-  low_falls : (left v : ℕ) (c : Counts) (low : Bool)
+  low_falls : (left v : ℕ) (c : Seen) (low : Bool)
       → pulled t mask (cut_rise t mask false (bus_of true low (map (calling (suc (suc left)) v) ss) c)) false false
-      ≡ bus_of false false (map released (behind_bit false)) (one_flip (one_edge c))
+      ≡ bus_of false false (map released (behind_bit false)) (Stopped ∷ Level false ∷ c)
   low_falls left v c low =
       let us : List (Bit X) = map (calling (suc (suc left)) v) ss in
       let l : Bool = sda t us false in
       let f : Site X → Bit X = λ (s : Site X). where_joined (λ b. rise t b l) (calling (suc (suc left)) v s) in
       let e : risen t us false ≡ map f ss = map_map (calling (suc (suc left)) v) (where_joined (λ b. rise t b l)) ss in
       let quiet : some_one holds_line (map f ss) ≡ false = ap (some_one holds_line) (sym e) ∙ (call_calm t (suc left) v ss false).high in
-      ap (λ u. pulled t mask u false false) (rises_to (suc left) v c false low ∙ ap (λ bs. bus_of false true bs (one_edge c)) e)
-      ∙ (stop_run t mask f (λ (s : Site X). s) ss (one_edge c) (λ s. call_finish left v l s.addr s.joined s.heard s.state) quiet
+      ap (λ u. pulled t mask u false false) (rises_to (suc left) v c false low ∙ ap (λ bs. bus_of false true bs (Level false ∷ c)) e)
+      ∙ (stop_run t mask f (λ (s : Site X). s) ss (Level false ∷ c) (λ s. call_finish left v l s.addr s.joined s.heard s.state) quiet
       (λ s. call_hangs left v l s.addr s.joined s.heard s.state)
-      ∙ ap (λ xs. bus_of false false (map released (rejoin mask (map (stop_site t) xs))) (one_flip (one_edge c))) (map-id ss))
+      ∙ ap (λ xs. bus_of false false (map released (rejoin mask (map (stop_site t) xs))) (Stopped ∷ Level false ∷ c)) (map-id ss))
 
-  bit_frees : (left v : ℕ) (c : Counts) (h low : Bool)
+  bit_frees : (left v : ℕ) (c : Seen) (h low : Bool)
       → Frees t mask 0 true (behind_bit h) (pulled t mask (cut_rise t mask h (bus_of true low (map (calling (suc (suc left)) v) ss) c))
       false false)
   bit_frees left v c true low =
@@ -174,14 +176,15 @@ module _ {X : Type 0} (t : Table X) (mask : Mask X) (ss : List (Site X)) where
       ∙ map_step (λ s. where_joined (λ b. rise t b l) (calling (suc (suc left)) v s)) (calling 8 0) _
       (λ s. call_begin left v l s.addr s.joined s.heard s.state) ss) low
   bit_frees left v c false low =
-      subst (Frees t mask 0 true (behind_bit false)) (sym (low_falls left v c low)) (out_frees (behind_bit false) (one_flip (one_edge c)))
+      subst (Frees t mask 0 true (behind_bit false)) (sym (low_falls left v c low))
+      (out_frees (behind_bit false) (Stopped ∷ Level false ∷ c))
 
   -- after a cut in the first seven bits, and after the eighth, where SDA is let go
   pub seven_frees : (left v : ℕ) (h : Bool) (w : Bus X) → Partway ss (suc (suc left)) v w
       → Frees t mask 0 true (behind_bit h) (pulled t mask (cut_rise t mask h w) false false)
   seven_frees left v h w p =
       subst (λ (u : Bus X). Frees t mask 0 true (behind_bit h) (pulled t mask (cut_rise t mask h u) false false)) (sym p.is)
-      (bit_frees left v p.counts h p.low)
+      (bit_frees left v p.seen h p.low)
 
   pub eight_frees : (v : ℕ) (w : Bus X) → Partway ss 1 v w
       → Frees t mask 0 true (map (started t (shifted v true)) ss) (pulled t mask (cut_rise t mask true w) false false)
@@ -196,4 +199,4 @@ module _ {X : Type 0} (t : Table X) (mask : Mask X) (ss : List (Site X)) where
       ∙ sym (map_map (started t (shifted v true)) (calling 8 0) ss))) in
       subst (λ (u : Bus X). Frees t mask 0 true (map (started t (shifted v true)) ss) (pulled t mask (cut_rise t mask true u) false false))
       (sym p.is)
-      (high_frees 0 v p.counts (map (started t (shifted v true)) ss) starts p.low)
+      (high_frees 0 v p.seen (map (started t (shifted v true)) ss) starts p.low)

@@ -11,15 +11,15 @@ pub use Rattle.i2c_base.specs.Table.{Table}
 pub use Rattle.i2c_spec.specs.Chips.{ChipView, chip_table}
 pub use Rattle.i2c_spec.specs.Targets.{IsFairTable, TargetState, state_table, HoldsBytes, KeepsBytes, IsQuiet}
 pub use Rattle.i2c_spec.specs.World.{is_ack, World, after, answer}
-pub use Rattle.wire_spec.proofs.AckClock.{waiting, wait_bus}
+pub use Rattle.wire_spec.proofs.AckClock.{waiting, wait_bus, seen_by}
 pub use Rattle.wire_spec.proofs.Address.{call_sda}
 pub use Rattle.wire_spec.proofs.Calm.{looks_up, goes_down, sets_data, risen, IsCalm}
-pub use Rattle.wire_spec.proofs.Roots.{map_step, map_map, some_map, no_one}
+pub use Rattle.wire_spec.proofs.Roots.{map_step, map_map, some_map, no_one, free_sda}
 pub use Rattle.wire_spec.proofs.StartClocks.{stays_free, call_calm}
 pub use Rattle.wire_spec.proofs.StartLaws.{released_out}
 pub use Rattle.wire_spec.proofs.Stops.{stop_run}
-pub use Rattle.wire_spec.specs.Bus.{Mask, Counts, one_edge, Bus, Came, holds_line, scl_level, sda_level, each, rises, pulled, await, bus_of}
-pub use Rattle.wire_spec.specs.Bus.{came_up, gave_up, one_flip}
+pub use Rattle.wire_spec.specs.Bus.{Seen, Level, Started, Stopped, Mask, Bus, Came, holds_line, scl_level, sda_level, each, rises}
+pub use Rattle.wire_spec.specs.Bus.{pulled, await, bus_of, came_up, gave_up}
 pub use Rattle.wire_spec.specs.Calls.{released, rejoin, free, STOP_LOOKS, start_pulls}
 pub use Rattle.wire_spec.specs.Roots.{some_one, pulls_line, sda, where_joined, at, stop_site, sent_by, and_all, get_site, hearing}
 pub use Rattle.wire_spec.specs.Sites.{NodeState, node_table, both, AreSites, mask_of}

@@ -2,7 +2,7 @@
 use Rattle.bus_clear.proofs.Cited.{◌≡◌, ℕ, suc, ◌+◌, ◌-◌, ◌*◌, ◌/◌, ◌%◌, ◌<◌, ◌≤◌, Bool, true, false, cond, List, [], ◌∷◌, map, refl, ap}
 use Rattle.bus_clear.proofs.Cited.{sym, ◌∙◌, arith, subst, ◌&&◌, ◌==◌, nat_lt, if◌then◌else◌, AllByRecursion, nat_tests, IsByte, BoardView}
 use Rattle.bus_clear.proofs.Cited.{Table, ChipView, chip_table, TargetState, state_table, HoldsBytes, KeepsBytes, IsFairTable, World, after}
-use Rattle.bus_clear.proofs.Cited.{answer, is_ack, Site, bit, is_reading, tick, some_one, sent_by, and_all, get_site, stop_site, Counts}
+use Rattle.bus_clear.proofs.Cited.{answer, is_ack, Site, bit, is_reading, tick, some_one, sent_by, and_all, get_site, stop_site, Seen}
 use Rattle.bus_clear.proofs.Cited.{Bus, Mask, scl_level, sda_level, each, rises, started, answers_so, free, rejoin, NodeState, node_table}
 use Rattle.bus_clear.proofs.Cited.{both, AreSites, mask_of, PartsOfBoth, StartOnSites, GetOnSites, StopOnSites, Rooted, IsFree, chips_on}
 use Rattle.bus_clear.proofs.Cited.{devices_on, world_at, MOST_PULSES, IsQuietWorld, level_by, level_at, low_rises, pulses_of, is_heard}
@@ -117,16 +117,16 @@ module _ (parts : (cs : List (Site ChipView)) (ds : List (Site TargetState)) →
   acked = some_one (answers_so node_table is_ack (byte / 2) (is_reading byte)) ss
 
   abbrev Freed : Bool → Type 0
-  Freed heard = FreesAt node_table fair mask byte fits (odd_of addr) ss w.counts heard cut
+  Freed heard = FreesAt node_table fair mask byte fits (odd_of addr) ss w.seen heard cut
 
   frees_by : (s a : Bool) → slow ≡ s → acked ≡ a → Freed (is_ack (answer_by s a))
   frees_by true a is took =
-      frees_unheard node_table fair mask byte fits (odd_of addr) ss w.counts holds true (slow_all node_table fair byte ss ∙ is)
+      frees_unheard node_table fair mask byte fits (odd_of addr) ss w.seen holds true (slow_all node_table fair byte ss ∙ is)
       (λ p. cc) (λ p. cc) cut some few
   frees_by false true is took =
-      frees_heard node_table fair mask byte fits (odd_of addr) ss w.counts (slow_all node_table fair byte ss ∙ is) took cut some few
+      frees_heard node_table fair mask byte fits (odd_of addr) ss w.seen (slow_all node_table fair byte ss ∙ is) took cut some few
   frees_by false false is took =
-      frees_unheard node_table fair mask byte fits (odd_of addr) ss w.counts holds false (slow_all node_table fair byte ss ∙ is)
+      frees_unheard node_table fair mask byte fits (odd_of addr) ss w.seen holds false (slow_all node_table fair byte ss ∙ is)
       (λ p. took) (λ p. unheard_all node_table byte ss is took) cut some few
 
   heard_is : is_ack (answer_by slow acked) ≡ is_heard world addr
@@ -145,7 +145,7 @@ module _ (parts : (cs : List (Site ChipView)) (ds : List (Site TargetState)) →
 
   -- the byte that the targets send
   abbrev sent : ℕ
-  sent = byte_sent node_table fair mask byte fits (odd_of addr) ss w.counts
+  sent = byte_sent node_table fair mask byte fits (odd_of addr) ss w.seen
 
   sent_is : sent ≡ given_byte world addr
   sent_is =
@@ -174,14 +174,14 @@ module _ (parts : (cs : List (Site ChipView)) (ds : List (Site TargetState)) →
   got false = begun
 
   abbrev sites : List (Site NodeState)
-  sites = sites_at node_table fair mask byte fits (odd_of addr) ss w.counts heard cut
+  sites = sites_at node_table fair mask byte fits (odd_of addr) ss w.seen heard cut
 
   abbrev last : Bool
   last = heard && (cut + pulses == 18)
 
   -- after the stop
   abbrev Ends : List (Site NodeState) → World → Type 0
-  Ends gs v = (u : Bus NodeState) (c : Counts) → u ≡ free (rejoin mask (map (stop_site node_table) gs)) c → Left k u v
+  Ends gs v = (u : Bus NodeState) (c : Seen) → u ≡ free (rejoin mask (map (stop_site node_table) gs)) c → Left k u v
 
   ends : (gs : List (Site NodeState)) (v : World) → Found k gs v → Ends gs (after v call.Stop)
   ends gs v f u c is = left_by parts keeps fair_chips fair_devices stops_on k gs v f u c is
@@ -225,7 +225,7 @@ module _ (parts : (cs : List (Site ChipView)) (ds : List (Site TargetState)) →
   module _ (k2 : Rooted) (so : k2 ≡ k) (w1 w2 w3 : Bus NodeState) (high : Bool) (a : Cleared)
       (cuts : w1 ≡ cut_pulls the_table (mask_at k) byte cut w) (seen : high ≡ sda_level the_table w1) (looks : w2 ≡ looked the_table w1)
       (clears : clearing a w3 ≡ clear_pulls the_table (mask_at k2) w2) where
-    at_cut : w1 ≡ cut_pulls node_table mask byte cut (free ss w.counts)
+    at_cut : w1 ≡ cut_pulls node_table mask byte cut (free ss w.seen)
     unfolding the_table mask_at
     at_cut = cuts ∙ ap (cut_pulls node_table mask byte cut) is_free.lines
 
@@ -233,7 +233,7 @@ module _ (parts : (cs : List (Site ChipView)) (ds : List (Site TargetState)) →
     unfolding the_table
     looked_is = looks ∙ look_stays node_table w1 (ap scl_level at_cut ∙ freed.up)
 
-    all_is : clearing a w3 ≡ clearing (Free pulses) (free (rejoin mask (map (stop_site node_table) sites)) freed.counts)
+    all_is : clearing a w3 ≡ clearing (Free pulses) (free (rejoin mask (map (stop_site node_table) sites)) freed.seen)
     unfolding the_table mask_at
     all_is =
         clears
@@ -247,7 +247,7 @@ module _ (parts : (cs : List (Site ChipView)) (ds : List (Site TargetState)) →
 
     clear_told : ClearIs k addr cut a w w3
     clear_told =
-        let l : Left k w3 (cleared_world world addr cut) = left w3 freed.counts (ap (λ (x : Clearing NodeState). x.bus) all_is) in
+        let l : Left k w3 (cleared_world world addr cut) = left w3 freed.seen (ap (λ (x : Clearing NodeState). x.bus) all_is) in
         record {
           answer = ap (λ (x : Clearing NodeState). x.answer) all_is ∙ ap Free pulses_are;
           few = low_most (level_at world addr) MOST_PULSES cut;

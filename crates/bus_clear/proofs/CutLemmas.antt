@@ -1,12 +1,12 @@
 -- A read that is cut off at each of its rises, and bus clear after it, on targets of any fair table.
-use Rattle.bus_clear.proofs.Cited.{◌≡◌, ℕ, zero, suc, ◌+◌, ◌-◌, ◌/◌, ◌%◌, ◌<◌, ◌≤◌, Bool, true, false, cond, List, map, refl, ap, sym, ◌∙◌}
-use Rattle.bus_clear.proofs.Cited.{arith, subst, not, ◌&&◌, ◌==◌, nat_lt, AllByRecursion, nat_tests, IsByte, Table, IsFairTable, is_ack}
-use Rattle.bus_clear.proofs.Cited.{Give, Site, Bit, site_of, shifted, value, bit, rise, fall, is_reading, some_one, hearing, pulls_line}
-use Rattle.bus_clear.proofs.Cited.{sda, where_joined, at, sent_by, and_all, get_site, stop_site, Mask, Counts, one_edge, one_flip, Bus}
-use Rattle.bus_clear.proofs.Cited.{holds_line, scl_level, sda_level, pulled, bus_of, calling, started, stays, answers_so, released, rejoin}
-use Rattle.bus_clear.proofs.Cited.{free, start_pulls, map_step, some_map, no_one, IsCalm, risen, goes_down, call_sda, waiting, wait_bus}
-use Rattle.bus_clear.proofs.Cited.{call_calm, stays_free, released_out, MOST_PULSES, level_by, low_rises, cut_level, cut_rise, cut_clocks}
-use Rattle.bus_clear.proofs.Cited.{clearing, Free}
+use Rattle.bus_clear.proofs.Cited.{◌≡◌, ℕ, zero, suc, ◌+◌, ◌-◌, ◌/◌, ◌%◌, ◌<◌, ◌≤◌, Bool, true, false, cond, List, ◌∷◌, map, refl, ap, sym}
+use Rattle.bus_clear.proofs.Cited.{◌∙◌, arith, subst, not, ◌&&◌, ◌==◌, nat_lt, AllByRecursion, nat_tests, IsByte, Table, IsFairTable}
+use Rattle.bus_clear.proofs.Cited.{is_ack, Give, Site, Bit, site_of, shifted, value, bit, rise, fall, is_reading, some_one, hearing}
+use Rattle.bus_clear.proofs.Cited.{pulls_line, sda, where_joined, at, sent_by, and_all, get_site, stop_site, Seen, Level, Started, Mask}
+use Rattle.bus_clear.proofs.Cited.{Bus, holds_line, scl_level, sda_level, pulled, bus_of, calling, started, stays, answers_so, released}
+use Rattle.bus_clear.proofs.Cited.{rejoin, free, start_pulls, map_step, some_map, no_one, free_sda, IsCalm, risen, goes_down, call_sda}
+use Rattle.bus_clear.proofs.Cited.{waiting, wait_bus, call_calm, stays_free, released_out, MOST_PULSES, level_by, low_rises, cut_level}
+use Rattle.bus_clear.proofs.Cited.{cut_rise, cut_clocks, clearing, Free}
 use Rattle.std.proofs.Common.{◌^◌}
 use Rattle.wire_spec.proofs.Rests.{calm_by}
 use Rattle.wire_spec.proofs.Address.{call_last}
@@ -15,12 +15,12 @@ use Rattle.wire_spec.proofs.Repeats.{free_start}
 use Rattle.wire_spec.proofs.ByteLaws.{bits_are}
 use Rattle.bus_clear.specs.Pulls.{cut_clock, cut_off, cut_pulls}
 use Rattle.bus_clear.proofs.Clocks.{rise_calm, clock_calm, clears_from, pulses_on}
-use Rattle.bus_clear.proofs.DataLemmas.{bit_left, lows, where_high, high_counts, giving, given, given_level, given_up, rise_on, clock_on}
+use Rattle.bus_clear.proofs.DataLemmas.{bit_left, lows, where_high, high_seen, giving, given, given_level, given_up, rise_on, clock_on}
 use Rattle.bus_clear.proofs.DataLemmas.{pulse_to, clears_by}
 use Rattle.bus_clear.proofs.AddressLemmas.{Frees, Partway, levels_from, calls_by, seven_frees, eight_frees, out_frees, behind_bit}
 use Rattle.bus_clear.proofs.AckLemmas.{InTime, OutOn, ninth_in_time, ninth_too_late, still, in_time_up, in_time_level, in_time_frees}
 use Rattle.bus_clear.proofs.AckLemmas.{in_time_falls}
-use Rattle.wire_spec.proofs.LiveLemmas.{out_rises, out_holds, out_falls}
+use Rattle.wire_spec.proofs.LiveLemmas.{out_rises, out_holds, out_falls, out_pulls}
 
 -- after the eighth rise the controller lets SDA go
 free_level : (byte r : ℕ) → 8 < r → cut_level byte r ≡ true
@@ -38,49 +38,55 @@ module _ {X : Type 0} (t : Table X) (mask : Mask X) (gs : List (Site X)) where
       (λ s l. ap holds_line (out_rises t l s.addr s.joined s.heard s.state) ∙ out_holds s.addr s.joined s.heard s.state)
       (λ s l. ap (pulls_line t) (out_rises t l s.addr s.joined s.heard s.state))
 
-  out_on : (low : Bool) (c : Counts) → cut_clock t mask true (bus_of true low (map released gs) c) ≡ bus_of true false (map released gs)
-      (one_edge c)
+  -- nobody pulls SDA
+  out_sda : sda t (map released gs) true ≡ true
+  out_sda = free_sda t released (λ s. out_pulls t s.addr s.joined s.heard s.state) gs true
+
+  out_on : (low : Bool) (c : Seen)
+      → cut_clock t mask true (bus_of true low (map released gs) c) ≡ bus_of true false (map released gs) (Level true ∷ c)
   out_on low c =
       let l : Bool = sda t (map released gs) true in
       clock_calm t mask true low (map released gs) c out_calm
-      ∙ ap (λ bs. bus_of true false bs (one_edge c))
+      ∙ (ap (λ bs. bus_of true false bs (Level l ∷ c))
       (map_step released released _ (λ s. out_clock t l s.addr s.joined s.heard s.state) gs)
+      ∙ ap (λ k. bus_of true false (map released gs) (Level k ∷ c)) out_sda)
 
-  out_rise : (low : Bool) (c : Counts) → cut_rise t mask true (bus_of true low (map released gs) c) ≡ bus_of false false (map released gs)
-      (one_edge c)
+  out_rise : (low : Bool) (c : Seen)
+      → cut_rise t mask true (bus_of true low (map released gs) c) ≡ bus_of false false (map released gs) (Level true ∷ c)
   out_rise low c =
       let l : Bool = sda t (map released gs) true in
       rise_calm t mask true low (map released gs) c out_calm
-      ∙ ap (λ bs. bus_of false false bs (one_edge c))
+      ∙ (ap (λ bs. bus_of false false bs (Level l ∷ c))
       (map_step released released _ (λ s. out_rises t l s.addr s.joined s.heard s.state) gs)
+      ∙ ap (λ k. bus_of false false (map released gs) (Level k ∷ c)) out_sda)
 
-  out_fall : (c : Counts) → pulled t mask (bus_of false false (map released gs) c) true false ≡ bus_of true false (map released gs) c
+  out_fall : (c : Seen) → pulled t mask (bus_of false false (map released gs) c) true false ≡ bus_of true false (map released gs) c
   out_fall c =
       goes_down t mask (bus_of false false (map released gs) c) false
       (ap not (some_map released holds_line (λ x. false) (λ s. out_holds s.addr s.joined s.heard s.state) gs ∙ no_one gs))
       ∙ ap (λ bs. bus_of true false bs c) (map_step released released _ (λ s. out_falls s.addr s.joined s.heard s.state) gs)
 
   -- clocks go on where nobody has heard
-  outs_on : (byte r n : ℕ) (c : Counts) → 8 < r → (d : Counts) × (cut_clocks t mask byte r n
+  outs_on : (byte r n : ℕ) (c : Seen) → 8 < r → (d : Seen) × (cut_clocks t mask byte r n
       (bus_of true false (map released gs) c) ≡ bus_of true false (map released gs) d)
   outs_on byte r zero c lt = (c, refl)
   outs_on byte r (suc n) c lt =
-      let p = outs_on byte (suc r) n (one_edge c) (omega (arith, lt)) in (
+      let p = outs_on byte (suc r) n (Level true ∷ c) (omega (arith, lt)) in (
         p.0,
         ap (λ h. cut_clocks t mask byte (suc r) n (cut_clock t mask h (bus_of true false (map released gs) c))) (free_level byte r lt)
             ∙ (ap (cut_clocks t mask byte (suc r) n) (out_on false c) ∙ p.1),
       )
 
-  pub outs_free : (byte r n last : ℕ) (c : Counts) → 8 < r → 8 < last
+  pub outs_free : (byte r n last : ℕ) (c : Seen) → 8 < r → 8 < last
       → Frees t mask 0 true gs (cut_off t mask byte last (cut_clocks t mask byte r n (bus_of true false (map released gs) c)))
   outs_free byte r n last c lt more =
       let p = outs_on byte r n c lt in
       let e : cut_off t mask byte last (cut_clocks t mask byte r n (bus_of true false (map released gs) c)) ≡ bus_of false false
-      (map released gs) (one_edge p.0) =
+      (map released gs) (Level true ∷ p.0) =
       ap (cut_off t mask byte last) p.1
       ∙ (ap (λ h. pulled t mask (cut_rise t mask h (bus_of true false (map released gs) p.0)) false false) (free_level byte last more)
-      ∙ (ap (λ u. pulled t mask u false false) (out_rise false p.0) ∙ stays_free t mask (map released gs) (one_edge p.0))) in
-      subst (Frees t mask 0 true gs) (sym e) (out_frees t mask gs gs (one_edge p.0))
+      ∙ (ap (λ u. pulled t mask u false false) (out_rise false p.0) ∙ stays_free t mask (map released gs) (Level true ∷ p.0))) in
+      subst (Frees t mask 0 true gs) (sym e) (out_frees t mask gs gs (Level true ∷ p.0))
 
 by_one : (n : ℕ) → n / 2 ^ 0 ≡ n
 by_one n = omega arith
@@ -96,40 +102,42 @@ none_more n = omega arith
 
 -- ---- the data of a byte that is heard
 module _ {X : Type 0} (t : Table X) (mask : Mask X) (gs : List (Site X)) where
-  data_on : (byte r n k all : ℕ) (c : Counts) → all ≡ n + k → 8 < r
-      → (d : Counts) × (cut_clocks t mask byte r n (giving t mask gs all c) ≡ giving t mask gs k d)
-  data_on byte r zero k all c is lt = let e : all ≡ k = omega (arith, is) in (c, ap (λ m. giving t mask gs m c) e)
-  data_on byte r (suc n) k zero c is lt = absurd (omega (arith, is))
-  data_on byte r (suc n) k (suc all) c is lt =
-      let p = data_on byte (suc r) n k all (one_edge c) (omega (arith, is)) (omega (arith, lt)) in (
+  data_on : (byte r n k all : ℕ) (c : Seen) → all ≡ n + k → all ≤ 8 → 8 < r
+      → (d : Seen) × (cut_clocks t mask byte r n (giving t mask gs all c) ≡ giving t mask gs k d)
+  data_on byte r zero k all c is few lt = let e : all ≡ k = omega (arith, is) in (c, ap (λ m. giving t mask gs m c) e)
+  data_on byte r (suc n) k zero c is few lt = absurd (omega (arith, is))
+  data_on byte r (suc n) k (suc all) c is few lt =
+      let d : Seen = Level (bit_left t mask gs (suc all)) ∷ c in
+      let p = data_on byte (suc r) n k all d (omega (arith, is)) (omega (arith, few)) (omega (arith, lt)) in (
         p.0,
         ap (λ h. cut_clocks t mask byte (suc r) n (cut_clock t mask h (giving t mask gs (suc all) c))) (free_level byte r lt)
-            ∙ (ap (cut_clocks t mask byte (suc r) n) (clock_on t mask gs all false c) ∙ p.1),
+            ∙ (ap (cut_clocks t mask byte (suc r) n) (clock_on t mask gs all false c few) ∙ p.1),
       )
 
-  pub data_frees : (byte r n k last : ℕ) (c : Counts) → 8 ≡ n + k → k ≤ 8 → 8 < r → 8 < last
+  pub data_frees : (byte r n k last : ℕ) (c : Seen) → 8 ≡ n + k → k ≤ 8 → 8 < r → 8 < last
       → Frees t mask (lows t mask gs k) (bit_left t mask gs k) (where_high t mask gs k)
       (cut_off t mask byte last (cut_clocks t mask byte r n (giving t mask gs 8 c)))
   data_frees byte r n k last c is few lt more =
-      let p = data_on byte r n k 8 c is lt in
-      let w : Bus X = given t mask gs k (one_edge p.0) in
+      let p = data_on byte r n k 8 c is (omega arith) lt in
+      let d : Seen = Level (bit_left t mask gs k) ∷ p.0 in
+      let w : Bus X = given t mask gs k d in
       let e : cut_off t mask byte last (cut_clocks t mask byte r n (giving t mask gs 8 c)) ≡ w =
       ap (cut_off t mask byte last) p.1
       ∙ (ap (λ h. pulled t mask (cut_rise t mask h (giving t mask gs k p.0)) false false) (free_level byte last more)
-      ∙ (ap (λ u. pulled t mask u false false) (rise_on t mask gs k false p.0)
-      ∙ stays_free t mask (risen t (map (at (Give k)) gs) true) (one_edge p.0))) in
+      ∙ (ap (λ u. pulled t mask u false false) (rise_on t mask gs k false p.0 few)
+      ∙ stays_free t mask (risen t (map (at (Give k)) gs) true) d)) in
       subst (Frees t mask (lows t mask gs k) (bit_left t mask gs k) (where_high t mask gs k)) (sym e)
       (record {
-        up = given_up t mask gs k (one_edge p.0);
-        level = given_level t mask gs k (one_edge p.0) few;
-        counts = high_counts t mask gs k (one_edge p.0);
+        up = given_up t mask gs k d;
+        level = given_level t mask gs k d few;
+        seen = high_seen t mask gs k d;
         is =
-            clears_from t mask (risen t (map (at (Give k)) gs) true) (one_edge p.0) (bit_left t mask gs k)
-            (given_up t mask gs k (one_edge p.0))
-            (given_level t mask gs k (one_edge p.0) few)
-            ∙ (clears_by t mask gs k MOST_PULSES 0 (one_edge p.0) (omega (arith, few)) few (bit_left t mask gs k) refl
+            clears_from t mask (risen t (map (at (Give k)) gs) true) d (bit_left t mask gs k)
+            (given_up t mask gs k d)
+            (given_level t mask gs k d few)
+            ∙ (clears_by t mask gs k MOST_PULSES 0 d (omega (arith, few)) few (bit_left t mask gs k) refl
             ∙ ap (λ m. clearing (Free m) (free (rejoin mask (map (stop_site t) (where_high t mask gs k)))
-            (high_counts t mask gs k (one_edge p.0))))
+            (high_seen t mask gs k d)))
             (none_more (lows t mask gs k)));
       })
 
@@ -168,13 +176,13 @@ low_most level (suc n) r = low_by (level r) (low_rises level n (suc r)) n (low_m
 
 -- ---- all rises of a read with this address byte
 module _ {X : Type 0} (t : Table X) (fair : IsFairTable t) (mask : Mask X) (byte : ℕ) (lt : byte < 256) (reads : is_reading byte ≡ true)
-    (ss : List (Site X)) (c : Counts) where
+    (ss : List (Site X)) (c : Seen) where
   -- the sites after the start
   abbrev pub begun : List (Site X)
   begun = map (started t byte) ss
 
   abbrev start : Bus X
-  start = bus_of true true (map (calling 8 0) ss) (one_flip c)
+  start = bus_of true true (map (calling 8 0) ss) (Started ∷ c)
 
   starts : start_pulls t mask (free ss c) ≡ start
   starts = free_start t mask ss c
@@ -184,13 +192,13 @@ module _ {X : Type 0} (t : Table X) (fair : IsFairTable t) (mask : Mask X) (byte
       (cut_clocks t mask byte 1 n (start_pulls t mask (free ss c)))
   comes n left is =
       subst (λ (u : Bus X). Partway ss (suc left) (value 0 (levels_from byte 1 n)) (cut_clocks t mask byte 1 n u)) (sym starts)
-      (calls_by t mask ss byte n left 7 1 0 true (one_flip c) is)
+      (calls_by t mask ss byte n left 7 1 0 true (Started ∷ c) is)
 
   -- after the eighth clock all wait for the ninth
   record Waits (w : Bus X) : Type 0 where
     low : Bool
-    counts : Counts
-    is : w ≡ bus_of true low (map (waiting t byte 65 0) ss) counts
+    seen : Seen
+    is : w ≡ bus_of true low (map (waiting t byte 65 0) ss) seen
 
   whole : value 0 (levels_from byte 1 8) ≡ byte
   whole = bits_are byte lt
@@ -204,14 +212,14 @@ module _ {X : Type 0} (t : Table X) (fair : IsFairTable t) (mask : Mask X) (byte
       let l : Bool = sda t us h in
       record {
         low = not h;
-        counts = one_edge p.counts;
+        seen = Level h ∷ p.seen;
         is =
             ap (cut_clock t mask h) p.is
-            ∙ (clock_calm t mask h p.low us p.counts (call_calm t 0 v ss h)
-            ∙ (ap (λ bs. bus_of true (not h) bs (one_edge p.counts))
+            ∙ (clock_calm t mask h p.low us p.seen (call_calm t 0 v ss h)
+            ∙ (ap (λ bs. bus_of true (not h) bs (Level l ∷ p.seen))
             (map_step (calling 1 v) (waiting t (shifted v l) 65 0) _ (λ s. call_last t v l s.addr s.joined s.heard s.state) ss)
-            ∙ (ap (λ b. bus_of true (not h) (map (waiting t (shifted v b) 65 0) ss) (one_edge p.counts)) (call_sda t 1 v ss h)
-            ∙ ap (λ n. bus_of true (not h) (map (waiting t n 65 0) ss) (one_edge p.counts)) whole)));
+            ∙ (ap (λ b. bus_of true (not h) (map (waiting t (shifted v b) 65 0) ss) (Level b ∷ p.seen)) (call_sda t 1 v ss h)
+            ∙ ap (λ n. bus_of true (not h) (map (waiting t n 65 0) ss) (Level h ∷ p.seen)) whole)));
       }
 
   abbrev ninth : Bus X
@@ -220,25 +228,25 @@ module _ {X : Type 0} (t : Table X) (fair : IsFairTable t) (mask : Mask X) (byte
   in_time : some_one (stays t byte 64) ss ≡ false → InTime t byte ss ninth
   in_time quick =
       subst (λ (u : Bus X). InTime t byte ss (cut_rise t mask true u)) (sym eighth.is)
-      (ninth_in_time t byte ss mask eighth.low eighth.counts quick)
+      (ninth_in_time t byte ss mask eighth.low eighth.seen quick)
 
   too_late : AllByRecursion (λ (s : Site X). IsByte (t.hold s.state)) ss → some_one (stays t byte 64) ss ≡ true → OutOn begun ninth
   too_late all slow =
       subst (λ (u : Bus X). OutOn begun (cut_rise t mask true u)) (sym eighth.is)
-      (ninth_too_late t mask byte ss eighth.low eighth.counts all slow)
+      (ninth_too_late t mask byte ss eighth.low eighth.seen all slow)
 
   -- the lines after the ninth clock
   abbrev behind : Bus X
   behind = cut_clock t mask true (cut_clocks t mask byte 1 8 (start_pulls t mask (free ss c)))
 
-  behind_is : (us : List (Bit X)) (d : Counts) → pulled t mask ninth true false ≡ bus_of true false us d → behind ≡ bus_of true false us d
+  behind_is : (us : List (Bit X)) (d : Seen) → pulled t mask ninth true false ≡ bus_of true false us d → behind ≡ bus_of true false us d
   unfolding cut_clock
   behind_is us d e = e
 
   -- it is heard: in time, and acknowledged
   module _ (quick : some_one (stays t byte 64) ss ≡ false) (acked : some_one (answers_so t is_ack (byte / 2) (is_reading byte)) ss
       ≡ true) where
-    falls : pulled t mask ninth true false ≡ giving t mask begun 8 (in_time quick).counts
+    falls : pulled t mask ninth true false ≡ giving t mask begun 8 (in_time quick).seen
     falls = in_time_falls t byte ss fair mask ninth (in_time quick) quick reads
 
     low_level : sda_level t ninth ≡ false
@@ -248,21 +256,22 @@ module _ {X : Type 0} (t : Table X) (fair : IsFairTable t) (mask : Mask X) (byte
     heard_ninth =
         let i : InTime t byte ss ninth = in_time quick in
         let bs : List (Bit X) = map (waiting t byte i.left i.made) ss in
-        let w : Bus X = wait_bus t byte i.left i.made ss i.counts in
-        let fell : pulled t mask w true false ≡ giving t mask begun 8 i.counts = ap (λ u. pulled t mask u true false) (sym i.is) ∙ falls in
+        let w : Bus X = wait_bus t byte i.left i.made ss i.seen in
+        let d : Seen = Level (bit_left t mask begun 8) ∷ i.seen in
+        let fell : pulled t mask w true false ≡ giving t mask begun 8 i.seen = ap (λ u. pulled t mask u true false) (sym i.is) ∙ falls in
         subst (Frees t mask (suc (lows t mask begun 8)) false (where_high t mask begun 8)) (sym (still t byte ss mask ninth i ∙ i.is))
         (record {
           up = ap scl_level (sym i.is) ∙ in_time_up t byte ss ninth i;
           level = ap (sda_level t) (sym i.is) ∙ low_level;
-          counts = high_counts t mask begun 8 (one_edge i.counts);
+          seen = high_seen t mask begun 8 d;
           is =
-              clears_from t mask bs i.counts false (ap scl_level (sym i.is) ∙ in_time_up t byte ss ninth i)
+              clears_from t mask bs i.seen false (ap scl_level (sym i.is) ∙ in_time_up t byte ss ninth i)
               (ap (sda_level t) (sym i.is) ∙ low_level)
-              ∙ (pulses_on t mask 8 0 w (given t mask begun 8 (one_edge i.counts)) (bit_left t mask begun 8)
-              (pulse_to t mask begun 8 w i.counts (omega arith) fell)
-              ∙ (clears_by t mask begun 8 8 1 (one_edge i.counts) (omega arith) (omega arith) (bit_left t mask begun 8) refl
+              ∙ (pulses_on t mask 8 0 w (given t mask begun 8 d) (bit_left t mask begun 8)
+              (pulse_to t mask begun 8 w i.seen (omega arith) fell)
+              ∙ (clears_by t mask begun 8 8 1 d (omega arith) (omega arith) (bit_left t mask begun 8) refl
               ∙ ap (λ m. clearing (Free m) (free (rejoin mask (map (stop_site t) (where_high t mask begun 8)))
-              (high_counts t mask begun 8 (one_edge i.counts))))
+              (high_seen t mask begun 8 d)))
               (one_more (lows t mask begun 8))));
         })
 
@@ -270,7 +279,7 @@ module _ {X : Type 0} (t : Table X) (fair : IsFairTable t) (mask : Mask X) (byte
         → Frees t mask (lows t mask begun k) (bit_left t mask begun k) (where_high t mask begun k)
         (cut_off t mask byte last (cut_clocks t mask byte 10 n behind))
     heard_data n k last is few more =
-        let d : Counts = (in_time quick).counts in
+        let d : Seen = (in_time quick).seen in
         subst (λ (u : Bus X). Frees t mask (lows t mask begun k) (bit_left t mask begun k) (where_high t mask begun k)
         (cut_off t mask byte last (cut_clocks t mask byte 10 n u))) (sym (behind_is (map (at (Give 8)) begun) d falls))
         (data_frees t mask begun byte 10 n k last d is few (omega arith) more)
@@ -284,23 +293,23 @@ module _ {X : Type 0} (t : Table X) (fair : IsFairTable t) (mask : Mask X) (byte
       subst (Frees t mask 0 true begun) (sym (still t byte ss mask ninth i)) (in_time_frees t byte ss mask ninth i (none refl))
   unheard_ninth all true is none =
       let o : OutOn begun ninth = too_late all is in
-      let e : pulled t mask ninth false false ≡ bus_of false false (map released begun) o.counts =
-      ap (λ u. pulled t mask u false false) o.is ∙ stays_free t mask (map released begun) o.counts in
-      subst (Frees t mask 0 true begun) (sym e) (out_frees t mask begun begun o.counts)
+      let e : pulled t mask ninth false false ≡ bus_of false false (map released begun) o.seen =
+      ap (λ u. pulled t mask u false false) o.is ∙ stays_free t mask (map released begun) o.seen in
+      subst (Frees t mask 0 true begun) (sym e) (out_frees t mask begun begun o.seen)
 
   unheard_behind : AllByRecursion (λ (s : Site X). IsByte (t.hold s.state)) ss → (slow : Bool) → some_one (stays t byte 64) ss ≡ slow
       → (slow ≡ false → some_one hearing begun ≡ false)
-      → (d : Counts) × (behind ≡ bus_of true false (map released begun) d)
+      → (d : Seen) × (behind ≡ bus_of true false (map released begun) d)
   unheard_behind all false is none =
       let i : InTime t byte ss ninth = in_time is in (
-        i.counts,
-        behind_is (map released begun) i.counts
+        i.seen,
+        behind_is (map released begun) i.seen
             (in_time_falls t byte ss fair mask ninth i is reads
-            ∙ ap (λ bs. bus_of true false bs i.counts) (all_out (Give 8) begun (none refl) ∙ sym (released_out begun))),
+            ∙ ap (λ bs. bus_of true false bs i.seen) (all_out (Give 8) begun (none refl) ∙ sym (released_out begun))),
       )
   unheard_behind all true is none =
       let o : OutOn begun ninth = too_late all is in
-      (o.counts, behind_is (map released begun) o.counts (ap (λ u. pulled t mask u true false) o.is ∙ out_fall t mask begun o.counts))
+      (o.seen, behind_is (map released begun) o.seen (ap (λ u. pulled t mask u true false) o.is ∙ out_fall t mask begun o.seen))
 
   unheard_data : AllByRecursion (λ (s : Site X). IsByte (t.hold s.state)) ss → (slow : Bool) → some_one (stays t byte 64) ss ≡ slow
       → (slow ≡ false → some_one hearing begun ≡ false) → (n last : ℕ) → 8 < last

@@ -1,10 +1,10 @@
 -- A read that is cut off in its data, by the mode of its targets, and bus clear after it.
-use Rattle.bus_clear.proofs.Cited.{◌≡◌, ℕ, zero, suc, ◌+◌, ◌≤◌, Bool, true, false, cond, List, map, refl, ap, sym, ◌∙◌, arith, not, Table}
-use Rattle.bus_clear.proofs.Cited.{Give, Site, site_of, shifted, bit, rise, begin, sda, where_joined, at, sent_by, and_all, get_site}
-use Rattle.bus_clear.proofs.Cited.{stop_site, Mask, Counts, one_edge, one_flip, Bus, scl_level, sda_level, pulled, bus_of, came_up, calling}
-use Rattle.bus_clear.proofs.Cited.{rejoin, free, map_step, map_map, risen, cut_rise, cut_clock, start_stop, Clearing, clearing, clear_from}
-use Rattle.bus_clear.proofs.Cited.{Free}
-use Rattle.wire_spec.proofs.Roots.{give_step, give_sda, free_sda, give_quiet}
+use Rattle.bus_clear.proofs.Cited.{◌≡◌, ℕ, zero, suc, ◌+◌, ◌≤◌, Bool, true, false, cond, List, ◌∷◌, map, refl, ap, sym, ◌∙◌, arith, not}
+use Rattle.bus_clear.proofs.Cited.{Table, Give, Site, site_of, shifted, bit, rise, begin, sda, where_joined, at, sent_by, and_all, get_site}
+use Rattle.bus_clear.proofs.Cited.{stop_site, Seen, Level, Started, Stopped, Mask, Bus, scl_level, sda_level, pulled, bus_of, came_up}
+use Rattle.bus_clear.proofs.Cited.{calling, rejoin, free, map_step, map_map, free_sda, risen, cut_rise, cut_clock, start_stop, Clearing}
+use Rattle.bus_clear.proofs.Cited.{clearing, clear_from, Free}
+use Rattle.wire_spec.proofs.Roots.{give_step, give_sda, give_quiet}
 use Rattle.wire_spec.proofs.Rests.{give_calm}
 use Rattle.bus_clear.specs.Pulls.{pulse}
 use Rattle.bus_clear.proofs.Clocks.{rise_calm, risen_falls, clock_calm, pulse_calm, start_stops, pulses_on, ends_free}
@@ -47,15 +47,16 @@ module _ {X : Type 0} (t : Table X) (mask : Mask X) (ss : List (Site X)) where
   where_high zero = map (get_site t false) ss
   where_high (suc n) = cond (bit sent n) ss (where_high n)
 
-  abbrev pub high_counts : ℕ → Counts → Counts
-  high_counts zero c = one_flip (one_flip c)
-  high_counts (suc n) c = cond (bit sent n) (one_flip (one_flip c)) (high_counts n (one_edge c))
+  -- what is seen once the lines are free: a level for each pulse, then a start and a stop
+  abbrev pub high_seen : ℕ → Seen → Seen
+  high_seen zero c = Stopped ∷ Started ∷ c
+  high_seen (suc n) c = cond (bit sent n) (Stopped ∷ Started ∷ c) (high_seen n (Level (bit_left n) ∷ c))
 
   -- SCL is low, and so many bits are left; and it has risen
-  abbrev pub giving : ℕ → Counts → Bus X
+  abbrev pub giving : ℕ → Seen → Bus X
   giving k c = bus_of true false (map (at (Give k)) ss) c
 
-  abbrev pub given : ℕ → Counts → Bus X
+  abbrev pub given : ℕ → Seen → Bus X
   given k c = bus_of false false (risen t (map (at (Give k)) ss) true) c
 
   -- the level of SDA then
@@ -63,32 +64,35 @@ module _ {X : Type 0} (t : Table X) (mask : Mask X) (ss : List (Site X)) where
   level_of zero le = free_sda t (at (Give 0)) (λ s. give_quiet t s.addr s.joined s.heard s.state) ss true
   level_of (suc n) le = give_sda t n (omega (arith, le)) ss
 
-  pub given_level : (k : ℕ) (c : Counts) → k ≤ 8 → sda_level t (given k c) ≡ bit_left k
+  pub given_level : (k : ℕ) (c : Seen) → k ≤ 8 → sda_level t (given k c) ≡ bit_left k
   given_level k c le = (give_calm t k ss true).stays ∙ level_of k le
 
-  pub given_up : (k : ℕ) (c : Counts) → scl_level (given k c) ≡ true
+  pub given_up : (k : ℕ) (c : Seen) → scl_level (given k c) ≡ true
   given_up k c = ap not (give_calm t k ss true).high
 
-  pub rise_on : (k : ℕ) (low : Bool) (c : Counts) → cut_rise t mask true (bus_of true low (map (at (Give k)) ss) c) ≡ given k (one_edge c)
-  rise_on k low c = rise_calm t mask true low (map (at (Give k)) ss) c (give_calm t k ss true)
+  pub rise_on : (k : ℕ) (low : Bool) (c : Seen) → k ≤ 8
+      → cut_rise t mask true (bus_of true low (map (at (Give k)) ss) c) ≡ given k (Level (bit_left k) ∷ c)
+  rise_on k low c le =
+      rise_calm t mask true low (map (at (Give k)) ss) c (give_calm t k ss true) ∙ ap (λ l. given k (Level l ∷ c)) (level_of k le)
 
-  pub clock_on : (k : ℕ) (low : Bool) (c : Counts)
-      → cut_clock t mask true (bus_of true low (map (at (Give (suc k))) ss) c) ≡ giving k (one_edge c)
-  clock_on k low c =
+  pub clock_on : (k : ℕ) (low : Bool) (c : Seen) → suc k ≤ 8
+      → cut_clock t mask true (bus_of true low (map (at (Give (suc k))) ss) c) ≡ giving k (Level (bit_left (suc k)) ∷ c)
+  clock_on k low c le =
+      let l : Bool = sda t (map (at (Give (suc k))) ss) true in
       clock_calm t mask true low (map (at (Give (suc k))) ss) c (give_calm t (suc k) ss true)
-      ∙ ap (λ bs. bus_of true false bs (one_edge c)) (give_step t k ss)
+      ∙ (ap (λ bs. bus_of true false bs (Level l ∷ c)) (give_step t k ss) ∙ ap (λ b. giving k (Level b ∷ c)) (level_of (suc k) le))
 
-  falls_to : (k : ℕ) (c : Counts) → pulled t mask (given (suc k) c) true false ≡ giving k c
+  falls_to : (k : ℕ) (c : Seen) → pulled t mask (given (suc k) c) true false ≡ giving k c
   falls_to k c =
       risen_falls t mask true (map (at (Give (suc k))) ss) c (give_calm t (suc k) ss true) ∙ ap (λ bs. bus_of true false bs c)
       (give_step t k ss)
 
   -- a pulse, from lines whose fall leaves so many bits
-  pub pulse_to : (k : ℕ) (w : Bus X) (c : Counts) → k ≤ 8 → pulled t mask w true false ≡ giving k c
-      → pulse t mask w ≡ came_up (shifted 0 (bit_left k)) (given k (one_edge c))
+  pub pulse_to : (k : ℕ) (w : Bus X) (c : Seen) → k ≤ 8 → pulled t mask w true false ≡ giving k c
+      → pulse t mask w ≡ came_up (shifted 0 (bit_left k)) (given k (Level (bit_left k) ∷ c))
   pulse_to k w c le fell =
       pulse_calm t mask w (map (at (Give k)) ss) c fell (give_calm t k ss true)
-      ∙ ap (λ l. came_up (shifted 0 l) (given k (one_edge c))) (level_of k le)
+      ∙ ap (λ l. came_up (shifted 0 l) (given k (Level l ∷ c))) (level_of k le)
 
   begins_high : (k : ℕ) → k ≤ 8 → bit_left k ≡ true → map (where_joined begin) (risen t (map (at (Give k)) ss) true) ≡ map (calling 8 0)
       (where_high k)
@@ -107,34 +111,34 @@ module _ {X : Type 0} (t : Table X) (mask : Mask X) (ss : List (Site X)) where
       (λ s. give_begin t n l s.addr s.joined s.heard s.state) ss
       ∙ ap (λ h. map (calling 8 0) (cond h ss (where_high n))) (sym high))
 
-  stops_high : (k : ℕ) (c : Counts) → k ≤ 8 → bit_left k ≡ true
-      → start_stop t mask (given k c) ≡ free (rejoin mask (map (stop_site t) (where_high k))) (one_flip (one_flip c))
+  stops_high : (k : ℕ) (c : Seen) → k ≤ 8 → bit_left k ≡ true
+      → start_stop t mask (given k c) ≡ free (rejoin mask (map (stop_site t) (where_high k))) (Stopped ∷ Started ∷ c)
   stops_high k c le high =
       start_stops t mask (risen t (map (at (Give k)) ss) true) (where_high k) c (begins_high k le high) (given_up k c)
       (given_level k c le ∙ high)
 
   -- the lines are freed with so many pulses
-  abbrev pub ends : ℕ → ℕ → Counts → Clearing X
-  ends made k c = clearing (Free (made + lows k)) (free (rejoin mask (map (stop_site t) (where_high k))) (high_counts k c))
+  abbrev pub ends : ℕ → ℕ → Seen → Clearing X
+  ends made k c = clearing (Free (made + lows k)) (free (rejoin mask (map (stop_site t) (where_high k))) (high_seen k c))
 
   -- SCL is high: pulses until SDA is high
-  pub clears_by : (k left made : ℕ) (c : Counts) → k ≤ left → k ≤ 8 → (b : Bool) → bit_left k ≡ b
+  pub clears_by : (k left made : ℕ) (c : Seen) → k ≤ left → k ≤ 8 → (b : Bool) → bit_left k ≡ b
       → clear_from t mask b left made (given k c) ≡ ends made k c
   clears_by zero left made c le few false is = cc
   clears_by zero left made c le few true is =
       ends_free t mask left made (given 0 c) _ true refl (stops_high 0 c few refl)
-      ∙ ap (λ n. clearing (Free n) (free (rejoin mask (map (stop_site t) (where_high 0))) (high_counts 0 c))) (plus_none made)
+      ∙ ap (λ n. clearing (Free n) (free (rejoin mask (map (stop_site t) (where_high 0))) (high_seen 0 c))) (plus_none made)
   clears_by (suc n) left made c le few true is =
       ends_free t mask left made (given (suc n) c) _ true refl (stops_high (suc n) c few is)
-      ∙ (ap (λ m. clearing (Free m) (free (rejoin mask (map (stop_site t) (where_high (suc n)))) (one_flip (one_flip c)))) (plus_none made)
+      ∙ (ap (λ m. clearing (Free m) (free (rejoin mask (map (stop_site t) (where_high (suc n)))) (Stopped ∷ Started ∷ c))) (plus_none made)
       ∙ ap (λ h. clearing (Free (made + cond h 0 (suc (lows n)))) (free (rejoin mask (map (stop_site t) (where_high (suc n))))
-      (cond h (one_flip (one_flip c)) (high_counts n (one_edge c))))) (sym is))
+      (cond h (Stopped ∷ Started ∷ c) (high_seen n (Level (bit_left n) ∷ c))))) (sym is))
   clears_by (suc n) zero made c le few false is = absurd (omega (arith, le))
   clears_by (suc n) (suc left) made c le few false is =
-      pulses_on t mask left made (given (suc n) c) (given n (one_edge c)) (bit_left n) (pulse_to n (given (suc n) c) c (omega (arith, few))
-      (falls_to n c))
-      ∙ (clears_by n left (made + 1) (one_edge c) (omega (arith, le)) (omega (arith, few)) (bit_left n) refl
-      ∙ (ap (λ m. clearing (Free m) (free (rejoin mask (map (stop_site t) (where_high n))) (high_counts n (one_edge c))))
+      pulses_on t mask left made (given (suc n) c) (given n (Level (bit_left n) ∷ c)) (bit_left n)
+      (pulse_to n (given (suc n) c) c (omega (arith, few)) (falls_to n c))
+      ∙ (clears_by n left (made + 1) (Level (bit_left n) ∷ c) (omega (arith, le)) (omega (arith, few)) (bit_left n) refl
+      ∙ (ap (λ m. clearing (Free m) (free (rejoin mask (map (stop_site t) (where_high n))) (high_seen n (Level (bit_left n) ∷ c))))
       (plus_one made (lows n))
       ∙ ap (λ h. clearing (Free (made + cond h 0 (suc (lows n)))) (free (rejoin mask (map (stop_site t) (cond h ss (where_high n))))
-      (cond h (one_flip (one_flip c)) (high_counts n (one_edge c))))) (sym is)))
+      (cond h (Stopped ∷ Started ∷ c) (high_seen n (Level (bit_left n) ∷ c))))) (sym is)))

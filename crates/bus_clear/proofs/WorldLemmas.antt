@@ -2,7 +2,7 @@
 use Rattle.bus_clear.proofs.Cited.{◌≡◌, ℕ, ◌+◌, ◌/◌, Bool, true, false, cond, List, [], ◌∷◌, map, refl, ap, sym, ◌∙◌, subst, AllByRecursion}
 use Rattle.bus_clear.proofs.Cited.{BoardView, Table, ChipView, chip_table, TargetState, state_table, HoldsBytes, KeepsBytes, IsQuiet}
 use Rattle.bus_clear.proofs.Cited.{IsFairTable, World, after, Out, Site, hears, other, is_named, is_reading, hearing, get_site, stop_site}
-use Rattle.bus_clear.proofs.Cited.{Counts, Bus, started, free, rejoin, NodeState, node_table, both, AreSites, mask_of, PartsOfBoth}
+use Rattle.bus_clear.proofs.Cited.{Seen, Bus, started, free, rejoin, NodeState, node_table, both, AreSites, mask_of, PartsOfBoth}
 use Rattle.bus_clear.proofs.Cited.{StartOnSites, GetOnSites, StopOnSites, Rooted, IsFree, chips_on, devices_on, world_at, IsQuietWorld}
 use Rattle.i2c_base.specs.declared.event.Event.TheVariants.{Get, Stop}
 use Rattle.i2c_base.specs.declared.port.PortCall.TheVariants as call
@@ -147,7 +147,7 @@ module _ (parts : (cs : List (Site ChipView)) (ds : List (Site TargetState)) →
       rest_devices = rest_of state_table devices quiet_by.devices;
     }
 
-    pub left_by : (w : Bus NodeState) (c : Counts) → w ≡ free (rejoin (mask_of k.board k.root) (map (stop_site node_table) gs)) c
+    pub left_by : (w : Bus NodeState) (c : Seen) → w ≡ free (rejoin (mask_of k.board k.root) (map (stop_site node_table) gs)) c
         → Left k w (after v call.Stop)
     left_by w c is =
         let e : w ≡ free (both chips devices) c = is ∙ ap (λ xs. free xs c) sites_are in

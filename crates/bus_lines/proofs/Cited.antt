@@ -22,8 +22,8 @@ pub use Rattle.i2c_spec.specs.Targets.RegsDevice.{is_too_long}
 pub use Rattle.i2c_spec.specs.Tree.{root_of, Hop}
 pub use Rattle.i2c_board.specs.Layouts.{board_of}
 pub use Rattle.wire_spec.proofs.WorldLemmas.{eq_self}
-pub use Rattle.wire_spec.specs.Bus.{holds_line, rejoin_from, rejoined, Counts, Bus, bus_of, one_edge, one_flip, came_up}
-pub use Rattle.wire_spec.specs.Calls.{released, free, more_edges, within, sent_byte}
+pub use Rattle.wire_spec.specs.Bus.{holds_line, rejoin_from, rejoined, Seen, Level, Started, Stopped, Bus, bus_of, came_up}
+pub use Rattle.wire_spec.specs.Calls.{released, free, byte_seen, within, sent_byte}
 pub use Rattle.wire_spec.specs.Roots.{where_joined, some_one, pulls_line, and_all, at}
 pub use Rattle.wire_spec.specs.Sites.{NodeState, NO_ADDRESS, node_table, Chip, Device, site_with, both, chip_by, chips_in, states_of}
 pub use Rattle.wire_spec.specs.Sites.{world_of, mask_of}

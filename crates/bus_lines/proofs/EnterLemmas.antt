@@ -3,7 +3,7 @@ use Rattle.bus_lines.proofs.Cited.{◌≡◌, ℕ, zero, suc, ◌/◌, ◌==◌,
 use Rattle.bus_lines.proofs.Cited.{Ok, refl, sym, ap, ◌∙◌, subst, inl, inr, arith, not, slice_get, list_any, option_map_or, nat_tests}
 use Rattle.bus_lines.proofs.Cited.{is_too_long, IsFairTable, Mode, Out, In, Answered, Give, Gave, Site, Bit, site_of, stands, shifted}
 use Rattle.bus_lines.proofs.Cited.{other, called, is_reading, where_joined, some_one, at, Bus, bus_of, came_up, holds_line, calling}
-use Rattle.bus_lines.proofs.Cited.{released, more_edges, within, sent_byte, NodeState, NO_ADDRESS, node_table, Rooted, Wire, mask_at}
+use Rattle.bus_lines.proofs.Cited.{released, byte_seen, within, sent_byte, NodeState, NO_ADDRESS, node_table, Rooted, Wire, mask_at}
 use Rattle.bus_lines.proofs.Cited.{Address, Enter, whole_on, seen, joined_at, acks_enter, address_in, slow_at, PlaceView, states_on}
 use Rattle.bus_lines.proofs.Cited.{joins_by, TargetsView, LinesView, lines_of, wire_nine, AreTargets, NumbersView, is_among, RegisterView}
 use Rattle.bus_lines.proofs.Cited.{by_number, some_by, of_those, shared, addressed, AreUnits, or_parts, and-false, map_map}
@@ -268,7 +268,7 @@ answers_at p (s ∷ ss) = ap (λ t. p s || t) (answers_at p ss)
 pub address_is : AddressIsOneEvent node_table → (t u : TargetsView) (w v : Wire) (now : LinesView) → lines_of t w ≡ now → (byte : ℕ)
     → byte < 256
     → IsCalled now.bus → (acked : Bool) → AddressIs byte acked t u → (level : Bool) → v ≡ wire_nine w false level
-    → came_up (shifted 0 (not acked)) (bus_of v.scl v.sda u.bits u.counts) ≡ sent_byte the_table (mask_at now.rooted) byte now.bus
+    → came_up (shifted 0 (not acked)) (bus_of v.scl v.sda u.bits u.shown) ≡ sent_byte the_table (mask_at now.rooted) byte now.bus
 unfolding the_table
 address_is law t u w v now view byte lt called acked is level wire =
     let ss : List (Site NodeState) = called.sites in
@@ -282,13 +282,13 @@ address_is law t u w v now view byte lt called acked is level wire =
     is.answer ∙ ap (some_one (would_ack byte)) there ∙ answers_at (answers_so node_table is_ack (byte / 2) (is_reading byte)) ss in
     let leaves : u.bits ≡ map (at m) (map (started node_table byte) ss) =
     ap (λ (x : TargetsView). x.bits) is.after ∙ ap (map (where_joined (address_in byte))) there ∙ addresses_at byte ss in
-    let counts : u.counts ≡ more_edges 9 now.bus.counts =
-    ap (λ (x : TargetsView). x.counts) is.after ∙ ap (λ (l : LinesView). more_edges 9 l.bus.counts) view in
-    ap (λ (x : Wire). came_up (shifted 0 (not acked)) (bus_of x.scl x.sda u.bits u.counts)) wire
-    ∙ ap (λ bs. came_up (shifted 0 (not acked)) (bus_of true false bs u.counts)) leaves
-    ∙ ap (λ c. came_up (shifted 0 (not acked)) (within m false (map (started node_table byte) ss) c)) counts
-    ∙ ap (λ a. came_up (shifted 0 (not a)) (within m false (map (started node_table byte) ss) (more_edges 9 now.bus.counts))) says
-    ∙ sym (ap (sent_byte node_table (mask_at now.rooted) byte) called.lines ∙ law (mask_at now.rooted) byte lt true ss now.bus.counts quick)
+    let shows : u.shown ≡ byte_seen byte acked now.bus.seen =
+    ap (λ (x : TargetsView). x.shown) is.after ∙ ap (λ (l : LinesView). byte_seen byte acked l.bus.seen) view in
+    ap (λ (x : Wire). came_up (shifted 0 (not acked)) (bus_of x.scl x.sda u.bits u.shown)) wire
+    ∙ ap (λ bs. came_up (shifted 0 (not acked)) (bus_of true false bs u.shown)) leaves
+    ∙ ap (λ c. came_up (shifted 0 (not acked)) (within m false (map (started node_table byte) ss) c)) shows
+    ∙ ap (λ a. came_up (shifted 0 (not a)) (within m false (map (started node_table byte) ss) (byte_seen byte a now.bus.seen))) says
+    ∙ sym (ap (sent_byte node_table (mask_at now.rooted) byte) called.lines ∙ law (mask_at now.rooted) byte lt true ss now.bus.seen quick)
 
 -- and so it is answered
 pub came_ack : (b : Bus NodeState) (eight sent : Came NodeState) (acked : Bool) (a : Answer) → came_up (shifted 0 (not acked)) b ≡ sent

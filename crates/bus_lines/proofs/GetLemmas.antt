@@ -1,7 +1,7 @@
 -- A byte that is read, all nine clocks at once: what it is to each target, to all of them, and on the lines.
 use Rattle.bus_lines.proofs.Cited.{◌≡◌, ℕ, zero, suc, ◌<◌, Bool, true, false, cond, List, [], ◌∷◌, map, refl, sym, ap, ◌∙◌, arith, bit_and}
 use Rattle.bus_lines.proofs.Cited.{and_self, Mode, Out, In, Answered, Give, Gave, Site, Bit, site_of, stands, where_joined}
-use Rattle.bus_lines.proofs.Cited.{at, and_all, Bus, bus_of, came_up, holds_line, released, more_edges, within, NodeState}
+use Rattle.bus_lines.proofs.Cited.{at, and_all, Bus, bus_of, came_up, holds_line, released, byte_seen, within, NodeState}
 use Rattle.bus_lines.proofs.Cited.{node_table, both, Wire, mask_at, StandsIn, chips_on, devices_on, Get, seen, gives_get}
 use Rattle.bus_lines.proofs.Cited.{TargetsView, LinesView, lines_of, wire_nine, shared}
 use Rattle.wire_spec.specs.Roots.{get_site, sent_by}
@@ -89,9 +89,9 @@ all_gives_at (s ∷ ss) = rw (gives_at s.addr s.joined s.heard s.state, all_give
 -- ---- on the lines it is what its nine clocks come to
 pub receive_is : GetsAreEvents node_table → (t u : TargetsView) (w v : Wire) (now : LinesView) → lines_of t w ≡ now → (ack : Bool)
     → StandsIn now.rooted (Give 8) now.bus → (byte : ℕ) → byte ≡ and_all (map gives_get t.bits)
-    → u ≡ record t { bits = map (where_joined (seen (Get ack))) t.bits; counts = more_edges 9 t.counts } → (level : Bool)
+    → u ≡ record t { bits = map (where_joined (seen (Get ack))) t.bits; shown = byte_seen byte ack t.shown } → (level : Bool)
     → v ≡ wire_nine w ack level
-    → came_up byte (bus_of v.scl v.sda u.bits u.counts) ≡ read_byte the_table (mask_at now.rooted) ack now.bus
+    → came_up byte (bus_of v.scl v.sda u.bits u.shown) ≡ read_byte the_table (mask_at now.rooted) ack now.bus
 unfolding the_table
 receive_is law t u w v now view ack stands byte answer is level wire =
     let ss : List (Site NodeState) = both (chips_on now.bus) (devices_on now.bus) in
@@ -102,10 +102,10 @@ receive_is law t u w v now view ack stands byte answer is level wire =
     answer ∙ ap (λ (bs : List (Bit NodeState)). and_all (map gives_get bs)) there ∙ ap and_all (all_gives_at ss) in
     let leaves : u.bits ≡ map (at m) (map (get_site node_table ack) ss) =
     ap (λ (x : TargetsView). x.bits) is ∙ ap (map (where_joined (seen (Get ack)))) there ∙ gets_at ack ss in
-    let counts : u.counts ≡ more_edges 9 now.bus.counts =
-    ap (λ (x : TargetsView). x.counts) is ∙ ap (λ (l : LinesView). more_edges 9 l.bus.counts) view in
-    ap (λ (x : Wire). came_up byte (bus_of x.scl x.sda u.bits u.counts)) wire
-    ∙ ap (λ bs. came_up byte (bus_of true ack bs u.counts)) leaves
-    ∙ ap (λ c. came_up byte (within m ack (map (get_site node_table ack) ss) c)) counts
-    ∙ ap (λ a. came_up a (within m ack (map (get_site node_table ack) ss) (more_edges 9 now.bus.counts))) says
-    ∙ sym (ap (read_byte node_table (mask_at now.rooted) ack) stands.lines ∙ law (mask_at now.rooted) ack now.bus.sda ss now.bus.counts)
+    let shows : u.shown ≡ byte_seen byte ack now.bus.seen =
+    ap (λ (x : TargetsView). x.shown) is ∙ ap (λ (l : LinesView). byte_seen byte ack l.bus.seen) view in
+    ap (λ (x : Wire). came_up byte (bus_of x.scl x.sda u.bits u.shown)) wire
+    ∙ ap (λ bs. came_up byte (bus_of true ack bs u.shown)) leaves
+    ∙ ap (λ c. came_up byte (within m ack (map (get_site node_table ack) ss) c)) shows
+    ∙ ap (λ a. came_up a (within m ack (map (get_site node_table ack) ss) (byte_seen a ack now.bus.seen))) says
+    ∙ sym (ap (read_byte node_table (mask_at now.rooted) ack) stands.lines ∙ law (mask_at now.rooted) ack now.bus.sda ss now.bus.seen)

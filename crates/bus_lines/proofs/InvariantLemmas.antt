@@ -1,7 +1,7 @@
 -- What each call leaves of the targets of a root as its type keeps them.
 use Rattle.bus_lines.proofs.Cited.{◌≡◌, ℕ, zero, suc, ◌+◌, ◌-◌, ◌/◌, ◌==◌, ◌<◌, Bool, true, false, ◌&&◌, ◌||◌, cond, List, [], ◌∷◌, length}
 use Rattle.bus_lines.proofs.Cited.{map, get_or, refl, sym, ap, ◌∙◌, subst, arith, not, list_all, nat_tests, length-map, IsFairTable, Bit}
-use Rattle.bus_lines.proofs.Cited.{shifted, rise, begin, finish, where_joined, some_one, pulls_line, Counts, holds_line}
+use Rattle.bus_lines.proofs.Cited.{shifted, rise, begin, finish, where_joined, some_one, pulls_line, Seen, holds_line}
 use Rattle.bus_lines.proofs.Cited.{rejoin_from, NodeState, NO_ADDRESS, node_table, Rooted, levelled_bits, Edge, Finish, Leave, seen}
 use Rattle.bus_lines.proofs.Cited.{joined_at, PlaceView, places_of, is_chip, kinds_of, states_on, joins_by, AreTargets, targets_of}
 use Rattle.bus_lines.proofs.Cited.{NumbersView, numbers_of, is_among, RegisterView, by_number, some_by, to_those, of_those, shared}
@@ -320,5 +320,5 @@ more_comes zero some last = absurd (omega (arith, some))
 more_comes (suc zero) some last = absurd (last refl)
 more_comes (suc (suc n)) some last = (n, refl)
 
-pub seen_as : (k : Rooted) {xs ys : List (Bit NodeState)} {m n : Counts} → xs ≡ ys → m ≡ n → targets_of k xs m ≡ targets_of k ys n
+pub seen_as : (k : Rooted) {xs ys : List (Bit NodeState)} {m n : Seen} → xs ≡ ys → m ≡ n → targets_of k xs m ≡ targets_of k ys n
 seen_as k {xs} {ys} {m} {n} e f = ap (λ (zs : List (Bit NodeState)). targets_of k zs m) e ∙ ap (targets_of k ys) f

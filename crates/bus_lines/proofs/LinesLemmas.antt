@@ -14,11 +14,11 @@ module _ (t : TargetsView) (w v : Wire) (now new : LinesView) (view : lines_of t
   pull_is scl low clock level is_clock is_data wire is =
       ap (λ (l : LinesView). l.bus) is
       ∙ ap (λ (u : Wire). edge node_table (mask_of t.rooted.board t.rooted.root) clock level (lines_of t u).bus) wire
-      ∙ ap (λ (c : Bool). edge node_table (mask_of t.rooted.board t.rooted.root) c level (bus_of scl low t.bits t.counts)) is_clock
+      ∙ ap (λ (c : Bool). edge node_table (mask_of t.rooted.board t.rooted.root) c level (bus_of scl low t.bits t.shown)) is_clock
       ∙ ap (λ (d : Bool). edge node_table (mask_of t.rooted.board t.rooted.root) (scl_level now.bus) d
-      (bus_of scl low t.bits t.counts)) is_data
+      (bus_of scl low t.bits t.shown)) is_data
       ∙ ap (λ (l : LinesView). edge node_table (mask_of l.rooted.board l.rooted.root) (scl_level now.bus) (sda_level node_table now.bus)
-      (bus_of scl low l.bus.targets l.bus.counts)) view
+      (bus_of scl low l.bus.targets l.bus.seen)) view
 
   abbrev ticked : Bus NodeState → Bus NodeState
   ticked b = cond (scl_level (each tick b)) (rises node_table (each tick b)) (each tick b)
@@ -49,7 +49,7 @@ line_is t u w now view m level is =
     ap (λ (x : TargetsView). (lines_of x w).bus) is
     ∙ ap (λ (l : LinesView). bus_of l.bus.scl l.bus.sda (rejoined (mask_of l.rooted.board l.rooted.root)
     (levelled_bits m level l.bus.targets))
-    l.bus.counts) view
+    l.bus.seen) view
 
 -- the targets are the same world on the lines and off them
 pub apart_is : (t : TargetsView) (w : Wire) (now : LinesView) → lines_of t w ≡ now → (a : ApartView) → a ≡ apart_of t.rooted t.bits

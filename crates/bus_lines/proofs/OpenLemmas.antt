@@ -1,6 +1,6 @@
 -- The targets of a root as its board is opened.
 use Rattle.bus_lines.proofs.Cited.{◌≡◌, ℕ, suc, Bool, false, List, [], ◌∷◌, ◌++◌, map, refl, sym, ap, ◌∙◌, subst, arith, MuxSpec, BoardView}
-use Rattle.bus_lines.proofs.Cited.{DeviceView, AllByRecursion, ChipView, IsPlainBoard, TargetState, Out, Site, Bit, at, Counts, Bus, bus_of}
+use Rattle.bus_lines.proofs.Cited.{DeviceView, AllByRecursion, ChipView, IsPlainBoard, TargetState, Out, Site, Bit, at, Seen, Bus, bus_of}
 use Rattle.bus_lines.proofs.Cited.{rejoined, free, NodeState, Device, site_with, both, mask_of, PartsOfBoth, Rooted, Wire, TargetsView}
 use Rattle.bus_lines.proofs.Cited.{LinesView, lines_of, chips_on, world_at, chip_bit, device_bit, bits_of}
 use Rattle.std.specs.List.{All}
@@ -43,8 +43,8 @@ module _ (b : BoardView) (r : ℕ) (plain : IsPlainBoard b) (parts : (cs : List 
   abbrev devices : List (Site TargetState)
   devices = opened_devices b r
 
-  abbrev none : Counts
-  none = record { edges = 0; flips = 0 }
+  abbrev none : Seen
+  none = []
 
   abbrev w : Bus NodeState
   w = bus_of false false (rejoined (mask_of b r) (bits_of b)) none

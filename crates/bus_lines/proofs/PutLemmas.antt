@@ -1,7 +1,7 @@
 -- A byte that is put, all nine clocks at once: what it is to each target, to all of them, and on the lines.
 use Rattle.bus_lines.proofs.Cited.{◌≡◌, ℕ, zero, suc, ◌<◌, Bool, true, false, ◌&&◌, List, [], ◌∷◌, map, refl, sym, ap, ◌∙◌, arith, not}
 use Rattle.bus_lines.proofs.Cited.{Mode, Out, In, Answered, Give, Gave, Site, Bit, site_of, stands, shifted, where_joined, some_one, at}
-use Rattle.bus_lines.proofs.Cited.{Bus, bus_of, came_up, holds_line, released, more_edges, within, sent_byte, NodeState, node_table, both}
+use Rattle.bus_lines.proofs.Cited.{Bus, bus_of, came_up, holds_line, released, byte_seen, within, sent_byte, NodeState, node_table, both}
 use Rattle.bus_lines.proofs.Cited.{Wire, mask_at, StandsIn, chips_on, devices_on, Put, seen, acks_put}
 use Rattle.bus_lines.proofs.Cited.{TargetsView, LinesView, lines_of, wire_nine, shared}
 use Rattle.bus_lines.proofs.Cited.{and-false}
@@ -82,9 +82,9 @@ some_acks_at byte (s ∷ ss) = rw (acks_at byte s.addr s.joined s.heard s.state,
 -- ---- on the lines it is what its nine clocks come to
 pub send_is : PutsAreEvents node_table → (t u : TargetsView) (w v : Wire) (now : LinesView) → lines_of t w ≡ now → (byte : ℕ) → byte < 256
     → StandsIn now.rooted (In false 8 0) now.bus → (acked : Bool) → acked ≡ some_one (acks_put byte) t.bits
-    → u ≡ record t { bits = map (where_joined (seen (Put byte))) t.bits; counts = more_edges 9 t.counts } → (level : Bool)
+    → u ≡ record t { bits = map (where_joined (seen (Put byte))) t.bits; shown = byte_seen byte acked t.shown } → (level : Bool)
     → v ≡ wire_nine w false level
-    → came_up (shifted 0 (not acked)) (bus_of v.scl v.sda u.bits u.counts) ≡ sent_byte the_table (mask_at now.rooted) byte now.bus
+    → came_up (shifted 0 (not acked)) (bus_of v.scl v.sda u.bits u.shown) ≡ sent_byte the_table (mask_at now.rooted) byte now.bus
 unfolding the_table
 send_is law t u w v now view byte lt stands acked answer is level wire =
     let ss : List (Site NodeState) = both (chips_on now.bus) (devices_on now.bus) in
@@ -93,11 +93,11 @@ send_is law t u w v now view byte lt stands acked answer is level wire =
     let says : acked ≡ some_one (acks node_table byte) ss = answer ∙ ap (some_one (acks_put byte)) there ∙ some_acks_at byte ss in
     let leaves : u.bits ≡ map (at m) (map (put_site node_table byte) ss) =
     ap (λ (x : TargetsView). x.bits) is ∙ ap (map (where_joined (seen (Put byte)))) there ∙ puts_at byte ss in
-    let counts : u.counts ≡ more_edges 9 now.bus.counts =
-    ap (λ (x : TargetsView). x.counts) is ∙ ap (λ (l : LinesView). more_edges 9 l.bus.counts) view in
-    ap (λ (x : Wire). came_up (shifted 0 (not acked)) (bus_of x.scl x.sda u.bits u.counts)) wire
-    ∙ ap (λ bs. came_up (shifted 0 (not acked)) (bus_of true false bs u.counts)) leaves
-    ∙ ap (λ c. came_up (shifted 0 (not acked)) (within m false (map (put_site node_table byte) ss) c)) counts
-    ∙ ap (λ a. came_up (shifted 0 (not a)) (within m false (map (put_site node_table byte) ss) (more_edges 9 now.bus.counts))) says
+    let shows : u.shown ≡ byte_seen byte acked now.bus.seen =
+    ap (λ (x : TargetsView). x.shown) is ∙ ap (λ (l : LinesView). byte_seen byte acked l.bus.seen) view in
+    ap (λ (x : Wire). came_up (shifted 0 (not acked)) (bus_of x.scl x.sda u.bits u.shown)) wire
+    ∙ ap (λ bs. came_up (shifted 0 (not acked)) (bus_of true false bs u.shown)) leaves
+    ∙ ap (λ c. came_up (shifted 0 (not acked)) (within m false (map (put_site node_table byte) ss) c)) shows
+    ∙ ap (λ a. came_up (shifted 0 (not a)) (within m false (map (put_site node_table byte) ss) (byte_seen byte a now.bus.seen))) says
     ∙ sym (ap (sent_byte node_table (mask_at now.rooted) byte) stands.lines
-    ∙ law (mask_at now.rooted) byte lt now.bus.sda ss now.bus.counts)
+    ∙ law (mask_at now.rooted) byte lt now.bus.sda ss now.bus.seen)

@@ -1,6 +1,6 @@
 -- The targets of a root by the fields of their type: what a call leaves of them, and what is seen of that.
 use Rattle.bus_lines.proofs.Cited.{◌≡◌, ℕ, Bool, false, ◌&&◌, ◌||◌, ◌/◌, ◌<◌, List, [], map, get_or, refl, sym, ap, ◌∙◌, list_any}
-use Rattle.bus_lines.proofs.Cited.{is_too_long, Bit, rise, shifted, where_joined, some_one, holds_line, Counts, NodeState, NO_ADDRESS}
+use Rattle.bus_lines.proofs.Cited.{is_too_long, Bit, rise, shifted, where_joined, some_one, holds_line, Seen, NodeState, NO_ADDRESS}
 use Rattle.bus_lines.proofs.Cited.{node_table, Rooted, Edge, Address, seen, joined_at, slow_at, whole_on, PlaceView, states_on, joins_by}
 use Rattle.bus_lines.proofs.Cited.{known_of, known_on, TargetsView, targets_of, NumbersView, is_among, RegisterView, by_number, some_by}
 use Rattle.bus_lines.proofs.Cited.{to_those, of_those, shared, addressed, subst, length, rejoin_from, rejoined, mask_of, levelled_bits}
@@ -35,12 +35,12 @@ abbrev pub seen_in : Inside → RegisterView → List (Bit NodeState) → List (
 seen_in i r bs = map (shared r.left r.value) (whole_on i.board.value i.places.items (known_on i.places.items bs))
 
 -- an edge as it is seen once it is done
-pub seen_after : (i : Inside) (f : Bit NodeState → Bit NodeState) (count : Counts → Counts) {xs : List (Bit NodeState)} {n : Counts}
-    {old : TargetsView} → xs ≡ map (where_joined f) (seen_in i i.address i.bits.items) → n ≡ count i.counter
+pub seen_after : (i : Inside) (f : Bit NodeState → Bit NodeState) (shows : Seen → Seen) {xs : List (Bit NodeState)} {n : Seen}
+    {old : TargetsView} → xs ≡ map (where_joined f) (seen_in i i.address i.bits.items) → n ≡ shows i.counter
     → targets_of (rooted i) (seen_in i i.address i.bits.items) i.counter ≡ old
-    → targets_of (rooted i) xs n ≡ record old { bits = map (where_joined f) old.bits; counts = count old.counts }
-seen_after i f count e m view =
-    seen_as (rooted i) e m ∙ ap (λ (v : TargetsView). record v { bits = map (where_joined f) v.bits; counts = count v.counts }) view
+    → targets_of (rooted i) xs n ≡ record old { bits = map (where_joined f) old.bits; shown = shows old.shown }
+seen_after i f shows e m view =
+    seen_as (rooted i) e m ∙ ap (λ (v : TargetsView). record v { bits = map (where_joined f) v.bits; shown = shows v.shown }) view
 
 -- those that are told are all in the message, or nobody
 told_by : (coming : Bool) (left : ℕ) (ns live : List ℕ) → coming ≡ not (left == 0) → ns ≡ cond coming [] live

@@ -10,7 +10,7 @@ use Rattle.bus_lines.specs.contracts.place.WirePlace as WirePlace
 use Rattle.bus_lines.specs.contracts.index.Index as Index
 use Rattle.bus_lines.specs.contracts.numbers.TargetNumbers as TargetNumbers
 use Rattle.bus_lines.specs.contracts.register.Register as Register
-use Rattle.bus_lines.specs.contracts.tally.EdgeTally as EdgeTally
+use Rattle.bus_lines.specs.contracts.sign_log.SignLog as SignLog
 use Rattle.bus_lines.specs.contracts.counter.Counter as Counter
 use Rattle.bus_lines.specs.contracts.wire_state.WireState as WireState
 use Rattle.bus_lines.specs.contracts.root_targets.RootTargets as RootTargets
@@ -34,11 +34,11 @@ numbers-send = search (crosses, sendable) depth 20
 register-send : IsSend (Register.the_field).row
 register-send = search (crosses, sendable) depth 20
 
-tally-send : IsSend (EdgeTally.the_field).row
-tally-send = search (crosses, sendable) depth 20
+sign-send : IsSend (SignLog.the_field).row
+sign-send = search (crosses, sendable) depth 20
 
 counter-send : IsSend (Counter.the_field).row
-counter-send = search (crosses, sendable, tally-send) depth 20
+counter-send = search (crosses, sendable, sign-send) depth 20
 
 pub wire-send : IsSend (WireState.the_field).row
 wire-send = search (crosses, sendable) depth 20

@@ -1,12 +1,12 @@
 -- What is seen of the lines of a root and the targets on them.
-use Rattle.std.specs.Prelude.{◌≡◌, ℕ, ◌+◌, ◌/◌, ◌||◌, cond, Bool, true, false, List, length, map, min, Option, Some, None}
+use Rattle.std.specs.Prelude.{◌≡◌, ℕ, ◌+◌, ◌/◌, ◌||◌, cond, Bool, true, false, List, ◌∷◌, length, map, min, Option, Some, None}
 use Rattle.ports.specs.Causes.{MOST, counted}
 use Rattle.i2c_spec.specs.World.{is_ack, is_slow}
 use Rattle.wire_spec.specs.Wires.{Bit, is_reading}
 use Rattle.wire_spec.specs.Roots.{some_one, where_joined}
 use Rattle.wire_spec.specs.Started.{answers_so}
-use Rattle.wire_spec.specs.Calls.{more_edges}
-use Rattle.wire_spec.specs.Bus.{Counts, one_edge, Bus, bus_of, holds_line}
+use Rattle.wire_spec.specs.Calls.{byte_seen}
+use Rattle.wire_spec.specs.Bus.{Seen, Level, Bus, bus_of, holds_line}
 use Rattle.wire_spec.specs.Sites.{NodeState, node_table}
 use Rattle.i2c_bits.specs.Wiring.{Rooted, Wire}
 use Rattle.bus_lines.specs.Edges.{address_in}
@@ -14,14 +14,14 @@ use Rattle.bus_lines.specs.Joins.{PlaceView, places_of, is_chip, kinds_of, state
 use Rattle.bus_lines.specs.Numbers.{NumbersView}
 use Rattle.bus_lines.specs.Units.{RegisterView, shared, AreUnits, IsIndex}
 
--- the targets of a root: the board and the root, the targets by number, and how often SCL rose and SDA changed at high SCL
+-- the targets of a root: the board and the root, the targets by number, and what the lines have shown
 pub record TargetsView : Type 0 where
   pub rooted : Rooted
   pub bits : List (Bit NodeState)
-  pub counts : Counts
+  pub shown : Seen
 
-abbrev pub targets_of : Rooted → List (Bit NodeState) → Counts → TargetsView
-targets_of k bs c = record { rooted = k; bits = bs; counts = c }
+abbrev pub targets_of : Rooted → List (Bit NodeState) → Seen → TargetsView
+targets_of k bs c = record { rooted = k; bits = bs; shown = c }
 
 -- the chips of all muxes of the board and then its devices, with the places of each, and whether one of them holds SCL. Each is as
 -- the lists of numbers say, and as it is seen with what has come of an address byte
@@ -39,7 +39,7 @@ pub record AreTargets (k : Rooted) (ps : List PlaceView) (held : Bool) (address 
 pub record AddressIs (byte : ℕ) (acked : Bool) (old new : TargetsView) : Type 0 where
   pub in_time : some_one (λ (b : Bit NodeState). answers_so node_table is_slow (byte / 2) (is_reading byte) b.site) old.bits ≡ false
   pub answer : acked ≡ some_one (λ (b : Bit NodeState). answers_so node_table is_ack (byte / 2) (is_reading byte) b.site) old.bits
-  pub after : new ≡ record old { bits = map (where_joined (address_in byte)) old.bits; counts = more_edges 9 old.counts }
+  pub after : new ≡ record old { bits = map (where_joined (address_in byte)) old.bits; shown = byte_seen byte acked old.shown }
 
 -- or someone is, or no address comes in, and nothing has happened
 abbrev pub IsAddressed : ℕ → Option Bool → TargetsView → TargetsView → Type 0
@@ -54,7 +54,7 @@ pub record LinesView : Type 0 where
 
 -- the lines that these targets are on
 abbrev pub lines_of : TargetsView → Wire → LinesView
-lines_of t w = record { rooted = t.rooted; bus = bus_of w.scl w.sda t.bits t.counts; wire = w }
+lines_of t w = record { rooted = t.rooted; bus = bus_of w.scl w.sda t.bits t.shown; wire = w }
 
 -- what the pulls and looks of nine clocks have come to, none of which was looked at while it was low: SDA is pulled or not in the
 -- last of them, and was seen at this level
@@ -70,6 +70,6 @@ wire_begun w busy =
 abbrev pub wire_ended : Wire → Wire
 wire_ended w = record w { scl = false; sda = false; scl_high = true; sda_high = false; low = 0 }
 
--- SCL has risen before a repeated start
-abbrev pub edge_if : Bool → Counts → Counts
-edge_if busy c = cond busy (one_edge c) c
+-- SCL has risen, with SDA at this level, where that is so
+abbrev pub rise_if : Bool → (level : Bool) → Seen → Seen
+rise_if rises level c = cond rises (Level level ∷ c) c

@@ -1,5 +1,5 @@
 -- The targets of a root as its board is opened.
-use Rattle.std.specs.Prelude.{ℕ, List, ◌++◌, map}
+use Rattle.std.specs.Prelude.{ℕ, List, [], ◌++◌, map}
 use Rattle.i2c_base.specs.declared.board.MuxSpec.{MuxSpec}
 use Rattle.i2c_base.specs.Board.{BoardView, DeviceView}
 use Rattle.wire_spec.specs.declared.mode.Mode.TheVariants.{Out}
@@ -23,4 +23,4 @@ bits_of b = map chip_bit b.muxes ++ map device_bit b.devices
 -- the targets of a root as its board is opened
 abbrev pub opened_targets : BoardView → ℕ → TargetsView
 opened_targets b r =
-    targets_of (record { board = b; root = r }) (rejoined (mask_of b r) (bits_of b)) (record { edges = 0; flips = 0 })
+    targets_of (record { board = b; root = r }) (rejoined (mask_of b r) (bits_of b)) []

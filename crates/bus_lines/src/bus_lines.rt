@@ -1,8 +1,8 @@
 //! The two lines of a root with its targets on them.
-ghost use Rattle.std.specs.Prelude.{◌≡◌, Bool, false, true, cond, min, IfOk};
+ghost use Rattle.std.specs.Prelude.{◌≡◌, Bool, false, true, cond, min, [], IfOk};
 ghost use Rattle.ports.specs.Causes.{MOST};
 ghost use Rattle.i2c_spec.specs.World.{opening_world};
-ghost use Rattle.wire_spec.specs.Bus.{edge, each, rises, scl_level, sda_level};
+ghost use Rattle.wire_spec.specs.Bus.{edge, edges_in, flips_in, each, rises, scl_level, sda_level};
 ghost use Rattle.wire_spec.specs.Wires.{tick};
 ghost use Rattle.wire_spec.specs.Sites.{node_table, mask_of};
 ghost use Rattle.i2c_bits.specs.Wiring.{AreLetGo};
@@ -47,7 +47,7 @@ impl BusLines {
         ensures let_go { IfOk result (λ lines. AreLetGo lines.wire) }
         ensures free { IfOk result (λ lines. IsFree lines.rooted lines.bus) }
         ensures world { IfOk result (λ lines. world_at lines.rooted false lines.bus ≡ opening_world board.now root) }
-        ensures counts { IfOk result (λ lines. lines.bus.counts ≡ record { edges = 0; flips = 0 }) }
+        ensures seen { IfOk result (λ lines. lines.bus.seen ≡ []) }
     {
         board.board().roots();
         chips_stand_before_devices();
@@ -67,16 +67,24 @@ impl BusLines {
 
     /// How often SCL rose, up to 2^64 - 1.
     pub fn edges(&self) -> u64
-        ensures { result ≡ min self.now.bus.counts.edges MOST }
+        ensures { result ≡ min (edges_in self.now.bus.seen) MOST }
     {
         self.targets.edges()
     }
 
     /// How often SDA changed while SCL was high, a start or a stop each (UM10204 section 3.1.4), up to 2^64 - 1.
     pub fn flips(&self) -> u64
-        ensures { result ≡ min self.now.bus.counts.flips MOST }
+        ensures { result ≡ min (flips_in self.now.bus.seen) MOST }
     {
         self.targets.flips()
+    }
+
+    /// The levels of SCL and SDA, as a probe has them: true is high. Nobody who holds SCL low has a look less to go.
+    pub fn levels(&self) -> (bool, bool)
+        ensures clock { result.0 ≡ scl_level self.now.bus }
+        ensures data { result.1 ≡ sda_level node_table self.now.bus }
+    {
+        (self.clock_high(), self.data_high())
     }
 
     /// The level of SCL: true is high.
@@ -166,7 +174,7 @@ impl ByteLines for BusLines {
     fn start(&mut self, busy: bool) -> Result<(), SclTimeout> {
         a_start_calls_all_that_is_joined();
         a_repeated_start_calls_all_that_is_joined();
-        self.targets.count_edge(busy);
+        self.targets.show_rise(busy, true);
         self.targets.start_condition();
         self.wire.begun(busy);
         Ok(())
@@ -175,7 +183,7 @@ impl ByteLines for BusLines {
     #[inline(always)]
     fn stop(&mut self) -> Result<(), SclTimeout> {
         a_stop_frees_the_lines();
-        self.targets.count_edge(true);
+        self.targets.show_rise(true, false);
         self.targets.stop_condition();
         self.wire.ended();
         Ok(())

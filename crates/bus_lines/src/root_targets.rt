@@ -1,17 +1,17 @@
 //! The targets of a root, on its two lines.
-ghost use Rattle.std.specs.Prelude.{◌≡◌, ◌⊎◌, ◌==◌, IfOk, false, [], cond, map, min, not};
+ghost use Rattle.std.specs.Prelude.{◌≡◌, ◌⊎◌, ◌==◌, IfOk, false, [], ◌∷◌, cond, map, min, not};
 ghost use Rattle.bus_lines.specs.Numbers.{AreNumbers};
 ghost use Rattle.ports.specs.Causes.{MOST};
 ghost use Rattle.wire_spec.specs.Wires.{rise, fall, tick, begin, finish};
 ghost use Rattle.wire_spec.specs.Roots.{some_one, pulls_line, where_joined, and_all};
-ghost use Rattle.wire_spec.specs.Bus.{holds_line, one_edge, one_flip, rejoined};
+ghost use Rattle.wire_spec.specs.Bus.{holds_line, Level, Started, Stopped, edges_in, flips_in, rejoined};
 ghost use Rattle.wire_spec.specs.Sites.{node_table, mask_of};
 ghost use Rattle.i2c_bits.specs.Wiring.{levelled_bits};
-ghost use Rattle.wire_spec.specs.Calls.{more_edges};
+ghost use Rattle.wire_spec.specs.Calls.{byte_seen};
 ghost use Rattle.bus_lines.specs.declared.edges.Edge.TheVariants as the;
 ghost use Rattle.bus_lines.specs.Edges.{seen, acks_put, gives_get};
 ghost use Rattle.bus_lines.specs.Aparts.{apart_of};
-ghost use Rattle.bus_lines.specs.LinesViews.{IsAddressed, edge_if};
+ghost use Rattle.bus_lines.specs.LinesViews.{IsAddressed, rise_if};
 ghost use Rattle.bus_lines.specs.Opens.{opened_targets};
 
 use crate::counter::Counter;
@@ -34,7 +34,7 @@ use tgt_bits::BitTarget;
 /// The targets of a root: a chip for each mux of the board, and then each of its devices, by number. Those of another root, and
 /// absent chips, are never joined, and nothing is kept of another root's devices. Whether a target is joined is kept of those that
 /// a message has reached, and read anew of those that an address names. A contract sees all of them as they are joined, with the
-/// board and the root, and how often SCL rose and SDA changed while it was high.
+/// board and the root, and what the lines have shown.
 #[derive(Drop)]
 pub struct RootTargets {
     board: Snapshot<Accepted>,
@@ -65,7 +65,7 @@ impl Model for RootTargets {
 
     ghost Value = { TargetsView };
 
-    ghost view = { λ t. record { rooted = record { board = t.board.value; root = t.root }; bits = map (shared t.address.left t.address.value) (whole_on t.board.value t.places.items (known_on t.places.items t.bits.items)); counts = t.counter } };
+    ghost view = { λ t. record { rooted = record { board = t.board.value; root = t.root }; bits = map (shared t.address.left t.address.value) (whole_on t.board.value t.places.items (known_on t.places.items t.bits.items)); shown = t.counter } };
 
     ghost invariant = { λ t. AreListed (record { board = t.board.value; root = t.root }) t.places.items t.held t.address t.live t.started t.called t.at t.bits.items };
 }
@@ -145,14 +145,14 @@ impl RootTargets {
 
     /// How often SCL rose, up to 2^64 - 1.
     pub fn edges(&self) -> u64
-        ensures { result ≡ min self.now.counts.edges MOST }
+        ensures { result ≡ min (edges_in self.now.shown) MOST }
     {
         self.counter.edges()
     }
 
     /// How often there was a start or a stop, up to 2^64 - 1.
     pub fn flips(&self) -> u64
-        ensures { result ≡ min self.now.counts.flips MOST }
+        ensures { result ≡ min (flips_in self.now.shown) MOST }
     {
         self.counter.flips()
     }
@@ -162,9 +162,9 @@ impl RootTargets {
     #[inline(always)]
     pub fn rise(&mut self, level: bool)
         requires { some_one holds_line self.old.bits ≡ false }
-        ensures { self.new ≡ record self.old { bits = map (where_joined (λ b. rise node_table b level)) self.old.bits; counts = one_edge self.old.counts } }
+        ensures { self.new ≡ record self.old { bits = map (where_joined (λ b. rise node_table b level)) self.old.bits; shown = Level level ∷ self.old.shown } }
     {
-        self.counter.add_edge();
+        self.counter.add_rise(level);
         if !self.address.is_coming() {
             tell(&mut self.bits, self.live.as_slice(), Edge::Rise(level));
         } else if let Some(byte) = self.address.take(level) {
@@ -185,13 +185,13 @@ impl RootTargets {
         }
     }
 
-    /// SCL rises, where that is so, and is nothing to the targets: before a repeated start, and before a stop.
+    /// SCL rises, where that is so, with SDA at this level, and is nothing to the targets: before a repeated start, and before a stop.
     #[inline(always)]
-    pub fn count_edge(&mut self, rises: bool)
-        ensures { self.new ≡ record self.old { counts = edge_if rises self.old.counts } }
+    pub fn show_rise(&mut self, rises: bool, level: bool)
+        ensures { self.new ≡ record self.old { shown = rise_if rises level self.old.shown } }
     {
         if rises {
-            self.counter.add_edge();
+            self.counter.add_rise(level);
         }
     }
 
@@ -213,7 +213,6 @@ impl RootTargets {
         if some_slow(self.bits.as_slice(), self.called.as_slice()) {
             return None;
         }
-        self.counter.add_nine();
         self.address = Register::none();
         call(
             &mut self.bits,
@@ -224,6 +223,7 @@ impl RootTargets {
             byte,
         );
         let acked = enter_all(&mut self.bits, self.live.as_slice());
+        self.counter.add_byte(byte, acked);
         Some(acked)
     }
 
@@ -231,20 +231,22 @@ impl RootTargets {
     #[inline(always)]
     pub fn put(&mut self, byte: u8) -> bool
         ensures acked { result ≡ some_one (acks_put byte) self.old.bits }
-        ensures after { self.new ≡ record self.old { bits = map (where_joined (seen (the.Put byte))) self.old.bits; counts = more_edges 9 self.old.counts } }
+        ensures after { self.new ≡ record self.old { bits = map (where_joined (seen (the.Put byte))) self.old.bits; shown = byte_seen byte result self.old.shown } }
     {
-        self.counter.add_nine();
-        put_all(&mut self.bits, told(&self.address, &self.live), byte)
+        let acked = put_all(&mut self.bits, told(&self.address, &self.live), byte);
+        self.counter.add_byte(byte, acked);
+        acked
     }
 
     /// A byte is read with the controller's answer, all nine clocks at once. The AND of what is sent.
     #[inline(always)]
     pub fn get(&mut self, ack: bool) -> u8
         ensures byte { result ≡ and_all (map gives_get self.old.bits) }
-        ensures after { self.new ≡ record self.old { bits = map (where_joined (seen (the.Get ack))) self.old.bits; counts = more_edges 9 self.old.counts } }
+        ensures after { self.new ≡ record self.old { bits = map (where_joined (seen (the.Get ack))) self.old.bits; shown = byte_seen result ack self.old.shown } }
     {
-        self.counter.add_nine();
-        get_all(&mut self.bits, told(&self.address, &self.live), ack)
+        let byte = get_all(&mut self.bits, told(&self.address, &self.live), ack);
+        self.counter.add_byte(byte, ack);
+        byte
     }
 
     /// SCL falls, or was looked at and was low.
@@ -273,9 +275,9 @@ impl RootTargets {
 
     /// A start: SDA falls while SCL is high.
     pub fn start_condition(&mut self)
-        ensures { self.new ≡ record self.old { bits = map (where_joined begin) self.old.bits; counts = one_flip self.old.counts } }
+        ensures { self.new ≡ record self.old { bits = map (where_joined begin) self.old.bits; shown = Started ∷ self.old.shown } }
     {
-        self.counter.add_flip();
+        self.counter.add_start();
         leave(&mut self.bits, &mut self.live);
         self.address = Register::whole();
         self.held = false;
@@ -284,9 +286,9 @@ impl RootTargets {
     /// A stop: SDA rises while SCL is high. Who is joined then is read anew of all at once only where it missed someone.
     #[inline(always)]
     pub fn stop_condition(&mut self)
-        ensures { self.new ≡ record self.old { bits = rejoined (mask_of self.old.rooted.board self.old.rooted.root) (map (where_joined (finish node_table)) self.old.bits); counts = one_flip self.old.counts } }
+        ensures { self.new ≡ record self.old { bits = rejoined (mask_of self.old.rooted.board self.old.rooted.root) (map (where_joined (finish node_table)) self.old.bits); shown = Stopped ∷ self.old.shown } }
     {
-        self.counter.add_flip();
+        self.counter.add_stop();
         self.address = Register::none();
         if stop(&mut self.bits, &mut self.live, &mut self.started) {
             self.held = false;

@@ -1,7 +1,7 @@
 -- A start with its address byte, and what it comes to on told lines.
-use Rattle.std.proofs.Common.{◌≡◌, ℕ, ◌+◌, ◌<◌, ◌/◌, Bool, true, false, cond, List, [], ◌∷◌, map, refl, ap, sym, ◌∙◌, arith, subst, inl}
+use Rattle.std.proofs.Common.{◌≡◌, ℕ, ◌<◌, ◌/◌, Bool, true, false, cond, List, [], ◌∷◌, map, refl, ap, sym, ◌∙◌, arith, subst, inl}
 use Rattle.std.proofs.Common.{inr}
-use Rattle.std.specs.Prelude.{not, ◌&&◌, ◌||◌, Result, Ok, Err}
+use Rattle.std.specs.Prelude.{not, ◌&&◌, ◌||◌, ◌⊎◌, Result, Ok, Err}
 use Rattle.std.specs.List.{AllByRecursion}
 use Rattle.i2c_base.specs.Board.{BoardView}
 use Rattle.i2c_base.specs.Table.{Table}
@@ -15,16 +15,16 @@ use Rattle.wire_spec.specs.declared.mode.Mode.{Mode}
 use Rattle.wire_spec.specs.declared.mode.Mode.TheVariants.{Out, In}
 use Rattle.wire_spec.specs.Wires.{Site, Bit, LOOKS, bits, shifted, hears, other, is_named, is_reading}
 use Rattle.wire_spec.specs.Roots.{some_one, hearing}
-use Rattle.wire_spec.specs.Bus.{Counts, Bus, Came, one_flip, came_up, gave_up, bit_step, bit_steps}
+use Rattle.wire_spec.specs.Bus.{Seen, Level, Started, with_levels, Bus, Came, came_up, gave_up, bit_step, bit_steps}
 use Rattle.wire_spec.specs.Started.{started, answers_so, answer_by, late, late_if, late_bus, rose, stays, entered_by}
-use Rattle.wire_spec.specs.Calls.{more_edges, within, within_address, start_pulls, let_both, repeated_start, sent_byte}
+use Rattle.wire_spec.specs.Calls.{byte_seen, within, within_address, start_pulls, let_both, repeated_start, sent_byte}
 use Rattle.wire_spec.specs.Sites.{NodeState, node_table, both, chips_in, devices_in, mask_of, AreSites, NO_ADDRESS}
 use Rattle.wire_spec.specs.Laws.{StartCallsAll, RepeatedStartCallsAll, UnheardIsOut}
 use Rattle.wire_spec.specs.WorldLaws.{PartsOfBoth, StartOnSites}
 use Rattle.wire_spec.specs.CallLaws.{StartOnWires, SlowOnWires, answer_to}
 use Rattle.wire_spec.proofs.StartClocks.{address_bits}
 use Rattle.i2c_bits.specs.Wiring.{Rooted, the_table, mask_at, CameAnswer, CameStart}
-use Rattle.i2c_bits.specs.Counting.{begun_counts, start_counts}
+use Rattle.i2c_bits.specs.Showing.{begun_seen, called_seen}
 use Rattle.i2c_bits.specs.Stands.{AreTold, StandsIn, MayBegin, CalledTold, StartIs, StartTold, sites_of, chips_on, devices_on}
 use Rattle.i2c_bits.specs.declared.lines.Lines.{Ghosts as LinesGhosts}
 use Rattle.i2c_bits.specs.declared.lines.SclTimeout.{SclTimeout}
@@ -46,10 +46,10 @@ again_low t k w w1 e = sym (ap (λ (c : Came NodeState). c.up) e)
 
 pub called_free : StartCallsAll node_table → (k : Rooted) (w w1 : Bus NodeState) → MayBegin false k w
     → w1 ≡ start_pulls the_table (mask_at k) w
-    → w1 ≡ within_address 8 0 true (both (chips_on w) (devices_on w)) (one_flip w.counts)
+    → w1 ≡ within_address 8 0 true (both (chips_on w) (devices_on w)) (Started ∷ w.seen)
 unfolding the_table
 called_free law k w w1 free is =
-    is ∙ (ap (start_pulls node_table (mask_at k)) free.lines ∙ law (mask_at k) (both (chips_on w) (devices_on w)) w.counts)
+    is ∙ (ap (start_pulls node_table (mask_at k)) free.lines ∙ law (mask_at k) (both (chips_on w) (devices_on w)) w.seen)
 
 called_within : (m : Mode) → RepeatedStartCallsAll node_table m → (k : Rooted) (w w1 : Bus NodeState) → StandsIn k m w
     → (r : Result (Unit {0}) SclTimeout) → CameStart r w1 (repeated_start the_table (mask_at k) w) → CalledTold true r w w1
@@ -58,10 +58,10 @@ called_within m law k w w1 stands (Ok u) is =
     ap (λ (p : Bool × Bus NodeState). p.1)
     (is
     ∙ (ap (repeated_start node_table (mask_at k)) stands.lines
-    ∙ law (mask_at k) w.sda (both (chips_on w) (devices_on w)) w.counts))
+    ∙ law (mask_at k) w.sda (both (chips_on w) (devices_on w)) w.seen))
 called_within m law k w w1 stands (Err e) is =
     let p : false ≡ true = sym is ∙ ap (λ (p : Bool × Bus NodeState). p.0)
-    (ap (repeated_start node_table (mask_at k)) stands.lines ∙ law (mask_at k) w.sda (both (chips_on w) (devices_on w)) w.counts) in cc
+    (ap (repeated_start node_table (mask_at k)) stands.lines ∙ law (mask_at k) w.sda (both (chips_on w) (devices_on w)) w.seen) in cc
 
 pub called_again : RepeatedStartCallsAll node_table (In false 8 0) → RepeatedStartCallsAll node_table Out
     → (k : Rooted) (w w1 : Bus NodeState)
@@ -112,14 +112,14 @@ late_sites byte (s ∷ ss) =
 
 module _ (parts : (cs : List (Site ChipView)) (ds : List (Site TargetState)) → PartsOfBoth cs ds) (k : Rooted) (busy : Bool) (byte : ℕ)
     (cs : List (Site ChipView)) (ds : List (Site TargetState)) (site : StartOnSites k.board k.root busy byte cs ds) where
-  late_all : (w : Bus NodeState) (c : Counts) → w ≡ late_bus node_table byte (both cs ds) c
+  late_all : (w : Bus NodeState) (c : Seen) → w ≡ late_bus node_table byte (both cs ds) c
       → sites_of w ≡ both (map (started chip_table byte) cs) (map (started state_table byte) ds)
   unfolding sites_of
   late_all w c is =
       ap (λ (x : Bus NodeState). map {A = Bit NodeState} (λ (b : Bit NodeState). b.site) x.targets) is
       ∙ (late_sites byte (both cs ds) ∙ site.parts)
 
-  pub on_late : (w : Bus NodeState) (c : Counts) → w ≡ late_bus node_table byte (both cs ds) c
+  pub on_late : (w : Bus NodeState) (c : Seen) → w ≡ late_bus node_table byte (both cs ds) c
       → On w (map (started chip_table byte) cs) (map (started state_table byte) ds)
   on_late w c is = record {
     chips = ap chips_in (late_all w c is) ∙ (parts (map (started chip_table byte) cs) (map (started state_table byte) ds)).chips;
@@ -182,10 +182,10 @@ slow_is Slow is = refl
 slow_is (Byte byte) is = cc
 slow_is Nothing is = cc
 
--- ---- the clock pulses of the address byte
-nine_more : (busy : Bool) (c : Counts) → more_edges 9 (begun_counts busy c) ≡ start_counts busy c
-nine_more false c = refl
-nine_more true c = ap (λ n. record { edges = n; flips = c.flips + 1 }) (omega arith)
+-- ---- the ninth rise of SCL
+rose_or : (held : Bool) (new eight : Seen) → new ≡ rose held true eight → (new ≡ eight) ⊎ (new ≡ Level true ∷ eight)
+rose_or true new eight is = inl is
+rose_or false new eight is = inr is
 
 -- ---- what a start is
 module _ (parts : (cs : List (Site ChipView)) (ds : List (Site TargetState)) → PartsOfBoth cs ds)
@@ -195,9 +195,9 @@ module _ (parts : (cs : List (Site ChipView)) (ds : List (Site TargetState)) →
     → byte / 2 < NO_ADDRESS → AreSites b r cs ds → StartOnSites b r busy byte cs ds)
     (unheard : UnheardIsOut node_table) (k : Rooted) (busy : Bool) (byte : ℕ) (lt : byte < 256) (w w1 w2 : Bus NodeState)
     (told : AreTold k (chips_on w) (devices_on w))
-    (called : w1 ≡ within_address 8 0 true (both (chips_on w) (devices_on w)) (begun_counts busy w.counts)) where
-  abbrev counts : Counts
-  counts = begun_counts busy w.counts
+    (called : w1 ≡ within_address 8 0 true (both (chips_on w) (devices_on w)) (begun_seen busy w.seen)) where
+  abbrev begun : Seen
+  begun = begun_seen busy w.seen
 
   abbrev chips : List (Site ChipView)
   chips = map (started chip_table byte) (chips_on w)
@@ -219,37 +219,38 @@ module _ (parts : (cs : List (Site ChipView)) (ds : List (Site TargetState)) →
 
   comes : is_slow given ≡ false
       → sent
-      ≡ came_up (shifted 0 (not (is_ack given))) (within (entered_by byte) false (both chips devices) (more_edges 9 counts))
+      ≡ came_up (shifted 0 (not (is_ack given))) (within (entered_by byte) false (both chips devices) (byte_seen byte (is_ack given) begun))
   unfolding the_table mask_at
   comes none =
       ap (sent_byte node_table (mask_of k.board k.root) byte) called
-      ∙ in_time k.board k.root byte lt busy true (chips_on w) (devices_on w) counts told.sites none
+      ∙ in_time k.board k.root byte lt busy true (chips_on w) (devices_on w) begun told.sites none
 
   stays_low : is_slow given ≡ true
       → sent ≡ gave_up (late_bus node_table byte (both (chips_on w) (devices_on w))
-      (rose (some_one (stays node_table byte LOOKS) (both (chips_on w) (devices_on w))) (more_edges 8 counts)))
+      (rose (some_one (stays node_table byte LOOKS) (both (chips_on w) (devices_on w))) true (with_levels (bits 8 byte) begun)))
   unfolding the_table mask_at
   stays_low some =
       ap (sent_byte node_table (mask_of k.board k.root) byte) called
-      ∙ slow k.board k.root byte lt busy true (chips_on w) (devices_on w) counts told.sites some
+      ∙ slow k.board k.root byte lt busy true (chips_on w) (devices_on w) begun told.sites some
 
   eight_up : (bit_steps the_table (mask_at k) 0 (bits 8 byte) w1).up ≡ true
   unfolding the_table
   eight_up =
       ap (λ x. (bit_steps node_table (mask_at k) 0 (bits 8 byte) x).up) called
       ∙ ap (λ (c : Came NodeState). c.up)
-      (address_bits node_table (mask_at k) byte lt true (both (chips_on w) (devices_on w)) counts)
+      (address_bits node_table (mask_at k) byte lt true (both (chips_on w) (devices_on w)) begun)
 
   acked : (is : Bool) → is_slow given ≡ is → came_up (shifted 0 false) w2 ≡ sent → StartIs k busy Ack byte w w2
   acked true s e = let p : true ≡ false = ap (λ (c : Came NodeState). c.up) (e ∙ stays_low s) in cc
   acked false s e =
       let f = e ∙ comes s in
       let on : On w2 chips devices = on_lines parts w2 chips devices (entered_by byte) (ap (λ c. c.bus.targets) f) in
+      let took : true ≡ is_ack given = shifted_same true (is_ack given) (ap (λ c. c.read) f) in
       record {
-        answer = ack_is given (shifted_same true (is_ack given) (ap (λ c. c.read) f));
-        stands = stands_on k (entered_by byte) w2 false (more_edges 9 counts) chips devices on (ap (λ c. c.bus) f) told_after;
+        answer = ack_is given took;
+        stands = stands_on k (entered_by byte) w2 false (byte_seen byte (is_ack given) begun) chips devices on (ap (λ c. c.bus) f) told_after;
         world = world_on k true w2 chips devices on ∙ site.world;
-        counts = ap (λ c. c.bus.counts) f ∙ nine_more busy w.counts;
+        seen = ap (λ c. c.bus.seen) f ∙ ap (λ a. byte_seen byte a begun) (sym took);
       }
 
   refused : (is : Bool) → is_slow given ≡ is → came_up (shifted 0 true) w2 ≡ sent → StartIs k busy Nack byte w w2
@@ -263,14 +264,14 @@ module _ (parts : (cs : List (Site ChipView)) (ds : List (Site TargetState)) →
       let no_ack : took ≡ false = ack_by held took no_hold (sym (ap is_ack site.answered) ∙ none) in
       let nobody : some_one hearing (both chips devices) ≡ false =
       ap (some_one hearing) (sym site.parts) ∙ unheard_all node_table byte (both (chips_on w) (devices_on w)) no_hold no_ack in
-      let bus : w2 ≡ within Out false (both chips devices) (more_edges 9 counts) =
-      ap (λ c. c.bus) f ∙ unheard (entered_by byte) false (both chips devices) (more_edges 9 counts) nobody in
+      let bus : w2 ≡ within Out false (both chips devices) (byte_seen byte (is_ack given) begun) =
+      ap (λ c. c.bus) f ∙ unheard (entered_by byte) false (both chips devices) (byte_seen byte (is_ack given) begun) nobody in
       let on : On w2 chips devices = on_lines parts w2 chips devices Out (ap (λ x. x.targets) bus) in
       record {
         answer = nack_by held took no_hold no_ack ∙ sym site.answered;
-        stands = stands_on k Out w2 false (more_edges 9 counts) chips devices on bus told_after;
+        stands = stands_on k Out w2 false (byte_seen byte (is_ack given) begun) chips devices on bus told_after;
         world = world_on k true w2 chips devices on ∙ site.world;
-        counts = ap (λ x. x.counts) bus ∙ nine_more busy w.counts;
+        seen = ap (λ x. x.seen) bus ∙ ap (λ a. byte_seen byte a begun) none;
       }
 
   held_long : (is : Bool) → is_slow given ≡ is → gave_up w2 ≡ sent → StartIs k busy Slow byte w w2
@@ -284,11 +285,13 @@ module _ (parts : (cs : List (Site ChipView)) (ds : List (Site TargetState)) →
           fits = lt;
           chips = chips_on w;
           devices = devices_on w;
-          lines = f ∙ ap (late_bus node_table byte (both (chips_on w) (devices_on w))) (sym (ap (λ x. x.counts) f));
+          lines = f ∙ ap (late_bus node_table byte (both (chips_on w) (devices_on w))) (sym (ap (λ x. x.seen) f));
           told = told;
         };
         world = world_on k true w2 chips devices (on_late parts k busy byte (chips_on w) (devices_on w) site w2 _ f) ∙ site.world;
-        counts = tt;
+        seen =
+            rose_or (some_one (stays node_table byte LOOKS) (both (chips_on w) (devices_on w))) w2.seen (called_seen busy byte w.seen)
+            (ap (λ x. x.seen) f);
       }
 
   pub start_told : (r : Result Answer SclTimeout) → CameAnswer r w2 (bit_steps the_table (mask_at k) 0 (bits 8 byte) w1) sent

@@ -14,7 +14,7 @@ use Rattle.wire_spec.specs.declared.mode.Mode.{Mode}
 use Rattle.wire_spec.specs.declared.mode.Mode.TheVariants.{Out, In}
 use Rattle.wire_spec.specs.Wires.{Site, Bit, LOOKS, shifted, stops}
 use Rattle.wire_spec.specs.Roots.{some_one, at, hearing, stop_site}
-use Rattle.wire_spec.specs.Bus.{Counts, Bus, Came, Mask, one_edge, one_flip, came_up, gave_up, await, pulled, rejoin_from, rejoined, bus_of}
+use Rattle.wire_spec.specs.Bus.{Seen, Level, Started, Stopped, Bus, Came, Mask, came_up, gave_up, await, pulled, rejoin_from, rejoined, bus_of}
 use Rattle.wire_spec.specs.Started.{started, stays}
 use Rattle.wire_spec.specs.Calls.{STOP_LOOKS, free, joined_from, rejoin, stopped, stop_pulls, slow_stop}
 use Rattle.wire_spec.specs.Sites.{NodeState, Chip, Device, node_table, site_with, both, world_by, mask_of, AreSites, NO_ADDRESS, chips_anew}
@@ -23,7 +23,7 @@ use Rattle.wire_spec.specs.WorldLaws.{PartsOfBoth, StartOnSites, StopOnSites, Li
 use Rattle.wire_spec.specs.CallLaws.{StopOnWires, StopAfterSlowOnWires}
 use Rattle.wire_spec.proofs.SiteLemmas.{rejoin_both}
 use Rattle.i2c_bits.specs.Wiring.{Rooted, the_table, mask_at, came_stop, levelled_bits, lined}
-use Rattle.i2c_bits.specs.Counting.{StopCounts}
+use Rattle.i2c_bits.specs.Showing.{StopShows}
 use Rattle.i2c_bits.specs.Stands.{AreTold, StandsIn, IsFree, IsLate, MayEnd, StopIs, StopTold, LineIs, chips_on, devices_on, world_at}
 use Rattle.i2c_bits.specs.declared.lines.SclTimeout.{SclTimeout}
 use Rattle.i2c_bits.proofs.Told.{On, on_lines, world_on, told_on, all_kept, kept_where, sites_map}
@@ -58,27 +58,32 @@ pub all_joined : (f : ℕ → Bool) (n : ℕ) (ds : List (Site TargetState))
 all_joined f n [] all = tt
 all_joined f n (d ∷ ds) all = (all.0, all_joined f (n + 1) ds all.1)
 
-pub free_on : (k : Rooted) (w : Bus NodeState) (c : Counts) (cs : List (Site ChipView)) (ds : List (Site TargetState))
+pub free_on : (k : Rooted) (w : Bus NodeState) (c : Seen) (cs : List (Site ChipView)) (ds : List (Site TargetState))
     → On w cs ds → w ≡ free (both cs ds) c → AreTold k cs ds → (world_at k false w).hearing ≡ [] → IsFree k w
 free_on k w c cs ds on is told nobody = record {
   lines =
       is
       ∙ (ap (λ xs. free (both xs ds) c) (sym on.chips)
       ∙ (ap (λ ys. free (both (chips_on w) ys) c) (sym on.devices)
-      ∙ ap (free (both (chips_on w) (devices_on w))) (sym (ap (λ x. x.counts) is))));
+      ∙ ap (free (both (chips_on w) (devices_on w))) (sym (ap (λ x. x.seen) is))));
   told = told_on k w cs ds on told;
   nobody = nobody;
 }
+
+-- ---- what is seen of a stop after a start that was too slow
+late_shows : (held : Bool) (c : Seen) → StopShows true c (Stopped ∷ cond held (Level false ∷ c) (Started ∷ c))
+late_shows true c = inl refl
+late_shows false c = inr refl
 
 -- ---- what a stop is
 module _ (parts : (cs : List (Site ChipView)) (ds : List (Site TargetState)) → PartsOfBoth cs ds)
     (keeps : KeepsBytes state_table HoldsBytes)
     (sites : (b : BoardView) (r : ℕ) (busy : Bool) (cs : List (Site ChipView)) (ds : List (Site TargetState))
     → AreSites b r cs ds → StopOnSites b r busy cs ds) (k : Rooted) (w w1 : Bus NodeState) where
-  frees : (late : Bool) (cs : List (Site ChipView)) (ds : List (Site TargetState)) (c : Counts) → On w cs ds → AreTold k cs ds
+  frees : (late : Bool) (cs : List (Site ChipView)) (ds : List (Site TargetState)) (c : Seen) → On w cs ds → AreTold k cs ds
       → w1 ≡ free (both (stopped_chips k.board k.root cs ds) (stopped_devices k.board k.root cs ds)) c
-      → StopCounts late w.counts c → StopIs k late w w1
-  frees late cs ds c on told is counts =
+      → StopShows late w.seen c → StopIs k late w w1
+  frees late cs ds c on told is shows =
       let cs1 : List (Site ChipView) = stopped_chips k.board k.root cs ds in
       let ds1 : List (Site TargetState) = stopped_devices k.board k.root cs ds in
       let site : StopOnSites k.board k.root true cs ds = sites k.board k.root true cs ds told.sites in
@@ -94,7 +99,7 @@ module _ (parts : (cs : List (Site ChipView)) (ds : List (Site TargetState)) →
             })
             (ap (λ v. v.hearing) world);
         world = world;
-        counts = subst (StopCounts late w.counts) (sym (ap (λ x. x.counts) is)) counts;
+        seen = subst (StopShows late w.seen) (sym (ap (λ x. x.seen) is)) shows;
       }
 
   within_told : (m : Mode) → StopOnWires m → StandsIn k m w → (r : Result (Unit {0}) SclTimeout)
@@ -103,12 +108,12 @@ module _ (parts : (cs : List (Site ChipView)) (ds : List (Site TargetState)) →
   unfolding the_table mask_at
   within_told m wires stands (Ok u) is =
       let e = is ∙ (ap (stop_pulls node_table (mask_of k.board k.root)) stands.lines
-      ∙ wires k.board k.root w.sda (chips_on w) (devices_on w) w.counts) in
-      frees false (chips_on w) (devices_on w) (one_flip (one_edge w.counts)) (record { chips = refl; devices = refl }) stands.told
+      ∙ wires k.board k.root w.sda (chips_on w) (devices_on w) w.seen) in
+      frees false (chips_on w) (devices_on w) (Stopped ∷ Level false ∷ w.seen) (record { chips = refl; devices = refl }) stands.told
       (ap (λ (p : Bool × Bus NodeState). p.1) e) refl
   within_told m wires stands (Err l) is =
       let e = is ∙ (ap (stop_pulls node_table (mask_of k.board k.root)) stands.lines
-      ∙ wires k.board k.root w.sda (chips_on w) (devices_on w) w.counts) in
+      ∙ wires k.board k.root w.sda (chips_on w) (devices_on w) w.seen) in
       let p : false ≡ true = ap (λ (p : Bool × Bus NodeState). p.0) e in cc
 
   pub stop_told : StopOnWires (In false 8 0) → StopOnWires Out → MayEnd false k w → (r : Result (Unit {0}) SclTimeout)
@@ -124,13 +129,13 @@ module _ (parts : (cs : List (Site ChipView)) (ds : List (Site TargetState)) →
             (map (started state_table late.byte) late.devices))
             (stopped_devices k.board k.root (map (started chip_table late.byte) late.chips)
             (map (started state_table late.byte) late.devices)))
-            (one_flip (cond (some_one (stays node_table late.byte LOOKS) (both late.chips late.devices)) (one_edge w.counts)
-            (one_flip w.counts))),
+            (Stopped ∷ cond (some_one (stays node_table late.byte LOOKS) (both late.chips late.devices)) (Level false ∷ w.seen)
+            (Started ∷ w.seen)),
       )
   unfolding the_table mask_at
   slow_is wires late =
       ap (slow_stop node_table (mask_of k.board k.root)) late.lines
-      ∙ wires k.board k.root late.byte late.chips late.devices w.counts late.told.bytes
+      ∙ wires k.board k.root late.byte late.chips late.devices w.seen late.told.bytes
 
   pub slow_told : StopAfterSlowOnWires
       → ((b : BoardView) (r : ℕ) (busy : Bool) (byte : ℕ) (cs : List (Site ChipView)) (ds : List (Site TargetState))
@@ -142,9 +147,10 @@ module _ (parts : (cs : List (Site ChipView)) (ds : List (Site TargetState)) →
       let site : StartOnSites k.board k.root true late.byte late.chips late.devices =
       starts k.board k.root true late.byte late.chips late.devices (omega (arith, fits)) late.told.sites in
       frees true (map (started chip_table late.byte) late.chips) (map (started state_table late.byte) late.devices) _
-      (on_late parts k true late.byte late.chips late.devices site w w.counts late.lines)
+      (on_late parts k true late.byte late.chips late.devices site w w.seen late.lines)
       (record { sites = site.kept; bytes = started_bytes keeps late.byte late.devices late.told.bytes })
-      (ap (λ (p : Bool × Bus NodeState). p.1) (is ∙ slow_is wires late)) tt
+      (ap (λ (p : Bool × Bus NodeState). p.1) (is ∙ slow_is wires late))
+      (late_shows (some_one (stays node_table late.byte LOOKS) (both late.chips late.devices)) w.seen)
 
 -- ---- the line of a mux
 level_devices : (m level : ℕ) (ds : List (Site TargetState))
@@ -189,16 +195,16 @@ module _ (parts : (cs : List (Site ChipView)) (ds : List (Site TargetState)) →
   abbrev devices : List (Site TargetState)
   devices = devices_anew k.board k.root (levelled m level (chips_on w)) (devices_on w)
 
-  lined_free : w1 ≡ free (both chips devices) w.counts
+  lined_free : w1 ≡ free (both chips devices) w.seen
   unfolding lined mask_at
   lined_free =
       is
       ∙ (ap (lined (mask_of k.board k.root) m level) is_free.lines
-      ∙ (ap (λ (bs : List (Bit NodeState)). bus_of false false (rejoined (mask_of k.board k.root) bs) w.counts)
+      ∙ (ap (λ (bs : List (Bit NodeState)). bus_of false false (rejoined (mask_of k.board k.root) bs) w.seen)
       (level_both m level (chips_on w) (devices_on w))
-      ∙ (ap (λ (bs : List (Bit NodeState)). bus_of false false bs w.counts)
+      ∙ (ap (λ (bs : List (Bit NodeState)). bus_of false false bs w.seen)
       (rejoined_out (mask_of k.board k.root) (both (levelled m level (chips_on w)) (devices_on w)))
-      ∙ ap (λ ss. free ss w.counts) (rejoin_both k.board k.root (levelled m level (chips_on w)) (devices_on w)))))
+      ∙ ap (λ ss. free ss w.seen) (rejoin_both k.board k.root (levelled m level (chips_on w)) (devices_on w)))))
 
   pub line_told : LineIs k m level w w1
   line_told =
@@ -208,9 +214,9 @@ module _ (parts : (cs : List (Site ChipView)) (ds : List (Site TargetState)) →
       let world : world_at k false w1 ≡ after (world_at k false w) (call.Line m level) = world_on k false w1 chips devices on
       ∙ site.world in
       record {
-        free = free_on k w1 w.counts chips devices on lined_free
+        free = free_on k w1 w.seen chips devices on lined_free
             (record { sites = site.kept; bytes = all_joined _ 0 (devices_on w) is_free.told.bytes })
             (ap (λ v. v.hearing) world ∙ is_free.nobody);
         world = world;
-        counts = ap (λ x. x.counts) lined_free;
+        seen = ap (λ x. x.seen) lined_free;
       }

@@ -10,8 +10,8 @@ use Rattle.wire_spec.specs.declared.mode.Mode.{Mode}
 use Rattle.wire_spec.specs.declared.mode.Mode.TheVariants.{Out, In, Give}
 use Rattle.wire_spec.specs.Wires.{Site, Bit, bits, shifted, puts, gets}
 use Rattle.wire_spec.specs.Roots.{at, hearing, put_site, get_site}
-use Rattle.wire_spec.specs.Bus.{Counts, Bus, Came, came_up, gave_up, bit_step, bit_steps, then_bits}
-use Rattle.wire_spec.specs.Calls.{more_edges, within, sent_byte, read_byte, then_answer}
+use Rattle.wire_spec.specs.Bus.{Seen, Bus, Came, came_up, gave_up, bit_step, bit_steps, then_bits}
+use Rattle.wire_spec.specs.Calls.{byte_seen, within, sent_byte, read_byte, then_answer}
 use Rattle.wire_spec.specs.Sites.{NodeState, node_table, both, chips_in, devices_in, world_by, mask_of}
 use Rattle.wire_spec.specs.WorldLaws.{PartsOfBoth, PutOnSites, GetOnSites}
 use Rattle.i2c_bits.specs.Wiring.{Rooted, the_table, mask_at, came_acked, CameRead}
@@ -112,7 +112,7 @@ told_on k w cs ds on told =
     subst (λ (xs : List (Site ChipView)). AreTold k xs (devices_on w)) (sym on.chips)
     (subst (λ (ys : List (Site TargetState)). AreTold k cs ys) (sym on.devices) told)
 
-pub stands_on : (k : Rooted) (m : Mode) (w : Bus NodeState) (low : Bool) (c : Counts) (cs : List (Site ChipView))
+pub stands_on : (k : Rooted) (m : Mode) (w : Bus NodeState) (low : Bool) (c : Seen) (cs : List (Site ChipView))
     (ds : List (Site TargetState))
     → On w cs ds → w ≡ within m low (both cs ds) c → AreTold k cs ds → StandsIn k m w
 stands_on k m w low c cs ds on is told = record {
@@ -121,7 +121,7 @@ stands_on k m w low c cs ds on is told = record {
       ∙ (ap (λ xs. within m low (both xs ds) c) (sym on.chips)
       ∙ (ap (λ ys. within m low (both (chips_on w) ys) c) (sym on.devices)
       ∙ (ap (λ b. within m b (both (chips_on w) (devices_on w)) c) (sym (ap (λ x. x.sda) is))
-      ∙ ap (within m w.sda (both (chips_on w) (devices_on w))) (sym (ap (λ x. x.counts) is)))));
+      ∙ ap (within m w.sda (both (chips_on w) (devices_on w))) (sym (ap (λ x. x.seen) is)))));
   told = told_on k w cs ds on told;
 }
 
@@ -161,11 +161,11 @@ module _ (law : BytesAreInWorld) (k : Rooted) (w w1 : Bus NodeState) where
   put_comes : (byte : ℕ) → byte < 256 → StandsIn k (In false 8 0) w → (c : Came NodeState)
       → c ≡ sent_byte the_table (mask_at k) byte w
       → c ≡ came_up (shifted 0 (not (takes (world_at k true w) byte)))
-      (within (In false 8 0) false (both (chips_put byte) (devices_put byte)) (more_edges 9 w.counts))
+      (within (In false 8 0) false (both (chips_put byte) (devices_put byte)) (byte_seen byte (takes (world_at k true w) byte) w.seen))
   unfolding the_table mask_at
   put_comes byte lt stands c is =
       is ∙ (ap (sent_byte node_table (mask_of k.board k.root) byte) stands.lines
-      ∙ law.put_wires k.board k.root byte lt true w.sda (chips_on w) (devices_on w) w.counts)
+      ∙ law.put_wires k.board k.root byte lt true w.sda (chips_on w) (devices_on w) w.seen)
 
   pub put_told : (byte : ℕ) → byte < 256 → StandsIn k (In false 8 0) w → (r : Result Bool SclTimeout)
       → came_acked r w1 ≡ sent_byte the_table (mask_at k) byte w → PutTold k r byte w w1
@@ -177,9 +177,10 @@ module _ (law : BytesAreInWorld) (k : Rooted) (w w1 : Bus NodeState) where
       (devices_on w) in
       let on : On w1 (chips_put byte) (devices_put byte) =
       on_lines law.parts w1 (chips_put byte) (devices_put byte) (In false 8 0) (ap (λ c. c.bus.targets) comes) in
+      let took : acked ≡ takes (world_at k true w) byte = shifted_same acked (takes (world_at k true w) byte) (ap (λ c. c.read) comes) in
       record {
-        answer = shifted_same acked (takes (world_at k true w) byte) (ap (λ c. c.read) comes);
-        stands = stands_on k (In false 8 0) w1 false (more_edges 9 w.counts) (chips_put byte) (devices_put byte) on (ap (λ c. c.bus) comes)
+        answer = took;
+        stands = stands_on k (In false 8 0) w1 false (byte_seen byte (takes (world_at k true w) byte) w.seen) (chips_put byte) (devices_put byte) on (ap (λ c. c.bus) comes)
             (record {
               sites = site.kept stands.told.sites;
               bytes = all_kept (put_site state_table byte)
@@ -187,17 +188,17 @@ module _ (law : BytesAreInWorld) (k : Rooted) (w w1 : Bus NodeState) where
                   (devices_on w) stands.told.bytes;
             });
         world = world_on k true w1 (chips_put byte) (devices_put byte) on ∙ site.world;
-        counts = ap (λ c. c.bus.counts) comes;
+        seen = ap (λ c. c.bus.seen) comes ∙ ap (λ a. byte_seen byte a w.seen) (sym took);
       }
 
   get_comes : (ack : Bool) → StandsIn k (Give 8) w
       → read_byte the_table (mask_at k) ack w
       ≡ came_up (gives (world_at k true w))
-      (within (cond ack (Give 8) Out) ack (both (chips_got ack) (devices_got ack)) (more_edges 9 w.counts))
+      (within (cond ack (Give 8) Out) ack (both (chips_got ack) (devices_got ack)) (byte_seen (gives (world_at k true w)) ack w.seen))
   unfolding the_table mask_at
   get_comes ack stands =
       ap (read_byte node_table (mask_of k.board k.root) ack) stands.lines
-      ∙ law.get_wires k.board k.root true ack w.sda (chips_on w) (devices_on w) w.counts
+      ∙ law.get_wires k.board k.root true ack w.sda (chips_on w) (devices_on w) w.seen
 
   pub get_told : (ack : Bool) → StandsIn k (Give 8) w → (r : Result ℕ SclTimeout)
       → CameRead r w1 (read_byte the_table (mask_at k) ack w) → GetTold k r ack w w1
@@ -212,7 +213,7 @@ module _ (law : BytesAreInWorld) (k : Rooted) (w w1 : Bus NodeState) where
       on_lines law.parts w1 (chips_got ack) (devices_got ack) m (ap (λ c. c.bus.targets) comes) in
       record {
         answer = ap (λ c. c.read) comes;
-        stands = stands_on k m w1 ack (more_edges 9 w.counts) (chips_got ack) (devices_got ack) on (ap (λ c. c.bus) comes)
+        stands = stands_on k m w1 ack (byte_seen (gives (world_at k true w)) ack w.seen) (chips_got ack) (devices_got ack) on (ap (λ c. c.bus) comes)
             (record {
               sites = site.kept stands.told.sites;
               bytes = all_kept (get_site state_table ack)
@@ -220,5 +221,5 @@ module _ (law : BytesAreInWorld) (k : Rooted) (w w1 : Bus NodeState) where
                   (devices_on w) stands.told.bytes;
             });
         world = world_on k true w1 (chips_got ack) (devices_got ack) on ∙ site.world;
-        counts = ap (λ c. c.bus.counts) comes;
+        seen = ap (λ c. c.bus.seen) comes ∙ ap (λ b. byte_seen b ack w.seen) (sym (ap (λ c. c.read) comes));
       }

@@ -6,20 +6,20 @@ use Rattle.i2c_base.specs.declared.port.PortCall.{PortCall}
 use Rattle.i2c_spec.specs.World.{World}
 use Rattle.ports.specs.Causes.{counted}
 use Rattle.wire_spec.specs.declared.mode.Mode.TheVariants.{Out, In, Give}
-use Rattle.wire_spec.specs.Bus.{Bus, Counts}
+use Rattle.wire_spec.specs.Bus.{Bus, Seen}
 use Rattle.wire_spec.specs.Sites.{NodeState}
 use Rattle.i2c_bits.specs.Wiring.{Rooted, Wire, AreLetGo}
 use Rattle.i2c_bits.specs.Stands.{StandsIn, IsFree, IsLate, world_at}
 
 -- its world and its log; what the wires have come to since the last stop; its faults; what the pulls and looks have come to;
--- and how often SCL rose and SDA changed while it was high, as told lines count that
+-- and what told lines have shown
 pub record BitPortView : Type 0 where
   pub world : World
   pub log : List PortCall
   pub phase : Phase
   pub faults : ℕ
   pub wire : Wire
-  pub counts : Counts
+  pub seen : Seen
 
 -- a message is in progress
 abbrev pub is_busy : Phase → Bool
@@ -29,7 +29,7 @@ is_busy phase = true
 -- the port over these lines, with what it has come to
 abbrev pub port_of : Rooted → Bus NodeState → Wire → List PortCall → Phase → ℕ → BitPortView
 port_of k bus wire log phase faults =
-    record { world = world_at k (is_busy phase) bus; log = log; phase = phase; faults = faults; wire = wire; counts = bus.counts }
+    record { world = world_at k (is_busy phase) bus; log = log; phase = phase; faults = faults; wire = wire; seen = bus.seen }
 
 -- the last start was too slow
 abbrev pub is_late : Phase → Bool

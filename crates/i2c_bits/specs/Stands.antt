@@ -13,12 +13,12 @@ use Rattle.wire_spec.specs.declared.mode.Mode.TheVariants.{Out, In, Give}
 use Rattle.wire_spec.specs.Wires.{Site, Bit, is_reading}
 use Rattle.wire_spec.specs.Bus.{Bus}
 use Rattle.wire_spec.specs.Started.{late_bus, entered_by}
-use Rattle.wire_spec.specs.Calls.{more_edges, within, within_address, free}
+use Rattle.wire_spec.specs.Calls.{byte_seen, within, within_address, free}
 use Rattle.wire_spec.specs.Sites.{NodeState, node_table, both, chips_in, devices_in, world_by, AreSites}
 use Rattle.wire_spec.specs.WorldLaws.{PartsOfBoth, PutOnSites, GetOnSites}
 use Rattle.wire_spec.specs.CallLaws.{PutOnWires, GetOnWires}
 use Rattle.i2c_bits.specs.Wiring.{Rooted}
-use Rattle.i2c_bits.specs.Counting.{begun_counts, StartCounts, StopCounts}
+use Rattle.i2c_bits.specs.Showing.{begun_seen, StartShows, StopShows}
 use Rattle.i2c_bits.specs.declared.lines.SclTimeout.{SclTimeout}
 
 -- what the world sees of the targets on the lines: all, the chips, and the devices
@@ -42,12 +42,12 @@ pub record AreTold (k : Rooted) (cs : List (Site ChipView)) (ds : List (Site Tar
 
 -- the lines stand within a message, between two clocks, and who has heard stands in this mode
 pub record StandsIn (k : Rooted) (m : Mode) (w : Bus NodeState) : Type 0 where
-  pub lines : w ≡ within m w.sda (both (chips_on w) (devices_on w)) w.counts
+  pub lines : w ≡ within m w.sda (both (chips_on w) (devices_on w)) w.seen
   pub told : AreTold k (chips_on w) (devices_on w)
 
 -- the lines are free, and nobody is in a message
 pub record IsFree (k : Rooted) (w : Bus NodeState) : Type 0 where
-  pub lines : w ≡ free (both (chips_on w) (devices_on w)) w.counts
+  pub lines : w ≡ free (both (chips_on w) (devices_on w)) w.seen
   pub told : AreTold k (chips_on w) (devices_on w)
   pub nobody : (world_at k false w).hearing ≡ []
 
@@ -58,7 +58,7 @@ pub record IsLate (k : Rooted) (w : Bus NodeState) : Type 0 where
   pub fits : byte < 256
   pub chips : List (Site ChipView)
   pub devices : List (Site TargetState)
-  pub lines : w ≡ late_bus node_table byte (both chips devices) w.counts
+  pub lines : w ≡ late_bus node_table byte (both chips devices) w.seen
   pub told : AreTold k chips devices
 
 -- a byte that is put on the wires of a root, or read from them, is one in its world: on the wires, and on the sites, where mux chips
@@ -73,24 +73,24 @@ pub record BytesAreInWorld : Type 0 where
   pub parts : (cs : List (Site ChipView)) (ds : List (Site TargetState)) → PartsOfBoth cs ds
   pub kept : KeepsBytes state_table HoldsBytes
 
--- a put on the lines is one in the world; with its acknowledge it is nine clock pulses (UM10204 sections 3.1.3 and 3.1.5)
+-- a put on the lines is one in the world, and shows the byte and the answer to it (UM10204 sections 3.1.5 and 3.1.6)
 pub record PutIs (k : Rooted) (acked : Bool) (byte : ℕ) (old new : Bus NodeState) : Type 0 where
   pub answer : acked ≡ takes (world_at k true old) byte
   pub stands : StandsIn k (In false 8 0) new
   pub world : world_at k true new ≡ after (world_at k true old) (call.Put byte)
-  pub counts : new.counts ≡ more_edges 9 old.counts
+  pub seen : new.seen ≡ byte_seen byte acked old.seen
 
 -- SCL comes up in time in a put
 abbrev pub PutTold : Rooted → Result Bool SclTimeout → ℕ → Bus NodeState → Bus NodeState → Type 0
 PutTold k (Ok acked) byte old new = PutIs k acked byte old new
 PutTold k (Err e) byte old new = ⊥
 
--- a get on the lines is one in the world, and nine clock pulses likewise
+-- a get on the lines is one in the world, and shows the byte that it gives and the controller's answer
 pub record GetIs (k : Rooted) (byte : ℕ) (ack : Bool) (old new : Bus NodeState) : Type 0 where
   pub answer : byte ≡ gives (world_at k true old)
   pub stands : StandsIn k (cond ack (Give 8) Out) new
   pub world : world_at k true new ≡ after (world_at k true old) (call.Get ack)
-  pub counts : new.counts ≡ more_edges 9 old.counts
+  pub seen : new.seen ≡ byte_seen byte ack old.seen
 
 -- SCL comes up in time in a get
 abbrev pub GetTold : Rooted → Result ℕ SclTimeout → Bool → Bus NodeState → Bus NodeState → Type 0
@@ -105,13 +105,13 @@ MayBegin true k w = StandsIn k (In false 8 0) w ⊎ StandsIn k Out w
 -- all that is joined takes in an address, after a start or a repeated one
 abbrev pub CalledTold : (busy : Bool) → Result (Unit {0}) SclTimeout → Bus NodeState → Bus NodeState → Type 0
 CalledTold busy (Ok u) old new =
-    new ≡ within_address 8 0 true (both (chips_on old) (devices_on old)) (begun_counts busy old.counts)
+    new ≡ within_address 8 0 true (both (chips_on old) (devices_on old)) (begun_seen busy old.seen)
 CalledTold busy (Err e) old new = ⊥
 
 -- all that is joined takes in an address of which nothing has come yet
 pub record IsCalled (w : Bus NodeState) : Type 0 where
   pub sites : List (Site NodeState)
-  pub lines : w ≡ within_address 8 0 true sites w.counts
+  pub lines : w ≡ within_address 8 0 true sites w.seen
 
 -- how the lines stand behind the answer to an address byte
 abbrev pub StandsBy : Answer → ℕ → Rooted → Bus NodeState → Type 0
@@ -126,7 +126,7 @@ pub record StartIs (k : Rooted) (busy : Bool) (a : Answer) (byte : ℕ) (old new
   pub answer : a ≡ answer (world_at k busy old) (byte / 2) (is_reading byte)
   pub stands : StandsBy a byte k new
   pub world : world_at k true new ≡ after (world_at k busy old) (call.Start (byte / 2) (is_reading byte))
-  pub counts : StartCounts busy a old.counts new.counts
+  pub seen : StartShows busy byte a old.seen new.seen
 
 -- SCL comes up in time in the eight bits of an address
 abbrev pub StartTold : Rooted → Bool → Result Answer SclTimeout → ℕ → Bus NodeState → Bus NodeState → Type 0
@@ -142,7 +142,7 @@ MayEnd true k w = IsLate k w
 pub record StopIs (k : Rooted) (late : Bool) (old new : Bus NodeState) : Type 0 where
   pub free : IsFree k new
   pub world : world_at k false new ≡ after (world_at k true old) call.Stop
-  pub counts : StopCounts late old.counts new.counts
+  pub seen : StopShows late old.seen new.seen
 
 -- SCL comes up in time in a stop
 abbrev pub StopTold : Rooted → (late : Bool) → Result (Unit {0}) SclTimeout → Bus NodeState → Bus NodeState → Type 0
@@ -153,4 +153,4 @@ StopTold k late (Err e) old new = ⊥
 pub record LineIs (k : Rooted) (m level : ℕ) (old new : Bus NodeState) : Type 0 where
   pub free : IsFree k new
   pub world : world_at k false new ≡ after (world_at k false old) (call.Line m level)
-  pub counts : new.counts ≡ old.counts
+  pub seen : new.seen ≡ old.seen

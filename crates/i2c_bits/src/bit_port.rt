@@ -7,9 +7,9 @@ ghost use Rattle.i2c_base.specs.declared.port.PortCall.TheVariants as call;
 ghost use Rattle.i2c_spec.specs.World.{after, answer, takes, gives};
 ghost use Rattle.ports.specs.Causes.{HasCause, counted};
 ghost use Rattle.ports.specs.LineCalls.{HasLine};
-ghost use Rattle.wire_spec.specs.Calls.{more_edges};
+ghost use Rattle.wire_spec.specs.Calls.{byte_seen};
 ghost use Rattle.i2c_bits.specs.Wiring.{AreLetGo, LooksTell, StartLooksTell, StopLooksTell};
-ghost use Rattle.i2c_bits.specs.Counting.{StartCounts, StopCounts};
+ghost use Rattle.i2c_bits.specs.Showing.{address_byte, StartShows, StopShows};
 ghost use Rattle.i2c_bits.specs.Stands.{IsFree, world_at};
 ghost use Rattle.i2c_bits.specs.PortViews as view;
 ghost use Rattle.i2c_bits.specs.PortViews.{FaultsTell, port_of};
@@ -73,10 +73,19 @@ impl<L: ByteLines> BitPort<L> {
         self.phase
     }
 
+    /// Its lines.
+    pub fn lines(&self) -> &L
+        ensures world { world_at (L.board result.now) (view.is_busy self.now.phase) (L.bus result.now) ≡ self.now.world }
+        ensures seen { (L.bus result.now).seen ≡ self.now.seen }
+        ensures wire { L.wire result.now ≡ self.now.wire }
+    {
+        &self.lines
+    }
+
     /// Its lines, and whether a message was in progress on them.
     pub fn into_parts(self) -> ClosedPort<L>
         ensures world { world_at (L.board result.lines) result.busy (L.bus result.lines) ≡ self.world }
-        ensures counts { (L.bus result.lines).counts ≡ self.counts }
+        ensures seen { (L.bus result.lines).seen ≡ self.seen }
     {
         ClosedPort {
             busy: is_busy(&self.phase),
@@ -129,8 +138,8 @@ impl<L: ByteLines + Send> Port for BitPort<L> {
         ensures log_failed { IsTrue L.tells → OnErr result (self.new.log ≡ self.old.log ++ call.Fault ∷ []) }
         ensures faults { FaultsTell L.tells result self.old.faults self.new.faults }
         ensures looks { StartLooksTell result self.old.wire self.new.wire }
-        ensures counts { IsTrue L.tells
-            → IfOk result (λ a. StartCounts (view.is_busy self.old.phase) a self.old.counts self.new.counts) }
+        ensures seen { IsTrue L.tells
+            → IfOk result (λ a. StartShows (view.is_busy self.old.phase) (address_byte addr reading) a self.old.seen self.new.seen) }
     {
         let byte = 2 * addr.get() + u8::from(reading);
         let busy = is_busy(&self.phase);
@@ -160,7 +169,7 @@ impl<L: ByteLines + Send> Port for BitPort<L> {
         ensures log_failed { IsTrue L.tells → OnErr result (self.new.log ≡ self.old.log ++ call.Fault ∷ []) }
         ensures faults { FaultsTell L.tells result self.old.faults self.new.faults }
         ensures looks { LooksTell result self.old.wire self.new.wire }
-        ensures counts { IsTrue L.tells → OnOk result (self.new.counts ≡ more_edges 9 self.old.counts) }
+        ensures seen { IsTrue L.tells → IfOk result (λ acked. self.new.seen ≡ byte_seen byte acked self.old.seen) }
     {
         match put_byte(&mut self.lines, byte) {
             Ok(acked) => {
@@ -192,7 +201,7 @@ impl<L: ByteLines + Send> Port for BitPort<L> {
         ensures log_failed { IsTrue L.tells → OnErr result (self.new.log ≡ self.old.log ++ call.Fault ∷ []) }
         ensures faults { FaultsTell L.tells result self.old.faults self.new.faults }
         ensures looks { LooksTell result self.old.wire self.new.wire }
-        ensures counts { IsTrue L.tells → OnOk result (self.new.counts ≡ more_edges 9 self.old.counts) }
+        ensures seen { IsTrue L.tells → IfOk result (λ byte. self.new.seen ≡ byte_seen byte ack self.old.seen) }
     {
         match get_byte(&mut self.lines, ack) {
             Ok(byte) => {
@@ -218,7 +227,7 @@ impl<L: ByteLines + Send> Port for BitPort<L> {
         ensures log_failed { IsTrue L.tells → OnErr result (self.new.log ≡ self.old.log ++ call.Fault ∷ []) }
         ensures faults { FaultsTell L.tells result self.old.faults self.new.faults }
         ensures looks { StopLooksTell result self.old.wire self.new.wire }
-        ensures counts { IsTrue L.tells → OnOk result (StopCounts (view.is_late self.old.phase) self.old.counts self.new.counts) }
+        ensures seen { IsTrue L.tells → OnOk result (StopShows (view.is_late self.old.phase) self.old.seen self.new.seen) }
     {
         let late = is_late(&self.phase);
         match stop_message(&mut self.lines, late) {
@@ -246,7 +255,7 @@ impl<L: ByteLines + Send> Port for BitPort<L> {
         ensures faults { FaultsTell L.tells result self.old.faults self.new.faults }
         ensures ok { IsOk result }
         ensures wire { self.new.wire ≡ self.old.wire }
-        ensures counts { IsTrue L.tells → self.new.counts ≡ self.old.counts }
+        ensures seen { IsTrue L.tells → self.new.seen ≡ self.old.seen }
     {
         set_line(&mut self.lines, mux, level);
         self.log.add(PortCall::Line(mux, level));

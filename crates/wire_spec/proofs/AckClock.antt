@@ -2,7 +2,7 @@
 use Rattle.wire_spec.proofs.Cited.{◌≡◌, ℕ, zero, suc, ◌+◌, ◌-◌, ◌/◌, Bool, true, false, cond, List, [], ◌∷◌, map, refl, ap, sym, ◌∙◌, arith}
 use Rattle.wire_spec.proofs.Cited.{◌==◌, ◌||◌, not, nat_tests, Start, Table, is_slow, In, Answered, Give, Out, site_of, Site, shifted, rise}
 use Rattle.wire_spec.proofs.Cited.{fall, tick, hears, other, stretch, next_of, is_named, is_reading, acks_start, stands, Bit, some_one}
-use Rattle.wire_spec.proofs.Cited.{pulls_line, sda, where_joined, at, start_site, Mask, Counts, one_edge, Bus, Came, holds_line, scl_level}
+use Rattle.wire_spec.proofs.Cited.{pulls_line, sda, where_joined, at, start_site, Mask, Seen, Level, Bus, Came, holds_line, scl_level}
 use Rattle.wire_spec.proofs.Cited.{sda_level, each, rises, closed, bus_of, came_up, stays_if, stays, rose}
 use Rattle.wire_spec.specs.Wires.{entered}
 use Rattle.wire_spec.specs.Bus.{looked, await}
@@ -102,23 +102,35 @@ fall_all t byte r j (s ∷ ss) done =
     ∙ ap (λ bs. settled t byte s ∷ bs) (fall_all t byte r j ss (or_right _ _ done))
 
 -- the lines while they wait
-abbrev pub wait_bus : {X : Type 0} → Table X → ℕ → ℕ → ℕ → List (Site X) → Counts → Bus X
+abbrev pub wait_bus : {X : Type 0} → Table X → ℕ → ℕ → ℕ → List (Site X) → Seen → Bus X
 wait_bus t byte r j ss c = bus_of false false (map (waiting t byte r j) ss) c
 
-pub rise_wait : {X : Type 0} (t : Table X) (byte r j : ℕ) (ss : List (Site X)) (c : Counts)
-    → rises t (wait_bus t byte r j ss c) ≡ wait_bus t byte r j ss (one_edge c)
+-- the level of SDA then, and what was seen after so many looks: SCL rises once nobody holds it
+abbrev pub ack_level : {X : Type 0} → Table X → ℕ → List (Site X) → Bool
+ack_level t byte ss = not (some_one (acknowledges t byte) ss)
+
+abbrev pub seen_by : {X : Type 0} → Table X → ℕ → ℕ → List (Site X) → Seen → Seen
+seen_by t byte j ss c = rose (some_one (stays t byte j) ss) (ack_level t byte ss) c
+
+wait_sda : {X : Type 0} (t : Table X) (byte r j : ℕ) (ss : List (Site X)) → sda t (map (waiting t byte r j) ss) true ≡ ack_level t byte ss
+wait_sda t byte r j ss =
+    ap not (some_map (waiting t byte r j) (pulls_line t) (acknowledges t byte)
+    (λ s. pulls_one t byte r j s.addr s.joined s.heard (is_named byte s) s.state) ss)
+
+pub rise_wait : {X : Type 0} (t : Table X) (byte r j : ℕ) (ss : List (Site X)) (c : Seen)
+    → rises t (wait_bus t byte r j ss c) ≡ wait_bus t byte r j ss (Level (ack_level t byte ss) ∷ c)
 rise_wait t byte r j ss c =
-    ap (λ bs. bus_of false false bs (one_edge c))
-    (map_step (waiting t byte r j) (waiting t byte r j) _ (λ s. rise_one t byte r j
-    (sda t (map (waiting t byte r j) ss) true) s.addr s.joined s.heard
-    (is_named byte s) s.state) ss)
+    let l : Bool = sda t (map (waiting t byte r j) ss) true in
+    ap (λ bs. bus_of false false bs (Level l ∷ c))
+    (map_step (waiting t byte r j) (waiting t byte r j) _ (λ s. rise_one t byte r j l s.addr s.joined s.heard (is_named byte s) s.state) ss)
+    ∙ ap (λ k. wait_bus t byte r j ss (Level k ∷ c)) (wait_sda t byte r j ss)
 
-pub by_busy : {A : Type 0} (f : Counts → A) (c : Counts) (b up : Bool) (x y : A) → up ≡ not b → x ≡ f (one_edge c) → y ≡ f c
-    → cond up x y ≡ f (rose b c)
-by_busy f c true up x y is h g = ap (λ u. cond u x y) is ∙ g
-by_busy f c false up x y is h g = ap (λ u. cond u x y) is ∙ h
+pub by_busy : {A : Type 0} (f : Seen → A) (c : Seen) (high b up : Bool) (x y : A) → up ≡ not b → x ≡ f (Level high ∷ c) → y ≡ f c
+    → cond up x y ≡ f (rose b high c)
+by_busy f c high true up x y is h g = ap (λ u. cond u x y) is ∙ g
+by_busy f c high false up x y is h g = ap (λ u. cond u x y) is ∙ h
 
-pub wait_level : {X : Type 0} (t : Table X) (byte r j : ℕ) (ss : List (Site X)) (c : Counts)
+pub wait_level : {X : Type 0} (t : Table X) (byte r j : ℕ) (ss : List (Site X)) (c : Seen)
     → scl_level (wait_bus t byte r j ss c) ≡ not (some_one (stays t byte j) ss)
 wait_level t byte r j ss c =
     ap not
@@ -126,20 +138,21 @@ wait_level t byte r j ss c =
     (is_named byte s) s.state) ss)
 
 -- SCL is let go for the acknowledge clock
-pub let_go : {X : Type 0} (t : Table X) (byte r j : ℕ) (ss : List (Site X)) (c : Counts)
+pub let_go : {X : Type 0} (t : Table X) (byte r j : ℕ) (ss : List (Site X)) (c : Seen)
     → cond (scl_level (wait_bus t byte r j ss c)) (rises t (wait_bus t byte r j ss c)) (wait_bus t byte r j ss c)
-    ≡ wait_bus t byte r j ss (rose (some_one (stays t byte j) ss) c)
+    ≡ wait_bus t byte r j ss (seen_by t byte j ss c)
 let_go t byte r j ss c =
-    by_busy (wait_bus t byte r j ss) c (some_one (stays t byte j) ss) _ _ _ (wait_level t byte r j ss c) (rise_wait t byte r j ss c) refl
+    by_busy (wait_bus t byte r j ss) c (ack_level t byte ss) (some_one (stays t byte j) ss) _ _ _ (wait_level t byte r j ss c)
+    (rise_wait t byte r j ss c) refl
 
-tick_wait : {X : Type 0} (t : Table X) (byte r j : ℕ) (ss : List (Site X)) (c : Counts)
+tick_wait : {X : Type 0} (t : Table X) (byte r j : ℕ) (ss : List (Site X)) (c : Seen)
     → each tick (wait_bus t byte (suc (suc r)) j ss c) ≡ wait_bus t byte (suc r) (suc j) ss c
 tick_wait t byte r j ss c =
     ap (λ bs. bus_of false false bs c) (map_step (waiting t byte (suc (suc r)) j) (waiting t byte (suc r) (suc j)) _
     (λ s. tick_one t byte r j s.addr s.joined s.heard (is_named byte s) s.state) ss)
 
-look_wait : {X : Type 0} (t : Table X) (byte r j : ℕ) (ss : List (Site X)) (c : Counts) → some_one (stays t byte j) ss ≡ true
-    → looked t (wait_bus t byte (suc (suc r)) j ss c) ≡ wait_bus t byte (suc r) (suc j) ss (rose (some_one (stays t byte (suc j)) ss) c)
+look_wait : {X : Type 0} (t : Table X) (byte r j : ℕ) (ss : List (Site X)) (c : Seen) → some_one (stays t byte j) ss ≡ true
+    → looked t (wait_bus t byte (suc (suc r)) j ss c) ≡ wait_bus t byte (suc r) (suc j) ss (seen_by t byte (suc j) ss c)
 unfolding looked
 look_wait {X} t byte r j ss c busy =
     let w : Bus X = wait_bus t byte (suc (suc r)) j ss c in
@@ -147,42 +160,40 @@ look_wait {X} t byte r j ss c busy =
     (wait_level t byte (suc (suc r)) j ss c ∙ ap not busy)
     ∙ (ap (λ v. cond (scl_level v) (rises t v) v) (tick_wait t byte r j ss c) ∙ let_go t byte (suc r) (suc j) ss c)
 
-abbrev pub Acked : {X : Type 0} → Table X → ℕ → ℕ → List (Site X) → Counts → Came X
+abbrev pub Acked : {X : Type 0} → Table X → ℕ → ℕ → List (Site X) → Seen → Came X
 Acked t byte v ss c =
-    came_up (shifted v (not (some_one (acknowledges t byte) ss))) (bus_of true false (map (settled t byte) ss) (one_edge c))
+    came_up (shifted v (ack_level t byte ss)) (bus_of true false (map (settled t byte) ss) (Level (ack_level t byte ss) ∷ c))
 
-comes_up : {X : Type 0} (t : Table X) (mask : Mask X) (byte v n r j : ℕ) (ss : List (Site X)) (c : Counts)
+comes_up : {X : Type 0} (t : Table X) (mask : Mask X) (byte v n r j : ℕ) (ss : List (Site X)) (c : Seen)
     → some_one (stays t byte j) ss ≡ false
-    → closed t mask true (await t v (suc n) (wait_bus t byte r j ss (rose (some_one (stays t byte j) ss) c))) ≡ Acked t byte v ss c
+    → closed t mask true (await t v (suc n) (wait_bus t byte r j ss (seen_by t byte j ss c))) ≡ Acked t byte v ss c
 comes_up {X} t mask byte v n r j ss c done =
-    let w : Bus X = wait_bus t byte r j ss (one_edge c) in
-    let up : scl_level w ≡ true = wait_level t byte r j ss (one_edge c) ∙ ap not done in
-    let level : sda_level t w ≡ not (some_one (acknowledges t byte) ss) =
-    ap not (some_map (waiting t byte r j) (pulls_line t) (acknowledges t byte)
-    (λ s. pulls_one t byte r j s.addr s.joined s.heard (is_named byte s) s.state) ss) in
-    ap (λ b. closed t mask true (await t v (suc n) (wait_bus t byte r j ss (rose b c)))) done
+    let d : Seen = Level (ack_level t byte ss) ∷ c in
+    let w : Bus X = wait_bus t byte r j ss d in
+    let up : scl_level w ≡ true = wait_level t byte r j ss d ∙ ap not done in
+    ap (λ b. closed t mask true (await t v (suc n) (wait_bus t byte r j ss (rose b (ack_level t byte ss) c)))) done
     ∙ (ap (closed t mask true) (looks_up t v n w up)
     ∙ (ap (λ b. came_up (shifted v (sda_level t w)) b)
-    (goes_down t mask w false up ∙ ap (λ bs. bus_of true false bs (one_edge c)) (fall_all t byte r j ss done))
-    ∙ ap (λ l. came_up (shifted v l) (bus_of true false (map (settled t byte) ss) (one_edge c))) level))
+    (goes_down t mask w false up ∙ ap (λ bs. bus_of true false bs d) (fall_all t byte r j ss done))
+    ∙ ap (λ l. came_up (shifted v l) (bus_of true false (map (settled t byte) ss) d)) (wait_sda t byte r j ss)))
 
 -- a low look
-pub goes_on : {X : Type 0} (t : Table X) (byte v n r j : ℕ) (ss : List (Site X)) (c : Counts) → some_one (stays t byte j) ss ≡ true
-    → await t v (suc n) (wait_bus t byte (suc (suc r)) j ss (rose (some_one (stays t byte j) ss) c))
-    ≡ await t v n (wait_bus t byte (suc r) (suc j) ss (rose (some_one (stays t byte (suc j)) ss) c))
+pub goes_on : {X : Type 0} (t : Table X) (byte v n r j : ℕ) (ss : List (Site X)) (c : Seen) → some_one (stays t byte j) ss ≡ true
+    → await t v (suc n) (wait_bus t byte (suc (suc r)) j ss (seen_by t byte j ss c))
+    ≡ await t v n (wait_bus t byte (suc r) (suc j) ss (seen_by t byte (suc j) ss c))
 unfolding await
 goes_on {X} t byte v n r j ss c busy =
     let w : Bus X = wait_bus t byte (suc (suc r)) j ss c in
-    ap (λ b. await t v (suc n) (wait_bus t byte (suc (suc r)) j ss (rose b c))) busy
+    ap (λ b. await t v (suc n) (wait_bus t byte (suc (suc r)) j ss (rose b (ack_level t byte ss) c))) busy
     ∙ (ap (λ u. cond {A = Came X} u (came_up (shifted v (sda_level t w)) (looked t w)) (await t v n (looked t w)))
     (wait_level t byte (suc (suc r)) j ss c ∙ ap not busy)
     ∙ ap (await t v n) (look_wait t byte r j ss c busy))
 
--- who holds SCL for at most 64 looks lets it come up in time: one edge, and nothing that is left tells for how many looks
-pub ack_clock : {X : Type 0} (t : Table X) (mask : Mask X) (byte v n j : ℕ) (ss : List (Site X)) (c : Counts) → suc n + j ≡ 65
+-- who holds SCL for at most 64 looks lets it come up in time: one level, and nothing that is left tells for how many looks
+pub ack_clock : {X : Type 0} (t : Table X) (mask : Mask X) (byte v n j : ℕ) (ss : List (Site X)) (c : Seen) → suc n + j ≡ 65
     → some_one (stays t byte 64) ss ≡ false
     → (b : Bool) → some_one (stays t byte j) ss ≡ b
-    → closed t mask true (await t v (suc n) (wait_bus t byte (suc n) j ss (rose (some_one (stays t byte j) ss) c))) ≡ Acked t byte v ss c
+    → closed t mask true (await t v (suc n) (wait_bus t byte (suc n) j ss (seen_by t byte j ss c))) ≡ Acked t byte v ss c
 ack_clock t mask byte v n j ss c sum quick false is = comes_up t mask byte v n (suc n) j ss c is
 ack_clock t mask byte v zero j ss c sum quick true is =
     let e : j ≡ 64 = omega arith in let p : true ≡ false = sym is ∙ (ap (λ m. some_one (stays t byte m) ss) e ∙ quick) in cc

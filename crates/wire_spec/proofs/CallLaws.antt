@@ -2,8 +2,8 @@
 use Rattle.wire_spec.proofs.Cited.{◌≡◌, ℕ, ◌/◌, ◌<◌, Bool, true, false, cond, List, [], ◌∷◌, ◌++◌, map, refl, ap, sym, ◌∙◌, arith, not}
 use Rattle.wire_spec.proofs.Cited.{AllByRecursion, BoardView, IsByte, ChipView, chip_table, TargetState, state_table, IsFairTable, is_ack}
 use Rattle.wire_spec.proofs.Cited.{is_slow, takes, gives, Mode, Out, In, Give, Site, LOOKS, is_reading, shifted, some_one, put_site}
-use Rattle.wire_spec.proofs.Cited.{get_site, stop_site, Counts, one_edge, one_flip, came_up, started, stays, answers_so, answer_by}
-use Rattle.wire_spec.proofs.Cited.{entered_by, more_edges, within, free, rejoin, NodeState, Chip, Device, node_table, site_with, both}
+use Rattle.wire_spec.proofs.Cited.{get_site, stop_site, Seen, Level, Started, Stopped, with_levels, bits, came_up, started, stays, answers_so, answer_by}
+use Rattle.wire_spec.proofs.Cited.{entered_by, byte_seen, within, free, rejoin, NodeState, Chip, Device, node_table, site_with, both}
 use Rattle.wire_spec.proofs.Cited.{mask_of, AreSites, world_by, StopFreesTheLines}
 use Rattle.i2c_spec.specs.Targets.{HoldsBytes, KeepsBytes}
 use Rattle.wire_spec.specs.CallLaws.{PutOnWires, GetOnWires, StartOnWires, SlowOnWires, StopOnWires, StopAfterSlowOnWires, answer_to}
@@ -16,17 +16,21 @@ pub put_on_wires : PutOnWires
 put_on_wires b r byte lt busy low cs ds c =
     let is = put_on_sites b r busy byte cs ds in
     puts_are_events node_table (mask_of b r) byte lt low (both cs ds) c
-    ∙ (ap (λ a. came_up (shifted 0 (not a)) (within (In false 8 0) false (map (put_site node_table byte) (both cs ds)) (more_edges 9 c)))
+    ∙ (ap (λ a. came_up (shifted 0 (not a)) (within (In false 8 0) false (map (put_site node_table byte) (both cs ds))
+    (byte_seen byte a c)))
     is.answered
-    ∙ ap (λ ss. came_up (shifted 0 (not (takes (world_by b r busy cs ds) byte))) (within (In false 8 0) false ss (more_edges 9 c)))
+    ∙ ap (λ ss. came_up (shifted 0 (not (takes (world_by b r busy cs ds) byte))) (within (In false 8 0) false ss
+    (byte_seen byte (takes (world_by b r busy cs ds) byte) c)))
     is.parts)
 
 pub get_on_wires : IsFairTable chip_table → IsFairTable state_table → GetOnWires
 get_on_wires chips devices b r busy ack low cs ds c =
     let is = get_on_sites chips devices b r busy ack cs ds in
     gets_are_events node_table (mask_of b r) ack low (both cs ds) c
-    ∙ (ap (λ n. came_up n (within (cond ack (Give 8) Out) ack (map (get_site node_table ack) (both cs ds)) (more_edges 9 c))) is.answered
-    ∙ ap (λ ss. came_up (gives (world_by b r busy cs ds)) (within (cond ack (Give 8) Out) ack ss (more_edges 9 c))) is.parts)
+    ∙ (ap (λ n. came_up n (within (cond ack (Give 8) Out) ack (map (get_site node_table ack) (both cs ds))
+    (byte_seen n ack c))) is.answered
+    ∙ ap (λ ss. came_up (gives (world_by b r busy cs ds)) (within (cond ack (Give 8) Out) ack ss
+    (byte_seen (gives (world_by b r busy cs ds)) ack c))) is.parts)
 
 -- ---- a start, by what the world answers
 slow_of : (slow acked : Bool) → is_slow (answer_by slow acked) ≡ slow
@@ -60,9 +64,11 @@ pub start_on_wires : IsFairTable chip_table → IsFairTable state_table → Star
 start_on_wires chips devices b r byte lt busy low cs ds c are quick =
     let none = slow_is chips devices b r byte lt busy cs ds are ∙ quick in
     address_is_event node_table (node_fair chips devices) (mask_of b r) byte lt low (both cs ds) c none
-    ∙ (ap (λ a. came_up (shifted 0 (not a)) (within (entered_by byte) false (map (started node_table byte) (both cs ds)) (more_edges 9 c)))
+    ∙ (ap (λ a. came_up (shifted 0 (not a)) (within (entered_by byte) false (map (started node_table byte) (both cs ds))
+    (byte_seen byte a c)))
     (acked_is chips devices b r byte lt busy cs ds are none)
-    ∙ ap (λ ss. came_up (shifted 0 (not (is_ack (answer_to b r busy byte cs ds)))) (within (entered_by byte) false ss (more_edges 9 c)))
+    ∙ ap (λ ss. came_up (shifted 0 (not (is_ack (answer_to b r busy byte cs ds)))) (within (entered_by byte) false ss
+    (byte_seen byte (is_ack (answer_to b r busy byte cs ds)) c)))
     (start_parts byte cs ds))
 
 pub slow_on_wires : IsFairTable chip_table → IsFairTable state_table → SlowOnWires
@@ -73,7 +79,7 @@ slow_on_wires chips devices b r byte lt busy low cs ds c are slow =
 -- ---- a stop
 pub stop_on_wires : (m : Mode) → StopFreesTheLines node_table m → StopOnWires m
 stop_on_wires m frees b r low cs ds c =
-    frees (mask_of b r) low (both cs ds) c ∙ ap (λ ss. (true, free ss (one_flip (one_edge c)))) (stop_parts b r cs ds)
+    frees (mask_of b r) low (both cs ds) c ∙ ap (λ ss. (true, free ss (Stopped ∷ Level false ∷ c))) (stop_parts b r cs ds)
 
 pub all_with : {X : Type 0} (g : X → NodeState) (P : X → Type 0) → ((x : X) → P x → IsByte (node_table.hold (g x))) → (ss : List (Site X))
     → AllByRecursion (λ (s : Site X). P s.state) ss → AllByRecursion (λ (s : Site NodeState). IsByte (node_table.hold s.state))
@@ -89,8 +95,8 @@ all_chips (c ∷ cs) ns all = (omega arith, all_chips cs ns all)
 
 pub late_stop_on_wires : KeepsBytes state_table HoldsBytes → StopAfterSlowOnWires
 late_stop_on_wires keeps b r byte cs ds c all =
-    let counts : Counts = one_flip (cond (some_one (stays node_table byte LOOKS) (both cs ds)) (one_edge c) (one_flip c)) in
+    let seen : Seen = Stopped ∷ cond (some_one (stays node_table byte LOOKS) (both cs ds)) (Level false ∷ c) (Started ∷ c) in
     slow_frees node_table (mask_of b r) byte (both cs ds) c (all_chips cs (map (site_with Device) ds)
     (all_with Device HoldsBytes keeps.holds ds all))
-    ∙ (ap (λ ss. (true, free (rejoin (mask_of b r) (map (stop_site node_table) ss)) counts)) (start_parts byte cs ds)
-    ∙ ap (λ ss. (true, free ss counts)) (stop_parts b r (map (started chip_table byte) cs) (map (started state_table byte) ds)))
+    ∙ (ap (λ ss. (true, free (rejoin (mask_of b r) (map (stop_site node_table) ss)) seen)) (start_parts byte cs ds)
+    ∙ ap (λ ss. (true, free ss seen)) (stop_parts b r (map (started chip_table byte) cs) (map (started state_table byte) ds)))

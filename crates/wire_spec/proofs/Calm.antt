@@ -1,7 +1,7 @@
 -- Where nobody holds SCL, a controller bit is a clock.
 use Rattle.wire_spec.proofs.Cited.{◌≡◌, ℕ, zero, suc, ◌/◌, ◌%◌, Bool, true, false, cond, List, [], ◌∷◌, map, refl, ap, ◌∙◌, ◌==◌, not}
 use Rattle.wire_spec.proofs.Cited.{Table, Mode, Out, In, Answered, Give, Gave, Site, Bit, shifted, value, rise, fall, tick, clock, called}
-use Rattle.wire_spec.proofs.Cited.{other, stands, some_one, sda, where_joined, clock_all, run, levels, Mask, Counts, one_edge, Bus}
+use Rattle.wire_spec.proofs.Cited.{other, stands, some_one, sda, where_joined, clock_all, run, levels, Mask, Seen, Level, with_levels, Bus}
 use Rattle.wire_spec.proofs.Cited.{holds_line, scl_level, sda_level, each, rises, edge, closed, then_bits, bus_of, came_up, last_low}
 use Rattle.wire_spec.proofs.Cited.{not-not}
 use Rattle.wire_spec.specs.Wires.{rise_in, shift, give}
@@ -19,7 +19,7 @@ Calm t ts [] = Unit {0}
 Calm t ts (h ∷ hs) = IsCalm t ts h × Calm t (clock_all t ts h) hs
 
 -- SCL is let go, and rises
-pub goes_up : {X : Type 0} (t : Table X) (mask : Mask X) (ts : List (Bit X)) (c : Counts) (low : Bool)
+pub goes_up : {X : Type 0} (t : Table X) (mask : Mask X) (ts : List (Bit X)) (c : Seen) (low : Bool)
     → some_one holds_line ts ≡ false
     → pulled t mask (bus_of true low ts c) false low
     ≡ rises t (bus_of false low ts c)
@@ -28,7 +28,7 @@ goes_up t mask ts c low calm =
     ap (λ b. cond (not b) (rises t (bus_of false low ts c)) (bus_of false low ts c)) calm
 
 -- SDA is set while SCL is low
-pub sets_data : {X : Type 0} (t : Table X) (mask : Mask X) (ts : List (Bit X)) (c : Counts) (was low : Bool)
+pub sets_data : {X : Type 0} (t : Table X) (mask : Mask X) (ts : List (Bit X)) (c : Seen) (was low : Bool)
     → pulled t mask (bus_of true was ts c) true low ≡ bus_of true low ts c
 unfolding pulled
 sets_data t mask ts c was low = refl
@@ -43,9 +43,9 @@ looks_up t v n w up =
 
 -- SCL is pulled, and falls
 pub goes_down : {X : Type 0} (t : Table X) (mask : Mask X) (w : Bus X) (low : Bool) → scl_level w ≡ true
-    → pulled t mask w true low ≡ each fall (bus_of true low w.targets w.counts)
+    → pulled t mask w true low ≡ each fall (bus_of true low w.targets w.seen)
 unfolding pulled
-goes_down t mask w low up = ap (λ u. edge t mask u (sda_level t w) (bus_of true low w.targets w.counts)) up
+goes_down t mask w low up = ap (λ u. edge t mask u (sda_level t w) (bus_of true low w.targets w.seen)) up
 
 named_joined : {X : Type 0} (t : Table X) (s : Site X) (byte : ℕ) (is : Bool)
     → (cond {A = Bit X} is (called t s ((byte % 2) == 1)) (stands (other t s) Out 0)).site.joined ≡ s.joined
@@ -82,38 +82,33 @@ abbrev pub risen : {X : Type 0} → Table X → List (Bit X) → Bool → List (
 risen t ts h = map (where_joined (λ b. rise t b (sda t ts h))) ts
 
 -- what the looks after a pulse come to
-pub up_calm : {X : Type 0} (t : Table X) (v n : ℕ) (h : Bool) (ts : List (Bit X)) (c : Counts) → IsCalm t ts h
+pub up_calm : {X : Type 0} (t : Table X) (v n : ℕ) (h : Bool) (ts : List (Bit X)) (c : Seen) → IsCalm t ts h
     → await t v (suc n) (rises t (bus_of false (not h) ts c))
-    ≡ came_up (shifted v (sda t ts h)) (bus_of false (not h) (risen t ts h) (one_edge c))
+    ≡ came_up (shifted v (sda t ts h)) (bus_of false (not h) (risen t ts h) (Level (sda t ts h) ∷ c))
 up_calm {X} t v n h ts c calm =
-    let w : Bus X = bus_of false (not h) (risen t ts h) (one_edge c) in
-    ap (λ k. await t v (suc n) (bus_of false (not h) (risen t ts k) (one_edge c))) (not-not h)
+    let w : Bus X = bus_of false (not h) (risen t ts h) (Level (sda t ts h) ∷ c) in
+    ap (λ k. await t v (suc n) (bus_of false (not h) (risen t ts k) (Level (sda t ts k) ∷ c))) (not-not h)
     ∙ (looks_up t v n w (ap not calm.high)
     ∙ ap (λ l. came_up (shifted v l) w) (ap (λ k. sda t (risen t ts h) k) (not-not h) ∙ calm.stays))
 
-pub bit_calm : {X : Type 0} (t : Table X) (mask : Mask X) (v : ℕ) (h : Bool) (low : Bool) (ts : List (Bit X)) (c : Counts) → IsCalm t ts h
+pub bit_calm : {X : Type 0} (t : Table X) (mask : Mask X) (v : ℕ) (h : Bool) (low : Bool) (ts : List (Bit X)) (c : Seen) → IsCalm t ts h
     → bit_step t mask v h (bus_of true low ts c)
-    ≡ came_up (shifted v (sda t ts h)) (bus_of true (not h) (clock_all t ts h) (one_edge c))
+    ≡ came_up (shifted v (sda t ts h)) (bus_of true (not h) (clock_all t ts h) (Level (sda t ts h) ∷ c))
 unfolding bit_step
 bit_calm {X} t mask v h low ts c calm =
-    let w : Bus X = bus_of false (not h) (risen t ts h) (one_edge c) in
+    let w : Bus X = bus_of false (not h) (risen t ts h) (Level (sda t ts h) ∷ c) in
     ap (λ u. closed t mask h (await t v 65 (pulled t mask u false (not h)))) (sets_data t mask ts c low (not h))
     ∙ (ap (λ u. closed t mask h (await t v 65 u)) (goes_up t mask ts c (not h) calm.low)
     ∙ (ap (closed t mask h) (up_calm t v 64 h ts c calm)
     ∙ (ap (λ u. came_up (shifted v (sda t ts h)) u) (goes_down t mask w (not h) (ap not calm.high))
-    ∙ ap (λ us. came_up (shifted v (sda t ts h)) (bus_of true (not h) us (one_edge c))) (map_step _ _ _ (fall_rise t (sda t ts h)) ts))))
+    ∙ ap (λ us. came_up (shifted v (sda t ts h)) (bus_of true (not h) us (Level (sda t ts h) ∷ c))) (map_step _ _ _ (fall_rise t (sda t ts h)) ts))))
 
--- SCL has risen once for each of these bits
-abbrev pub edges_after : List Bool → Counts → Counts
-edges_after [] c = c
-edges_after (h ∷ hs) c = edges_after hs (one_edge c)
-
-pub bits_calm : {X : Type 0} (t : Table X) (mask : Mask X) (hs : List Bool) (v : ℕ) (low : Bool) (ts : List (Bit X)) (c : Counts)
+pub bits_calm : {X : Type 0} (t : Table X) (mask : Mask X) (hs : List Bool) (v : ℕ) (low : Bool) (ts : List (Bit X)) (c : Seen)
     → Calm t ts hs
     → bit_steps t mask v hs (bus_of true low ts c)
-    ≡ came_up (value v (levels t ts hs)) (bus_of true (last_low low hs) (run t ts hs) (edges_after hs c))
+    ≡ came_up (value v (levels t ts hs)) (bus_of true (last_low low hs) (run t ts hs) (with_levels (levels t ts hs) c))
 unfolding bit_steps
 bits_calm t mask [] v low ts c calm = refl
 bits_calm t mask (h ∷ hs) v low ts c calm =
     ap (λ d. then_bits d (bit_steps t mask d.read hs d.bus)) (bit_calm t mask v h low ts c calm.0)
-    ∙ bits_calm t mask hs (shifted v (sda t ts h)) (not h) (clock_all t ts h) (one_edge c) calm.1
+    ∙ bits_calm t mask hs (shifted v (sda t ts h)) (not h) (clock_all t ts h) (Level (sda t ts h) ∷ c) calm.1

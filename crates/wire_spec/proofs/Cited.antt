@@ -18,9 +18,9 @@ pub use Rattle.i2c_spec.specs.Chips.{ChipView, chip_table}
 pub use Rattle.i2c_spec.specs.Targets.{TargetState, state_table, IsFairTable, IsQuiet}
 pub use Rattle.i2c_spec.specs.World.{is_slow, is_ack, takes, gives, World, joins_chip, joins_device, has_heard, some_answer, start_chips}
 pub use Rattle.i2c_spec.specs.World.{start_devices}
-pub use Rattle.wire_spec.specs.Bus.{Mask, Counts, one_edge, Bus, Came, holds_line, scl_level, sda_level, each, rises, await, closed, bus_of}
-pub use Rattle.wire_spec.specs.Bus.{came_up, bit_step, bit_steps, then_bits, one_flip, edge, gave_up, finishes}
-pub use Rattle.wire_spec.specs.Calls.{more_edges, last_low, within, within_address, sent_byte, free, rejoin, released, stopped, slow_stop}
+pub use Rattle.wire_spec.specs.Bus.{Mask, Seen, Level, Started, Stopped, with_levels, Bus, Came, holds_line, scl_level, sda_level, each, rises, await, closed, bus_of}
+pub use Rattle.wire_spec.specs.Bus.{came_up, bit_step, bit_steps, then_bits, edge, gave_up, finishes}
+pub use Rattle.wire_spec.specs.Calls.{byte_seen, last_low, within, within_address, sent_byte, free, rejoin, released, stopped, slow_stop}
 pub use Rattle.wire_spec.specs.Calls.{joined_from}
 pub use Rattle.wire_spec.specs.Laws.{StopFreesTheLines}
 pub use Rattle.wire_spec.specs.Roots.{some_one, pulls_line, sda, where_joined, at, start_site, run, clock_all, put_site, acks, sent_by}

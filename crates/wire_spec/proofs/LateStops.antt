@@ -1,14 +1,14 @@
 -- The stop after a slow start: who still holds SCL lets it come up within 255 looks.
 use Rattle.wire_spec.proofs.Cited.{◌≡◌, ℕ, zero, suc, ◌+◌, ◌-◌, Bool, true, false, cond, List, [], ◌∷◌, map, refl, ap, sym, ◌∙◌, arith}
 use Rattle.wire_spec.proofs.Cited.{◌==◌, ◌||◌, not, Table, Out, site_of, Site, Bit, shifted, rise, tick, begin, finish, hears, other}
-use Rattle.wire_spec.proofs.Cited.{stretch, is_named, is_reading, stands, some_one, pulls_line, sda, where_joined, stop_site, Mask, Counts}
-use Rattle.wire_spec.proofs.Cited.{one_edge, one_flip, Bus, Came, edge, holds_line, scl_level, sda_level, each, rises, bus_of, came_up}
+use Rattle.wire_spec.proofs.Cited.{stretch, is_named, is_reading, stands, some_one, pulls_line, sda, where_joined, stop_site, Mask, Seen, Level, Started, Stopped}
+use Rattle.wire_spec.proofs.Cited.{Bus, Came, edge, holds_line, scl_level, sda_level, each, rises, bus_of, came_up}
 use Rattle.wire_spec.proofs.Cited.{calling, stays_if, stays, late_if, late, late_bus, rose, started, released, rejoin, stopped, slow_stop}
 use Rattle.wire_spec.specs.Bus.{pulled, looked, await}
 use Rattle.wire_spec.proofs.Roots.{map_step, map_map, some_map, no_one}
 use Rattle.wire_spec.proofs.Calm.{looks_up}
 use Rattle.wire_spec.proofs.AckClock.{by_busy}
-use Rattle.wire_spec.proofs.SlowClock.{late_holds}
+use Rattle.wire_spec.proofs.SlowClock.{late_holds, late_free}
 use Rattle.wire_spec.proofs.StartClocks.{begin_run, call_low}
 use Rattle.wire_spec.proofs.Stops.{stop_run}
 use Rattle.wire_spec.proofs.Address.{call_quiet}
@@ -51,26 +51,26 @@ finish_r : {X : Type 0} (t : Table X) (h j a : ℕ) (jd e : Bool) (x : X)
 finish_r t h j a true e x = refl
 finish_r t h j a false e x = refl
 
-abbrev pub rest_bus : {A X : Type 0} → (A → Site X) → (A → ℕ) → ℕ → List A → Counts → Bus X
+abbrev pub rest_bus : {A X : Type 0} → (A → Site X) → (A → ℕ) → ℕ → List A → Seen → Bus X
 rest_bus g rest j ss c = bus_of false true (map (resting g rest j) ss) c
 
-pub rest_level : {A X : Type 0} (g : A → Site X) (rest : A → ℕ) (j : ℕ) (ss : List A) (c : Counts)
+pub rest_level : {A X : Type 0} (g : A → Site X) (rest : A → ℕ) (j : ℕ) (ss : List A) (c : Seen)
     → scl_level (rest_bus g rest j ss c) ≡ not (some_one (held g rest j) ss)
 rest_level g rest j ss c =
     ap not (some_map (resting g rest j) holds_line (held g rest j) (λ s. holds_r (rest s) j (g s).addr (g s).joined (g s).heard
     (g s).state) ss)
 
-rest_rises : {A X : Type 0} (t : Table X) (g : A → Site X) (rest : A → ℕ) (j : ℕ) (ss : List A) (c : Counts)
-    → rises t (rest_bus g rest j ss c) ≡ rest_bus g rest j ss (one_edge c)
+rest_rises : {A X : Type 0} (t : Table X) (g : A → Site X) (rest : A → ℕ) (j : ℕ) (ss : List A) (c : Seen)
+    → rises t (rest_bus g rest j ss c) ≡ rest_bus g rest j ss (Level false ∷ c)
 rest_rises t g rest j ss c =
-    ap (λ bs. bus_of false true bs (one_edge c))
+    ap (λ bs. bus_of false true bs (Level false ∷ c))
     (map_step (resting g rest j) (resting g rest j) _ (λ s. rise_r t (sda t (map (resting g rest j) ss) false) (rest s) j (g s).addr
     (g s).joined
     (g s).heard (g s).state) ss)
 
-look_rest : {A X : Type 0} (t : Table X) (g : A → Site X) (rest : A → ℕ) (j : ℕ) (ss : List A) (c : Counts)
+look_rest : {A X : Type 0} (t : Table X) (g : A → Site X) (rest : A → ℕ) (j : ℕ) (ss : List A) (c : Seen)
     → some_one (held g rest j) ss ≡ true
-    → looked t (rest_bus g rest j ss c) ≡ rest_bus g rest (suc j) ss (rose (some_one (held g rest (suc j)) ss) c)
+    → looked t (rest_bus g rest j ss c) ≡ rest_bus g rest (suc j) ss (rose (some_one (held g rest (suc j)) ss) false c)
 unfolding looked
 look_rest {A} {X} t g rest j ss c busy =
     let w : Bus X = rest_bus g rest j ss c in
@@ -79,15 +79,15 @@ look_rest {A} {X} t g rest j ss c busy =
     (map_step (resting g rest j) (resting g rest (suc j)) _ (λ s. tick_r (rest s) j (g s).addr (g s).joined (g s).heard (g s).state) ss) in
     ap (λ u. cond u w (cond (scl_level (each tick w)) (rises t (each tick w)) (each tick w))) (rest_level g rest j ss c ∙ ap not busy)
     ∙ (ap (λ v. cond (scl_level v) (rises t v) v) e
-    ∙ by_busy (rest_bus g rest (suc j) ss) c (some_one (held g rest (suc j)) ss) _ _ _ (rest_level g rest (suc j) ss c)
+    ∙ by_busy (rest_bus g rest (suc j) ss) c false (some_one (held g rest (suc j)) ss) _ _ _ (rest_level g rest (suc j) ss c)
     (rest_rises t g rest (suc j) ss c) refl)
 
-abbrev pub stopped_bus : {X : Type 0} → Table X → (List (Site X) → ℕ → Bool) → List (Site X) → Counts → Bus X
+abbrev pub stopped_bus : {X : Type 0} → Table X → (List (Site X) → ℕ → Bool) → List (Site X) → Seen → Bus X
 stopped_bus t mask ss c = bus_of false false (map released (rejoin mask (map (stop_site t) ss))) c
 
-stop_up : {A X : Type 0} (t : Table X) (mask : Mask X) (g : A → Site X) (rest : A → ℕ) (v n j : ℕ) (ss : List A) (c : Counts)
+stop_up : {A X : Type 0} (t : Table X) (mask : Mask X) (g : A → Site X) (rest : A → ℕ) (v n j : ℕ) (ss : List A) (c : Seen)
     → some_one (held g rest j) ss ≡ false
-    → stopped t mask (await t v (suc n) (rest_bus g rest j ss c)) ≡ (true, stopped_bus t mask (map g ss) (one_flip c))
+    → stopped t mask (await t v (suc n) (rest_bus g rest j ss c)) ≡ (true, stopped_bus t mask (map g ss) (Stopped ∷ c))
 stop_up {A} {X} t mask g rest v n j ss c done =
     let w : Bus X = rest_bus g rest j ss c in
     let low : some_one holds_line (map (resting g rest j) ss) ≡ false =
@@ -98,9 +98,9 @@ stop_up {A} {X} t mask g rest v n j ss c done =
     (stop_run t mask (resting g rest j) g ss c (λ s. finish_r t (rest s) j (g s).addr (g s).joined (g s).heard (g s).state) low
     (λ s. pulls_r t (rest s) j (g s).addr (g s).joined (g s).heard (g s).state))
 
-rest_on : {A X : Type 0} (t : Table X) (g : A → Site X) (rest : A → ℕ) (v n j : ℕ) (ss : List A) (c : Counts)
+rest_on : {A X : Type 0} (t : Table X) (g : A → Site X) (rest : A → ℕ) (v n j : ℕ) (ss : List A) (c : Seen)
     → some_one (held g rest j) ss ≡ true
-    → await t v (suc n) (rest_bus g rest j ss c) ≡ await t v n (rest_bus g rest (suc j) ss (rose (some_one (held g rest (suc j)) ss) c))
+    → await t v (suc n) (rest_bus g rest j ss c) ≡ await t v n (rest_bus g rest (suc j) ss (rose (some_one (held g rest (suc j)) ss) false c))
 unfolding await
 rest_on {A} {X} t g rest v n j ss c busy =
     let w : Bus X = rest_bus g rest j ss c in
@@ -108,19 +108,19 @@ rest_on {A} {X} t g rest v n j ss c busy =
     (rest_level g rest j ss c ∙ ap not busy)
     ∙ ap (await t v n) (look_rest t g rest j ss c busy)
 
--- where nobody holds SCL at the last of 255 looks, the stop goes through: one edge and one flip
-pub late_stop : {A X : Type 0} (t : Table X) (mask : Mask X) (g : A → Site X) (rest : A → ℕ) (v n j : ℕ) (ss : List A) (c : Counts)
+-- where nobody holds SCL at the last of 255 looks, the stop goes through: SCL rises with SDA low, and a stop is seen
+pub late_stop : {A X : Type 0} (t : Table X) (mask : Mask X) (g : A → Site X) (rest : A → ℕ) (v n j : ℕ) (ss : List A) (c : Seen)
     → suc n + j ≡ 255
     → some_one (held g rest 254) ss ≡ false
     → (b : Bool) → some_one (held g rest j) ss ≡ b
-    → stopped t mask (await t v (suc n) (rest_bus g rest j ss (rose (some_one (held g rest j) ss) c)))
-    ≡ (true, stopped_bus t mask (map g ss) (one_flip (one_edge c)))
+    → stopped t mask (await t v (suc n) (rest_bus g rest j ss (rose (some_one (held g rest j) ss) false c)))
+    ≡ (true, stopped_bus t mask (map g ss) (Stopped ∷ Level false ∷ c))
 late_stop t mask g rest v n j ss c sum quick false is =
-    ap (λ b. stopped t mask (await t v (suc n) (rest_bus g rest j ss (rose b c)))) is ∙ stop_up t mask g rest v n j ss (one_edge c) is
+    ap (λ b. stopped t mask (await t v (suc n) (rest_bus g rest j ss (rose b false c)))) is ∙ stop_up t mask g rest v n j ss (Level false ∷ c) is
 late_stop t mask g rest v zero j ss c sum quick true is =
     let e : j ≡ 254 = omega arith in let p : true ≡ false = sym is ∙ (ap (λ m. some_one (held g rest m) ss) e ∙ quick) in cc
 late_stop t mask g rest v (suc n) j ss c sum quick true is =
-    ap (λ b. stopped t mask (await t v (suc (suc n)) (rest_bus g rest j ss (rose b c)))) is
+    ap (λ b. stopped t mask (await t v (suc (suc n)) (rest_bus g rest j ss (rose b false c)))) is
     ∙ (ap (stopped t mask) (rest_on t g rest v (suc n) j ss c is)
     ∙ late_stop t mask g rest v n (suc j) ss c (omega arith) quick (some_one (held g rest (suc j)) ss) refl)
 
@@ -153,17 +153,12 @@ late_begin t byte a true e true x = refl
 late_begin t byte a true e false x = refl
 late_begin t byte a false e h x = refl
 
-late_free : {X : Type 0} (t : Table X) (byte a : ℕ) (jd e h : Bool) (x : X) → pulls_line t (late_if t byte (site_of a jd e x) jd h) ≡ false
-late_free t byte a true e true x = refl
-late_free t byte a true e false x = refl
-late_free t byte a false e h x = refl
-
 pub finish_call : {X : Type 0} (t : Table X) (a : ℕ) (jd e : Bool) (x : X)
     → where_joined (finish t) (calling 8 0 (site_of a jd e x)) ≡ released (stop_site t (site_of a jd e x))
 finish_call t a true e x = refl
 finish_call t a false e x = refl
 
-low_pull : {X : Type 0} (t : Table X) (mask : Mask X) (ts : List (Bit X)) (c : Counts) → some_one holds_line ts ≡ true
+low_pull : {X : Type 0} (t : Table X) (mask : Mask X) (ts : List (Bit X)) (c : Seen) → some_one holds_line ts ≡ true
     → pulled t mask (bus_of false false ts c) false true
     ≡ bus_of false true ts c
 unfolding pulled
@@ -187,9 +182,9 @@ held_same t byte (s ∷ ss) =
     ∙ ap (λ b. held (started t byte) (left_hold t byte) 0 s || b) (held_same t byte ss)
 
 -- someone still holds SCL
-held_stop : {X : Type 0} (t : Table X) (mask : Mask X) (byte : ℕ) (ss : List (Site X)) (c : Counts)
+held_stop : {X : Type 0} (t : Table X) (mask : Mask X) (byte : ℕ) (ss : List (Site X)) (c : Seen)
     → some_one (stays t byte 65) ss ≡ true → some_one (held (started t byte) (left_hold t byte) 254) ss ≡ false
-    → slow_stop t mask (late_bus t byte ss c) ≡ (true, stopped_bus t mask (map (started t byte) ss) (one_flip (one_edge c)))
+    → slow_stop t mask (late_bus t byte ss c) ≡ (true, stopped_bus t mask (map (started t byte) ss) (Stopped ∷ Level false ∷ c))
 held_stop {X} t mask byte ss c busy quick =
     let line : some_one holds_line (map (late t byte) ss) ≡ true =
     some_map (late t byte) holds_line (stays t byte 65) (λ s. late_holds t byte s.addr s.joined s.heard (is_named byte s) s.state) ss
@@ -197,37 +192,37 @@ held_stop {X} t mask byte ss c busy quick =
     let is : some_one (held (started t byte) (left_hold t byte) 0) ss ≡ true = sym (held_same t byte ss) ∙ busy in
     ap (λ u. stopped t mask (await t 0 255 u)) (low_pull t mask (map (late t byte) ss) c line)
     ∙ (ap (λ bs. stopped t mask (await t 0 255 (bus_of false true bs c))) (late_map t byte ss)
-    ∙ (ap (λ b. stopped t mask (await t 0 255 (rest_bus (started t byte) (left_hold t byte) 0 ss (rose b c)))) (sym is)
+    ∙ (ap (λ b. stopped t mask (await t 0 255 (rest_bus (started t byte) (left_hold t byte) 0 ss (rose b false c)))) (sym is)
     ∙ late_stop t mask (started t byte) (left_hold t byte) 0 254 0 ss c (omega arith) quick
     (some_one (held (started t byte) (left_hold t byte) 0) ss) refl))
 
 -- SCL came up at the last look: on the wire the pull of SDA is a start
-risen_stop : {X : Type 0} (t : Table X) (mask : Mask X) (byte : ℕ) (ss : List (Site X)) (c : Counts)
+risen_stop : {X : Type 0} (t : Table X) (mask : Mask X) (byte : ℕ) (ss : List (Site X)) (c : Seen)
     → some_one (stays t byte 65) ss ≡ false
-    → slow_stop t mask (late_bus t byte ss c) ≡ (true, stopped_bus t mask (map (started t byte) ss) (one_flip (one_flip c)))
+    → slow_stop t mask (late_bus t byte ss c) ≡ (true, stopped_bus t mask (map (started t byte) ss) (Stopped ∷ Started ∷ c))
 risen_stop {X} t mask byte ss c free =
     let line : some_one holds_line (map (late t byte) ss) ≡ false =
     some_map (late t byte) holds_line (stays t byte 65) (λ s. late_holds t byte s.addr s.joined s.heard (is_named byte s) s.state) ss
     ∙ free in
     let gs : List (Site X) = map (started t byte) ss in
-    let w : Bus X = bus_of false true (map (calling 8 0) gs) (one_flip c) in
+    let w : Bus X = bus_of false true (map (calling 8 0) gs) (Started ∷ c) in
     let low : some_one holds_line (map (calling 8 0) gs) ≡ false =
     some_map (calling 8 0) holds_line (λ x. false) (λ s. call_low 8 0 s.addr s.joined s.heard s.state) gs ∙ no_one gs in
     ap (λ u. stopped t mask (await t 0 255 u))
     (begin_run t mask (late t byte) (started t byte) ss c (λ s. late_begin t byte s.addr s.joined s.heard (is_named byte s) s.state) line
     (λ s. late_free t byte s.addr s.joined s.heard (is_named byte s) s.state))
     ∙ (ap (stopped t mask) (looks_up t 0 254 w (ap not low))
-    ∙ (ap (λ (u : Bus X). (true, u)) (stop_run t mask (calling 8 0) (λ (s : Site X). s) gs (one_flip c)
+    ∙ (ap (λ (u : Bus X). (true, u)) (stop_run t mask (calling 8 0) (λ (s : Site X). s) gs (Started ∷ c)
     (λ s. finish_call t s.addr s.joined s.heard s.state) low (λ s. call_quiet t 8 0 s.addr s.joined s.heard s.state))
-    ∙ ap (λ xs. (true, stopped_bus t mask xs (one_flip (one_flip c)))) (map_map (started t byte) (λ (s : Site X). s) ss)))
+    ∙ ap (λ xs. (true, stopped_bus t mask xs (Stopped ∷ Started ∷ c))) (map_map (started t byte) (λ (s : Site X). s) ss)))
 
 -- the stop after a slow start always goes through, and acts as a stop of what the start left
-pub stop_after_slow : {X : Type 0} (t : Table X) (mask : Mask X) (byte : ℕ) (ss : List (Site X)) (c : Counts)
+pub stop_after_slow : {X : Type 0} (t : Table X) (mask : Mask X) (byte : ℕ) (ss : List (Site X)) (c : Seen)
     → some_one (held (started t byte) (left_hold t byte) 254) ss ≡ false → (b : Bool) → some_one (stays t byte 65) ss ≡ b
     → slow_stop t mask (late_bus t byte ss c) ≡ (
       true,
       stopped_bus t mask (map (started t byte) ss)
-          (one_flip (cond b (one_edge c) (one_flip c))),
+          (Stopped ∷ cond b (Level false ∷ c) (Started ∷ c)),
     )
 stop_after_slow t mask byte ss c quick true is = held_stop t mask byte ss c is quick
 stop_after_slow t mask byte ss c quick false is = risen_stop t mask byte ss c is

@@ -2,12 +2,12 @@
 use Rattle.wire_spec.proofs.Cited.{◌≡◌, ℕ, zero, suc, ◌<◌, Bool, true, false, cond, List, [], ◌∷◌, length, map, refl, ap, sym, ◌∙◌, arith}
 use Rattle.wire_spec.proofs.Cited.{subst, ◌&&◌, not, replicate, Table, Mode, Out, In, Answered, Give, Gave, site_of, Site, Bit, bit, bits}
 use Rattle.wire_spec.proofs.Cited.{shifted, value, rise, holds, clock, some_one, pulls_line, sda, where_joined, clock_all, run, levels, at}
-use Rattle.wire_spec.proofs.Cited.{put_site, acks, sent_by, and_all, get_site, Mask, Counts, one_edge, holds_line, bit_step, bit_steps}
+use Rattle.wire_spec.proofs.Cited.{put_site, acks, sent_by, and_all, get_site, Mask, Seen, Level, with_levels, holds_line, bit_step, bit_steps}
 use Rattle.wire_spec.proofs.Cited.{bus_of, came_up, stays, last_low, and_right}
 use Rattle.wire_spec.specs.Wires.{is_due}
-use Rattle.wire_spec.proofs.Roots.{map_step, some_map, no_one, take_one, answering, map_map, give_step, take_run, ack_one, ack_pulls}
-use Rattle.wire_spec.proofs.Roots.{give_run, get_value, free_sda, give_quiet, answer_one}
-use Rattle.wire_spec.proofs.Calm.{IsCalm, Calm, bit_calm, bits_calm, edges_after}
+use Rattle.wire_spec.proofs.Roots.{map_step, some_map, no_one, take_one, take_sda, answering, map_map, give_step, take_run, ack_one, ack_pulls}
+use Rattle.wire_spec.proofs.Roots.{give_run, get_value, give_levels, free_levels, free_sda, give_quiet, answer_one}
+use Rattle.wire_spec.proofs.Calm.{IsCalm, Calm, bit_calm, bits_calm}
 use Rattle.wire_spec.proofs.ByteLemmas.{value_bits}
 
 none : (m : Mode) → (not (is_due m) && false) ≡ false
@@ -125,44 +125,51 @@ give_calms t (suc k) ss = (
 )
 
 -- ---- what a put and a get come to on the lines
-pub put_bits : {X : Type 0} (t : Table X) (mask : Mask X) (byte : ℕ) → byte < 256 → (low : Bool) (ss : List (Site X)) (c : Counts)
+pub put_bits : {X : Type 0} (t : Table X) (mask : Mask X) (byte : ℕ) → byte < 256 → (low : Bool) (ss : List (Site X)) (c : Seen)
     → bit_steps t mask 0 (bits 8 byte) (bus_of true low (map (at (In false 8 0)) ss) c)
     ≡ came_up (value 0 (levels t (map (at (In false 8 0)) ss) (bits 8 byte)))
-    (bus_of true (last_low low (bits 8 byte)) (map (answering t byte) ss) (edges_after (bits 8 byte) c))
+    (bus_of true (last_low low (bits 8 byte)) (map (answering t byte) ss) (with_levels (bits 8 byte) c))
 put_bits {X} t mask byte lt low ss c =
     let v : value 0 (bits 8 byte) ≡ byte = value_bits 8 byte 0 ∙ omega arith in
     let r : ℕ = value 0 (levels t (map (at (In false 8 0)) ss) (bits 8 byte)) in
     let l : Bool = last_low low (bits 8 byte) in
     bits_calm t mask (bits 8 byte) 0 low (map (at (In false 8 0)) ss) c (take_calms t (bit byte 7) (bits 7 byte) 0 ss)
-    ∙ ap (λ bs. came_up r (bus_of true l bs (edges_after (bits 8 byte) c)))
-    (take_run t (bit byte 7) (bits 7 byte) 0 ss ∙ ap (λ n. map (answering t n) ss) v)
+    ∙ (ap (λ ls. came_up r (bus_of true l (run t (map (at (In false 8 0)) ss) (bits 8 byte)) (with_levels ls c)))
+    (free_levels t (λ n w. at (In false n w)) (λ m w k s. take_one t m w k s.addr s.joined s.heard s.state)
+    (λ m w xs k. take_sda t (suc m) w xs k) (bit byte 7) (bits 7 byte) 0 ss)
+    ∙ ap (λ bs. came_up r (bus_of true l bs (with_levels (bits 8 byte) c)))
+    (take_run t (bit byte 7) (bits 7 byte) 0 ss ∙ ap (λ n. map (answering t n) ss) v))
 
-pub put_ack : {X : Type 0} (t : Table X) (mask : Mask X) (byte : ℕ) (v : ℕ) (low : Bool) (ss : List (Site X)) (c : Counts)
+pub put_ack : {X : Type 0} (t : Table X) (mask : Mask X) (byte : ℕ) (v : ℕ) (low : Bool) (ss : List (Site X)) (c : Seen)
     → bit_step t mask v true (bus_of true low (map (answering t byte) ss) c)
     ≡ came_up (shifted v (not (some_one (acks t byte) ss))) (bus_of true false (map (at (In false 8 0)) (map (put_site t byte) ss))
-    (one_edge c))
+    (Level (not (some_one (acks t byte) ss)) ∷ c))
 put_ack {X} t mask byte v low ss c =
     let l : Bool = sda t (map (answering t byte) ss) true in
     bit_calm t mask v true low (map (answering t byte) ss) c (answering_calm t byte ss true)
-    ∙ (ap (λ bs. came_up (shifted v l) (bus_of true false bs (one_edge c)))
+    ∙ (ap (λ bs. came_up (shifted v l) (bus_of true false bs (Level l ∷ c)))
     (map_step (answering t byte) (λ s. at (In false 8 0) (put_site t byte s)) _ (λ s. ack_one t byte l s.addr s.joined s.heard s.state) ss
     ∙ sym (map_map (put_site t byte) (at (In false 8 0)) ss))
-    ∙ ap (λ k. came_up (shifted v k) (bus_of true false (map (at (In false 8 0)) (map (put_site t byte) ss)) (one_edge c)))
+    ∙ ap (λ k. came_up (shifted v k) (bus_of true false (map (at (In false 8 0)) (map (put_site t byte) ss)) (Level k ∷ c)))
     (ap not (some_map (answering t byte) (pulls_line t) (acks t byte) (λ s. ack_pulls t byte s.addr s.joined s.heard s.state) ss)))
 
-pub get_bits : {X : Type 0} (t : Table X) (mask : Mask X) (low : Bool) (ss : List (Site X)) (c : Counts)
+pub get_bits : {X : Type 0} (t : Table X) (mask : Mask X) (low : Bool) (ss : List (Site X)) (c : Seen)
     → bit_steps t mask 0 (replicate 8 true) (bus_of true low (map (at (Give 8)) ss) c)
-    ≡ came_up (and_all (map (sent_by t) ss)) (bus_of true false (map (at (Give 0)) ss) (edges_after (replicate 8 true) c))
+    ≡ came_up (and_all (map (sent_by t) ss)) (bus_of true false (map (at (Give 0)) ss)
+    (with_levels (bits 8 (and_all (map (sent_by t) ss))) c))
 get_bits {X} t mask low ss c =
+    let a : ℕ = and_all (map (sent_by t) ss) in
+    let bs : List (Bit X) = run t (map (at (Give 8)) ss) (replicate 8 true) in
     bits_calm t mask (replicate 8 true) 0 low (map (at (Give 8)) ss) c (give_calms t 8 ss)
-    ∙ (ap (λ n. came_up n (bus_of true false (run t (map (at (Give 8)) ss) (replicate 8 true)) (edges_after (replicate 8 true) c)))
-    (get_value t ss)
-    ∙ ap (λ bs. came_up (and_all (map (sent_by t) ss)) (bus_of true false bs (edges_after (replicate 8 true) c))) (give_run t 8 ss))
+    ∙ (ap (λ n. came_up n (bus_of true false bs (with_levels (levels t (map (at (Give 8)) ss) (replicate 8 true)) c))) (get_value t ss)
+    ∙ (ap (λ ls. came_up a (bus_of true false bs (with_levels ls c))) (give_levels t 8 (omega arith) ss)
+    ∙ ap (λ xs. came_up a (bus_of true false xs (with_levels (bits 8 a) c))) (give_run t 8 ss)))
 
 -- the controller's answer to it: it reads its own level, and leaves what the world of bytes has
-pub get_answer : {X : Type 0} (t : Table X) (mask : Mask X) (ack : Bool) (v : ℕ) (low : Bool) (ss : List (Site X)) (c : Counts)
+pub get_answer : {X : Type 0} (t : Table X) (mask : Mask X) (ack : Bool) (v : ℕ) (low : Bool) (ss : List (Site X)) (c : Seen)
     → bit_step t mask v (not ack) (bus_of true low (map (at (Give 0)) ss) c)
-    ≡ came_up (shifted v (not ack)) (bus_of true (not (not ack)) (map (at (cond ack (Give 8) Out)) (map (get_site t ack) ss)) (one_edge c))
+    ≡ came_up (shifted v (not ack)) (bus_of true (not (not ack)) (map (at (cond ack (Give 8) Out)) (map (get_site t ack) ss))
+    (Level (not ack) ∷ c))
 get_answer {X} t mask ack v low ss c =
     let own : sda t (map (at (Give 0)) ss) (not ack) ≡ not ack =
     free_sda t (at (Give 0)) (λ s. give_quiet t s.addr s.joined s.heard s.state) ss (not ack) in
@@ -172,5 +179,5 @@ get_answer {X} t mask ack v low ss c =
     (λ s. answer_one t ack s.addr s.joined s.heard s.state) ss
     ∙ sym (map_map (get_site t ack) (at (cond ack (Give 8) Out)) ss)) in
     bit_calm t mask v (not ack) low (map (at (Give 0)) ss) c (give_calm t 0 ss (not ack))
-    ∙ (ap (λ l. came_up (shifted v l) (bus_of true (not (not ack)) (clock_all t (map (at (Give 0)) ss) (not ack)) (one_edge c))) own
-    ∙ ap (λ bs. came_up (shifted v (not ack)) (bus_of true (not (not ack)) bs (one_edge c))) after)
+    ∙ (ap (λ l. came_up (shifted v l) (bus_of true (not (not ack)) (clock_all t (map (at (Give 0)) ss) (not ack)) (Level l ∷ c))) own
+    ∙ ap (λ bs. came_up (shifted v (not ack)) (bus_of true (not (not ack)) bs (Level (not ack) ∷ c))) after)

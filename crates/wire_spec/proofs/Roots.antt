@@ -27,6 +27,21 @@ pub free_sda : {A X : Type 0} (t : Table X) (f : A → Bit X) → ((a : A) → p
     → sda t (map f xs) h ≡ h
 free_sda t f quiet xs h = ap (λ y. h && not y) (some_map f (pulls_line t) (λ x. false) quiet xs ∙ no_one xs) ∙ and-true h
 
+-- the levels of bits that targets shift in alike, while nobody pulls, are these bits
+pub free_levels : {X : Type 0} (t : Table X) (f : ℕ → ℕ → Site X → Bit X)
+    → ((m v : ℕ) (l : Bool) (s : Site X) → where_joined (λ b. clock t b l) (f (suc (suc m)) v s) ≡ f (suc m) (shifted v l) s)
+    → ((m v : ℕ) (ss : List (Site X)) (h : Bool) → sda t (map (f (suc m) v) ss) h ≡ h)
+    → (h : Bool) (hs : List Bool) (v : ℕ) (ss : List (Site X))
+    → levels t (map (f (suc (length hs)) v) ss) (h ∷ hs) ≡ h ∷ hs
+free_levels t f step free h [] v ss = ap (λ l. l ∷ []) (free 0 v ss h)
+free_levels t f step free h (k ∷ hs) v ss =
+    let l : Bool = sda t (map (f (suc (suc (length hs))) v) ss) h in
+    ap (λ ls. l ∷ ls)
+    (ap (λ bs. levels t bs (k ∷ hs)) (map_step (f (suc (suc (length hs))) v) (f (suc (length hs)) (shifted v l)) _
+    (λ s. step (length hs) v l s) ss)
+    ∙ free_levels t f step free k hs (shifted v l) ss)
+    ∙ ap (λ x. x ∷ k ∷ hs) (free (suc (length hs)) v ss h)
+
 -- ---- a byte comes in
 pub take_one : {X : Type 0} (t : Table X) (n v : ℕ) (h : Bool) (a : ℕ) (j e : Bool) (x : X)
     → where_joined (λ b. clock t b h) (at (In false (suc (suc n)) v) (record { addr = a; joined = j; heard = e; state = x }))

@@ -4,28 +4,45 @@ use Rattle.i2c_base.specs.Table.{Table}
 use Rattle.wire_spec.specs.Wires.{Site, Bit, LOOKS, shifted, holds, rise, fall, tick, begin, finish}
 use Rattle.wire_spec.specs.Roots.{some_one, sda, where_joined}
 
--- how often SCL rose, and how often SDA changed while SCL stayed high: a start or a stop each (section 3.1.4)
-pub record Counts : Type 0 where
-  pub edges : ℕ
-  pub flips : ℕ
+-- what an analyser sees: the level of SDA where SCL rises (section 3.1.3), and a start or a stop where SDA changes while SCL stays high
+-- (section 3.1.4)
+pub data Sign : Type 0 where
+  Level : (high : Bool) → Sign
+  Started : Sign
+  Stopped : Sign
 
--- one rise more, and one start or stop more
-abbrev pub one_edge : Counts → Counts
-one_edge c = record c { edges = c.edges + 1 }
+-- all that was seen, the last of it first
+abbrev pub Seen : Type 0
+Seen = List Sign
 
-abbrev pub one_flip : Counts → Counts
-one_flip c = record c { flips = c.flips + 1 }
+-- how often SCL rose, and how often there was a start or a stop
+abbrev pub edges_in : Seen → ℕ
+edges_in [] = 0
+edges_in (Level high ∷ c) = edges_in c + 1
+edges_in (Started ∷ c) = edges_in c
+edges_in (Stopped ∷ c) = edges_in c
 
--- whether the controller pulls SCL and SDA, and the targets
+abbrev pub flips_in : Seen → ℕ
+flips_in [] = 0
+flips_in (Level high ∷ c) = flips_in c
+flips_in (Started ∷ c) = flips_in c + 1
+flips_in (Stopped ∷ c) = flips_in c + 1
+
+-- SCL has risen once more for each of these levels
+abbrev pub with_levels : List Bool → Seen → Seen
+with_levels [] c = c
+with_levels (h ∷ hs) c = with_levels hs (Level h ∷ c)
+
+-- whether the controller pulls SCL and SDA, the targets, and what was seen so far
 pub record Bus (X : Type 0) : Type 0 where
   pub scl : Bool
   pub sda : Bool
   pub targets : List (Bit X)
-  pub counts : Counts
+  pub seen : Seen
 
--- lines with these pulls, targets and counts
-abbrev pub bus_of : {X : Type 0} → Bool → Bool → List (Bit X) → Counts → Bus X
-bus_of scl sda targets counts = record { scl = scl; sda = sda; targets = targets; counts = counts }
+-- lines of these parts
+abbrev pub bus_of : {X : Type 0} → Bool → Bool → List (Bit X) → Seen → Bus X
+bus_of scl sda targets seen = record { scl = scl; sda = sda; targets = targets; seen = seen }
 
 -- which targets are joined, by number, as their states tell
 abbrev pub Mask : Type 0 → Type 0
@@ -48,7 +65,7 @@ each f w = record w { targets = map (where_joined f) w.targets }
 
 -- SCL rises
 abbrev pub rises : {X : Type 0} → Table X → Bus X → Bus X
-rises t w = record w { targets = map (where_joined (λ b. rise t b (sda_level t w))) w.targets; counts = one_edge w.counts }
+rises t w = record w { targets = map (where_joined (λ b. rise t b (sda_level t w))) w.targets; seen = Level (sda_level t w) ∷ w.seen }
 
 -- what is joined after a stop is read from the states of the targets, by number, and nobody is in a message then
 abbrev pub rejoin_from : {X : Type 0} → (ℕ → Bool) → ℕ → List (Bit X) → List (Bit X)
@@ -60,11 +77,11 @@ rejoined {X} mask bs = rejoin_from (mask (map {A = Bit X} (λ (c : Bit X). c.sit
 
 -- a stop on the wires
 abbrev pub finishes : {X : Type 0} → Table X → Mask X → Bus X → Bus X
-finishes t mask w = record w { targets = rejoined mask (map (where_joined (finish t)) w.targets); counts = one_flip w.counts }
+finishes t mask w = record w { targets = rejoined mask (map (where_joined (finish t)) w.targets); seen = Stopped ∷ w.seen }
 
 -- a start on the wires
 abbrev pub begins : {X : Type 0} → Bus X → Bus X
-begins w = record w { targets = map (where_joined begin) w.targets; counts = one_flip w.counts }
+begins w = record w { targets = map (where_joined begin) w.targets; seen = Started ∷ w.seen }
 
 -- what a change of the levels is to the targets: SCL falls, rises, stays low, or stays high while SDA changes
 abbrev pub edge : {X : Type 0} → Table X → Mask X → Bool → Bool → Bus X → Bus X
@@ -75,7 +92,7 @@ edge t mask false was w = cond (scl_level w) (rises t w) w
 -- the controller pulls the lines, or lets them go
 unfoldable pub pulled : {X : Type 0} → Table X → Mask X → Bus X → Bool → Bool → Bus X
 pulled t mask w scl data_low =
-    edge t mask (scl_level w) (sda_level t w) (bus_of scl data_low w.targets w.counts)
+    edge t mask (scl_level w) (sda_level t w) (bus_of scl data_low w.targets w.seen)
 
 -- the controller looks at SCL: where it is low, who holds it has a look less, and SCL rises where that was the last (section 3.1.9)
 unfoldable pub looked : {X : Type 0} → Table X → Bus X → Bus X

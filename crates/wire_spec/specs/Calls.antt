@@ -1,12 +1,12 @@
 -- What a controller does on the wires, as pulls and looks: a start, a byte that it sends or reads, a stop. And how the lines
 -- stand between two of these.
-use Rattle.std.specs.Prelude.{ℕ, ◌+◌, Bool, true, false, not, List, [], ◌∷◌, cond, map, replicate}
+use Rattle.std.specs.Prelude.{ℕ, ◌+◌, Bool, true, false, not, List, [], ◌∷◌, ◌++◌, cond, map, replicate}
 use Rattle.i2c_base.specs.Table.{Table}
 use Rattle.wire_spec.specs.declared.mode.Mode.{Mode}
 use Rattle.wire_spec.specs.declared.mode.Mode.TheVariants.{Out}
 use Rattle.wire_spec.specs.Wires.{Site, Bit, LOOKS, bits, stands}
 use Rattle.wire_spec.specs.Roots.{at}
-use Rattle.wire_spec.specs.Bus.{Counts, Bus, Mask, Came, pulled, await, bit_step, bit_steps, then_bits, bus_of}
+use Rattle.wire_spec.specs.Bus.{Seen, with_levels, Bus, Mask, Came, pulled, await, bit_step, bit_steps, then_bits, bus_of}
 use Rattle.wire_spec.specs.Started.{calling}
 
 -- so many looks a controller makes at SCL before a stop, by when a target that was too slow has let it go (section 3.1.9; the
@@ -14,9 +14,9 @@ use Rattle.wire_spec.specs.Started.{calling}
 abbrev pub STOP_LOOKS : ℕ
 STOP_LOOKS = 255
 
--- SCL has risen so many times more
-abbrev pub more_edges : ℕ → Counts → Counts
-more_edges n c = record c { edges = c.edges + n }
+-- what is seen of a byte: its bits, and the answer to it, low for an acknowledge (sections 3.1.5 and 3.1.6)
+abbrev pub byte_seen : (byte : ℕ) → (acked : Bool) → Seen → Seen
+byte_seen byte acked c = with_levels (bits 8 byte ++ not acked ∷ []) c
 
 -- whether the controller pulls SDA after these bits
 abbrev pub last_low : Bool → List Bool → Bool
@@ -28,15 +28,15 @@ abbrev pub released : {X : Type 0} → Site X → Bit X
 released s = stands s Out 0
 
 -- the lines within a message, between two clocks: the controller pulls SCL, and SDA or not; who has heard stands in this mode
-abbrev pub within : {X : Type 0} → Mode → Bool → List (Site X) → Counts → Bus X
+abbrev pub within : {X : Type 0} → Mode → Bool → List (Site X) → Seen → Bus X
 within m low ss c = bus_of true low (map (at m) ss) c
 
 -- after a start, within the address byte
-abbrev pub within_address : {X : Type 0} → ℕ → ℕ → Bool → List (Site X) → Counts → Bus X
+abbrev pub within_address : {X : Type 0} → ℕ → ℕ → Bool → List (Site X) → Seen → Bus X
 within_address left v low ss c = bus_of true low (map (calling left v) ss) c
 
 -- the lines are free: nobody pulls (section 3.1.1)
-abbrev pub free : {X : Type 0} → List (Site X) → Counts → Bus X
+abbrev pub free : {X : Type 0} → List (Site X) → Seen → Bus X
 free ss c = bus_of false false (map (at Out) ss) c
 
 -- what is joined after a stop is read anew, by number, and nobody is in a message then

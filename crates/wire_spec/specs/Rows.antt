@@ -3,7 +3,8 @@
 use Rattle.std.specs.Prelude.{ℕ, ◌==◌, Bool, true, false, not, List, [], ◌∷◌, ◌++◌, map}
 use Rattle.i2c_spec.specs.Targets.RegsDevice.{RegsView, Idle, regs_table}
 use Rattle.wire_spec.specs.Wires.{Site, Bit, bits, site_of}
-use Rattle.wire_spec.specs.Bus.{Counts, Bus, Mask, Came, scl_level, sda_level, pulled, looked}
+pub use Rattle.wire_spec.specs.Bus.{Sign, Level, Started, Stopped}
+use Rattle.wire_spec.specs.Bus.{Seen, edges_in, flips_in, Bus, Mask, Came, scl_level, sda_level, pulled, looked}
 use Rattle.wire_spec.specs.Calls.{free, start_pulls, repeated_start, sent_byte, read_byte, stop_pulls, slow_stop}
 
 -- a register device at this address, which holds its clock for so many looks
@@ -15,12 +16,19 @@ abbrev pub all_joined : Mask RegsView
 all_joined ss k = true
 
 -- one edge for each rise of SCL, and a flip for each start and stop
+pub record Counts : Type 0 where
+  pub edges : ℕ
+  pub flips : ℕ
+
 abbrev pub counted : ℕ → ℕ → Counts
 counted edges flips = record { edges = edges; flips = flips }
 
+abbrev pub counts_of : Seen → Counts
+counts_of c = counted (edges_in c) (flips_in c)
+
 -- the lines before the first start, with these devices on them
 abbrev pub wires : List (Site RegsView) → Bus RegsView
-wires ss = free ss (counted 0 0)
+wires ss = free ss []
 
 -- a device at 0x20 that has 0x7e in register 5
 abbrev pub one_device : Bus RegsView
@@ -43,12 +51,6 @@ pub data Doing : Type 0 where
 abbrev pub done : Bus RegsView → Doing → Bus RegsView
 done w (Pull scl sda) = pulled regs_table all_joined w scl sda
 done w Look = looked regs_table w
-
--- what an analyser sees: the level of SDA at a rise of SCL (section 3.1.3), a start and a stop (section 3.1.4)
-pub data Sign : Type 0 where
-  Level : (high : Bool) → Sign
-  Started : Sign
-  Stopped : Sign
 
 -- what is to be seen, by the levels before and after
 abbrev pub sign_of : (scl_was scl_is sda_was sda_is : Bool) → List Sign
@@ -126,8 +128,8 @@ read_behind byte w = read_byte regs_table all_joined false (sent_byte regs_table
 
 -- the counts after a stop
 abbrev pub stopped : Bus RegsView → Counts
-stopped w = (stop_pulls regs_table all_joined w).1.counts
+stopped w = counts_of (stop_pulls regs_table all_joined w).1.seen
 
 -- the counts after a stop after a start that was too slow
 abbrev pub slow_stopped : Bus RegsView → Counts
-slow_stopped w = (slow_stop regs_table all_joined w).1.counts
+slow_stopped w = counts_of (slow_stop regs_table all_joined w).1.seen

@@ -1,6 +1,6 @@
 -- A start on the wires, target by target: the address comes in, the acknowledge clock is stretched, and what is left of it
 -- (UM10204 sections 3.1.4, 3.1.6, 3.1.9 and 3.1.10).
-use Rattle.std.specs.Prelude.{ℕ, ◌-◌, ◌/◌, ◌==◌, Bool, true, false, not, ◌&&◌, List, cond, map, if◌then◌else◌}
+use Rattle.std.specs.Prelude.{ℕ, ◌-◌, ◌/◌, ◌==◌, Bool, true, false, not, ◌&&◌, List, ◌∷◌, cond, map, if◌then◌else◌}
 use Rattle.i2c_base.specs.declared.event.Event.TheVariants.{Start}
 use Rattle.i2c_base.specs.declared.event.Answer.{Answer}
 use Rattle.i2c_base.specs.declared.event.Answer.TheVariants.{Ack, Nack, Slow}
@@ -9,7 +9,7 @@ use Rattle.wire_spec.specs.declared.mode.Mode.{Mode}
 use Rattle.wire_spec.specs.declared.mode.Mode.TheVariants.{Out, In, Give}
 use Rattle.wire_spec.specs.Wires.{Site, Bit, LOOKS, hears, other, stretch, is_named, is_reading, stands}
 use Rattle.wire_spec.specs.Roots.{start_site}
-use Rattle.wire_spec.specs.Bus.{Counts, one_edge, Bus, bus_of}
+use Rattle.wire_spec.specs.Bus.{Seen, Level, Bus, bus_of}
 
 -- an address comes in at all that is joined: so many bits are missing, and the number so far
 abbrev pub calling : {X : Type 0} → ℕ → ℕ → Site X → Bit X
@@ -34,12 +34,12 @@ abbrev pub late : {X : Type 0} → Table X → ℕ → Site X → Bit X
 late t byte s = late_if t byte s s.joined (is_named byte s)
 
 -- the lines then: the controller has let both go
-abbrev pub late_bus : {X : Type 0} → Table X → ℕ → List (Site X) → Counts → Bus X
+abbrev pub late_bus : {X : Type 0} → Table X → ℕ → List (Site X) → Seen → Bus X
 late_bus t byte ss c = bus_of false false (map (late t byte) ss) c
 
--- SCL has risen where nobody holds it
-abbrev pub rose : Bool → Counts → Counts
-rose held c = cond held c (one_edge c)
+-- SCL has risen, with SDA at this level, where nobody holds it
+abbrev pub rose : (held high : Bool) → Seen → Seen
+rose held high c = cond held c (Level high ∷ c)
 
 -- what a start with this address byte is to a site in the world of bytes
 abbrev pub started : {X : Type 0} → Table X → ℕ → Site X → Site X

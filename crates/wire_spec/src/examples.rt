@@ -35,16 +35,16 @@ pub fn a_clock_is_held_for_64_looks()
     ensures risen { row.seen (row.holding 64) (row.start ++ row.clocks_of (bits 8 0x40) ++ row.let_go ++ replicate 64 row.Look)
         ≡ row.Started ∷ row.rises (0 ∷ 1 ∷ 0 ∷ 0 ∷ 0 ∷ 0 ∷ 0 ∷ 0 ∷ 0 ∷ []) }
     ensures up { (row.addressed 0x40 (row.holding 64)).up ≡ true }
-    ensures counts { (row.addressed 0x40 (row.holding 64)).bus.counts ≡ row.counted 9 1 }
+    ensures counts { row.counts_of (row.addressed 0x40 (row.holding 64)).bus.seen ≡ row.counted 9 1 }
 {}
 
 /// One that holds it for 65 looks is too slow, though SCL rises at the last of them; then the controller's stop is seen as a
 /// start and a stop. One that holds it for longer lets SCL rise within the stop.
 pub fn a_clock_that_is_held_for_65_looks_is_given_up()
     ensures up { (row.addressed 0x40 (row.holding 65)).up ≡ false }
-    ensures counts { (row.addressed 0x40 (row.holding 65)).bus.counts ≡ row.counted 9 1 }
+    ensures counts { row.counts_of (row.addressed 0x40 (row.holding 65)).bus.seen ≡ row.counted 9 1 }
     ensures stopped { row.slow_stopped (row.addressed 0x40 (row.holding 65)).bus ≡ row.counted 9 3 }
-    ensures longer { (row.addressed 0x40 (row.holding 66)).bus.counts ≡ row.counted 8 1 }
+    ensures longer { row.counts_of (row.addressed 0x40 (row.holding 66)).bus.seen ≡ row.counted 8 1 }
     ensures risen { row.slow_stopped (row.addressed 0x40 (row.holding 66)).bus ≡ row.counted 9 2 }
 {}
 

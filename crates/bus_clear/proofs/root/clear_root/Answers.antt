@@ -1,4 +1,7 @@
 use Rattle.bus_clear.proofs.Cited.{sym, ap, subst, refl, IsQuietWorld, pulses_of}
+use denote.Param.Send.{sendable}
+use Rattle.std.proofs.Crossing.{crosses}
+use Rattle.bus_lines.proofs.SendLemmas.{lines-send}
 use Rattle.i2c_spec.specs.Flat.{block_limit}
 use Rattle.i2c_spec.specs.World.{opening_world}
 use Rattle.bus_clear.proofs.LawLemmas.{root_level, root_pulses, root_reply}
@@ -7,6 +10,10 @@ use Rattle.bus_clear.proofs.root.clear_root.Goals as goal
 pub clear_cut-high-requires-clause-quiet : goal.clear_cut-high-requires-clause-quiet
 clear_cut-high-requires-clause-quiet c tells =
     subst IsQuietWorld (sym c.in_ok-lines.ensures.world) (c.an_opening_world_is_quiet.ensures c.args.board.now c.args.root)
+
+-- the lines may go to another thread, as a lemma of theirs says
+pub receive-requires-send-L : goal.receive-requires-send-L
+receive-requires-send-L c κs = search (crosses, sendable, lines-send) depth 20
 
 pub returns : goal.returns
 returns c =

@@ -3,9 +3,9 @@ use Rattle.bus_lines.proofs.bus_lines.BusLinesByteLines.start.Goals as goal
 
 pub returns-clause-told : goal.returns-clause-told
 returns-clause-told c tells =
-    begin_is c.self.inside.targets c.count_edge.new.self c.start_condition.new.self c.self.inside.wire c.begun.new.self c.args.self.now
+    begin_is c.self.inside.targets c.show_rise.new.self c.start_condition.new.self c.self.inside.wire c.begun.new.self c.args.self.now
     c.self.view_is c.args.busy
-    (c.requires.stands tells) c.count_edge.ensures c.start_condition.ensures c.begun.ensures
+    (c.requires.stands tells) c.show_rise.ensures c.start_condition.ensures c.begun.ensures
 
 pub returns-clause-bus : goal.returns-clause-bus
 returns-clause-bus c tells =

@@ -1,5 +1,5 @@
 use Rattle.bus_lines.proofs.Cited.{◌≡◌, ℕ, false, ◌&&◌, ◌/◌, ◌<◌, List, map, get_or, [], refl, sym, ap, ◌∙◌, subst, arith, list_any, Bit}
-use Rattle.bus_lines.proofs.Cited.{some_one, more_edges, NodeState, NO_ADDRESS, Enter, acks_enter, address_in, joined_at}
+use Rattle.bus_lines.proofs.Cited.{some_one, byte_seen, NodeState, NO_ADDRESS, Enter, acks_enter, address_in, joined_at}
 use Rattle.bus_lines.proofs.Cited.{slow_at, known_on, TargetsView, targets_of, AreNumbers, is_among, RegisterView, shared, some_by}
 use Rattle.bus_lines.proofs.Cited.{of_those, whole_on}
 use Rattle.bus_lines.specs.Known.{AreKept, AreListed}
@@ -129,10 +129,10 @@ returns c =
           ∙ enter_acks now.left live.items started.items i.at ps (known_on ps told) between.are.units
           ∙ acks_is nodes_fair k ps i.held i.address i.live i.started i.at (bits_in i) are byte low quick (known_on ps told) all
           ∙ ap (λ (v : TargetsView). some_one (would_ack byte) v.bits) c.self.view_is;
-      after = seen_after i (address_in byte) (more_edges 9)
+      after = seen_after i (address_in byte) (byte_seen byte e.result)
           (whole_seen i c.self.invariant (address_in byte) (invariant_of-self-2 c).kept
           (seen_alone now.left now.value (known_on ps e.new.targets.items) over ∙ entered
           ∙ all_told Enter tt now.left live.items started.items i.at ps (known_on ps told) over between.are.units
           ∙ entered_is nodes_fair k ps i.held i.address i.live i.started i.at (bits_in i) are byte low quick (known_on ps told) all))
-          c.add_nine.ensures c.self.view_is;
+          c.add_byte.ensures c.self.view_is;
     }

@@ -1,4 +1,4 @@
-use Rattle.bus_lines.proofs.Cited.{◌≡◌, ◌++◌, length, map, sym, ap, ◌∙◌, subst, slice_get, BoardView, board_of, rejoin_from, rejoined}
+use Rattle.bus_lines.proofs.Cited.{◌≡◌, [], ◌++◌, length, map, sym, ap, ◌∙◌, subst, slice_get, BoardView, board_of, rejoin_from, rejoined}
 use Rattle.bus_lines.proofs.Cited.{mask_of, Rooted, is_chip, kinds_of, joins_by, states_on, places_of, targets_of}
 use Rattle.bus_lines.proofs.Cited.{NumbersView, bits_of, chip_bit, kept_device, kept_bits, whole_on, RegisterView, shared, IsIndex}
 use Rattle.bus_lines.proofs.AwayLemmas.{kept_whole, kept_kinds, whole_rejoined}
@@ -78,6 +78,5 @@ returns c =
     (ap (λ qs. whole_on b qs bs) (places c)
     ∙ ap (whole_on b (places_of b r)) (bits c ∙ ap (λ (x : BoardView). kept_bits x r) (same c)) ∙ kept_whole b r) in
     seen_as (k c) view c.none-2.ensures
-    ∙ ap (λ (x : BoardView). targets_of (record { board = x; root = r }) (rejoined (mask_of x r) (bits_of x))
-    (record { edges = 0; flips = 0 }))
+    ∙ ap (λ (x : BoardView). targets_of (record { board = x; root = r }) (rejoined (mask_of x r) (bits_of x)) [])
     c.of-2.ensures

@@ -1,5 +1,5 @@
 use Rattle.bus_lines.proofs.Cited.{◌≡◌, ℕ, suc, ◌-◌, ◌<◌, ◌/◌, Bool, Option, Some, None, refl, sym, ap, ◌∙◌, arith, rise, shifted, some_one}
-use Rattle.bus_lines.proofs.Cited.{one_edge, holds_line, NO_ADDRESS, node_table, Rise, TargetsView, RegisterView}
+use Rattle.bus_lines.proofs.Cited.{◌∷◌, Level, holds_line, NO_ADDRESS, node_table, Rise, TargetsView, RegisterView}
 use Rattle.bus_lines.specs.Known.{AreListed}
 use Rattle.bus_lines.proofs.InvariantLemmas.{coming_are, rises_coming, none_comes, some_comes, last_comes, more_comes}
 use Rattle.bus_lines.proofs.KeptLemmas.{kept_with}
@@ -42,11 +42,11 @@ invariant_of-self c =
 pub returns-then-not-is_coming : goal.returns-then-not-is_coming
 returns-then-not-is_coming c =
     let i = c.self.inside in
-    seen_after i (λ b. rise node_table b c.args.level) one_edge
+    seen_after i (λ b. rise node_table b c.args.level) (λ s. Level c.args.level ∷ s)
     (told_seen i c.self.invariant (Rise c.args.level) tt
     (none_comes c.is_coming.result i.address.left c.is_coming.ensures c.if-not-is_coming.true) _ c.as_slice.ensures.value
     _ c.tell.ensures.targets i.held (invariant_of-self c))
-    c.add_edge.ensures c.self.view_is
+    c.add_rise.ensures c.self.view_is
 
 -- who is joined is read anew of those at the address
 read_anew : (c : After-list_joined)
@@ -89,12 +89,12 @@ returns-in-Some c =
     let i = c.self.inside in
     let low : c.in-Some.byte / 2 < NO_ADDRESS = omega arith in
     let call = c.call.ensures in
-    seen_after i (λ b. rise node_table b c.args.level) one_edge
+    seen_after i (λ b. rise node_table b c.args.level) (λ s. Level c.args.level ∷ s)
     (whole_seen i c.self.invariant (λ b. rise node_table b c.args.level) (invariant_of-self-in-Some c).kept
     (last_seen i c.self.invariant c.in-Some.byte _ c.at.ensures _ c.as_slice-in-Some.ensures.value _ c.list_joined.ensures.bits
     c.call.new.live c.call.new.started call.live call.started call.live_room call.started_room _ call.bits low (last c).last
     c.args.level (last c).byte_is c.take.new.self (last c).over))
-    c.add_edge.ensures c.self.view_is
+    c.add_rise.ensures c.self.view_is
 
 pub invariant_of-self-in_default : goal.invariant_of-self-in_default
 invariant_of-self-in_default c =
@@ -113,6 +113,6 @@ returns-in_default c =
     let i = c.self.inside in
     let some = some_comes c.is_coming.result i.address.left c.is_coming.ensures c.if-not-is_coming.false in
     let more = more_comes i.address.left some (λ last. c.in_default.not-Some _ (c.take.ensures.last last)) in
-    seen_after i (λ b. rise node_table b c.args.level) one_edge
+    seen_after i (λ b. rise node_table b c.args.level) (λ s. Level c.args.level ∷ s)
     (rises_coming more.0 i.address.value c.args.level i.address.left c.take.new.self (whole_in i) more.1 c.take.ensures.value)
-    c.add_edge.ensures c.self.view_is
+    c.add_rise.ensures c.self.view_is

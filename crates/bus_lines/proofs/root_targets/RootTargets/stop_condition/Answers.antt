@@ -1,4 +1,4 @@
-use Rattle.bus_lines.proofs.Cited.{false, map, refl, sym, ap, ◌∙◌, finish, where_joined, one_flip, rejoin_from, rejoined, node_table}
+use Rattle.bus_lines.proofs.Cited.{false, map, refl, sym, ap, ◌∙◌, finish, where_joined, ◌∷◌, Stopped, rejoin_from, rejoined, node_table}
 use Rattle.bus_lines.proofs.Cited.{mask_of, joins_by, states_on, TargetsView, NumbersView, RegisterView}
 use Rattle.bus_lines.proofs.InvariantLemmas.{seen_as}
 use Rattle.bus_lines.proofs.KeptLemmas.{missed_kept, missed_seen, reached_kept, reached_seen}
@@ -37,10 +37,10 @@ returns-then-stop c =
     (reached_seen (rooted i) i.places.items i.held i.address i.live i.started i.at i.bits.items c.self.invariant.kept
     s.new.live s.new.started s.ensures.live s.ensures.started s.new.bits.items s.ensures.bits
     c.none-self-inside.result (ap (λ (r : RegisterView). r.left) c.none-self-inside.ensures) (sym s.ensures.result ∙ c.if-stop.true))
-    c.add_flip.ensures
+    c.add_stop.ensures
     ∙ ap (λ (v : TargetsView). record v {
       bits = rejoined (mask_of v.rooted.board v.rooted.root) (map (where_joined (finish node_table)) v.bits);
-      counts = one_flip v.counts;
+      shown = Stopped ∷ v.shown;
     }) c.self.view_is
 
 pub returns-else-stop : goal.returns-else-stop
@@ -53,8 +53,8 @@ returns-else-stop c =
     s.new.live s.new.started s.ensures.live s.ensures.started s.new.bits.items s.ensures.bits
     c.none-self-inside.result (ap (λ (r : RegisterView). r.left) c.none-self-inside.ensures) j.new.targets.items
     (j.ensures.targets ∙ ap (λ qs. rejoin_from (joins_by qs (states_on s.new.bits.items)) 0 s.new.bits.items) c.as_slice.ensures.value))
-    c.add_flip.ensures
+    c.add_stop.ensures
     ∙ ap (λ (v : TargetsView). record v {
       bits = rejoined (mask_of v.rooted.board v.rooted.root) (map (where_joined (finish node_table)) v.bits);
-      counts = one_flip v.counts;
+      shown = Stopped ∷ v.shown;
     }) c.self.view_is
