@@ -3,7 +3,7 @@
 use crate::case::{Call, Case, Files, shelf_of, sink_of};
 use case_parts::same_devices;
 use i2c_outside::{OpenGate, VecSink};
-use i2c_physics::BitRig;
+use i2c_physics::{BitRig, BusLines};
 use i2c_top::{Status, top};
 use std::alloc::Global;
 use std::sync::Wait;
@@ -14,7 +14,7 @@ use std::thread::Threads;
 pub struct WiredCall {
     status: Status,
     sink: VecSink,
-    rig: BitRig,
+    rig: BitRig<BusLines>,
 }
 
 impl WiredCall {
@@ -28,7 +28,7 @@ impl WiredCall {
     ) -> Option<Self> {
         let mut shelf = shelf_of(alloc, case, files, words)?;
         let mut sink = sink_of(alloc, case)?;
-        let mut rig = BitRig::new();
+        let mut rig = BitRig::<BusLines>::new();
         let status = top(rt, alloc, words, &mut shelf, &mut sink, &mut rig, &OpenGate);
         Some(WiredCall { status, sink, rig })
     }

@@ -16,4 +16,5 @@ mod Cited
 pub mod WorldLemmas
 pub mod TakeLemmas
 pub mod SendLemmas
+pub mod ShowLemmas
 pub mod WireLemmas

@@ -1,9 +1,11 @@
 -- A port may go to another thread, with all that it holds.
+use denote.RattleType.{RattleType}
 use denote.Param.Send.{IsSend, IsSync, sendable}
 use Rattle.std.proofs.Crossing.{crosses}
 use Rattle.i2c_board.proofs.SendLemmas.{hop-send}
 use Rattle.i2c_bits.proofs.SendLemmas.{port-send as bit_port-send}
-use Rattle.bus_lines.proofs.SendLemmas.{lines-send}
+pub use Rattle.bus_lines.proofs.SendLemmas.{lines-send}
+use Rattle.i2c_bits.specs.declared.lines.Lines as Lines
 use Rattle.targets.proofs.SendLemmas.{device-send}
 use Rattle.i2c_physics.specs.contracts.numbers.KindNumbers as KindNumbers
 use Rattle.i2c_physics.specs.contracts.place.TargetPlace as TargetPlace
@@ -50,5 +52,5 @@ words-sync = search (crosses, sendable) depth 20
 pub hold_port-send : IsSend (HoldPort.the_field).row
 hold_port-send = search (crosses, sendable, port-send, words-send, words-sync) depth 20
 
-pub wire_port-send : IsSend (WirePort.the_field).row
-wire_port-send = search (crosses, sendable, bit_port-send, lines-send) depth 20
+pub wire_port-send : (L : RattleType) (ghosts : Lines.Ghosts L.Denot) → IsSend L → IsSend (WirePort.the_field L ghosts).row
+wire_port-send L ghosts sends = search (crosses, sendable, bit_port-send) depth 20

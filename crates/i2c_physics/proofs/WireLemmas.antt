@@ -5,6 +5,7 @@ use Rattle.i2c_physics.proofs.Cited.{AreWorldsOf, openings, BitPortView, PortVie
 use Rattle.std.specs.Prelude.{min, sum_by}
 use Rattle.std.proofs.lemmas.List.Sums.{sum_by-append}
 use Rattle.ports.specs.Causes.{MOST}
+use Rattle.wire_spec.specs.Bus.{edges_in}
 use Rattle.i2c_physics.specs.BitRigs.{WiredView}
 use Rattle.i2c_physics.proofs.PlugLemmas.{opened-count, opened-all, opened-worlds}
 use Rattle.i2c_physics.proofs.RigLemmas.{count_of_worlds}
@@ -28,12 +29,12 @@ module _ (b : BoardView) (ps : List BitPortView) (are : map wired ps ≡ map (op
       ∙ opened-worlds (opening_wired b) b (map wired ps) are (λ v. v.port.world) (λ r. refl)
 
 -- one port more, on which SCL rose so often
-pub one_more_edge : (ps : List BitPortView) (p : BitPortView) (sum more new : ℕ) → sum ≡ edges_of ps → more ≡ min p.counts.edges MOST
+pub one_more_edge : (ps : List BitPortView) (p : BitPortView) (sum more new : ℕ) → sum ≡ edges_of ps → more ≡ min (edges_in p.seen) MOST
     → new ≡ min (sum + more) MOST → new ≡ edges_of (ps ++ p ∷ [])
 one_more_edge ps p sum more new was one is =
-    let all : sum_by (λ (q : BitPortView). q.counts.edges) (ps ++ p ∷ []) ≡ sum_by (λ (q : BitPortView). q.counts.edges) ps
-    + (0 + p.counts.edges) =
-    sum_by-append (λ (q : BitPortView). q.counts.edges) ps (p ∷ []) in
+    let all : sum_by (λ (q : BitPortView). edges_in q.seen) (ps ++ p ∷ []) ≡ sum_by (λ (q : BitPortView). edges_in q.seen) ps
+    + (0 + edges_in p.seen) =
+    sum_by-append (λ (q : BitPortView). edges_in q.seen) ps (p ∷ []) in
     omega (arith, was, one, is, all)
 
 -- where none of these ports has counted a fault, their counts are all 0

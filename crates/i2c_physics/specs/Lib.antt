@@ -7,5 +7,6 @@ pub mod SimWorlds
 pub mod SimPorts
 pub mod FailPorts
 pub mod SimRigs
+pub mod Shows
 pub mod BitRigs
 pub use Rattle.i2c_spec.specs.World

@@ -6,9 +6,9 @@ ghost use Rattle.ports.specs.Causes.{counted};
 ghost use Rattle.i2c_physics.specs.BitRigs.{edges_of, opening_wired, wired};
 ghost use Rattle.i2c_physics.specs.SimRigs.{no_board, none_of, unset, kept_states};
 
-use crate::WirePort;
 use crate::parted_port::PartsBuffer;
 use crate::sim_rig::SimRig;
+use crate::{RootLines, WirePort};
 use i2c_base::{NoMemory, SegId};
 use i2c_board::Accepted;
 use i2c_outside::{Rig, RigFail};
@@ -20,16 +20,16 @@ use targets::DeviceState;
 /// The rig of the same boards as `SimRig`, whose ports drive the two wires of each root, bit by bit. No call on one fails, so that
 /// the count of each port that is given back is 0, by what is seen of the rig.
 #[derive(Drop)]
-pub struct BitRig {
+pub struct BitRig<L: RootLines> {
     sim: SimRig,
     /// The room for the ports of the last plug, until the unplug that follows it.
     buffer: Option<PartsBuffer>,
     /// The ports that were last given back.
-    given: Option<Snapshot<Vec<WirePort>>>,
+    given: Option<Snapshot<Vec<WirePort<L>>>>,
     edges: u64,
 }
 
-impl Model for BitRig {
+impl<L: RootLines> Model for BitRig<L> {
     ghost use Rattle.std.specs.Prelude.{◌≡◌, [], map};
     ghost use Rattle.std.specs.Option.{option_map_or};
     ghost use Rattle.i2c_physics.specs.BitRigs.{BitRigView};
@@ -41,7 +41,7 @@ impl Model for BitRig {
     ghost invariant = { λ r. r.buffer ≡ r.sim.room };
 }
 
-impl BitRig {
+impl<L: RootLines> BitRig<L> {
     /// A rig that was never plugged.
     pub fn new() -> Self
         ensures { result ≡ record { sim = record { faults = 0; plugs = 0; unplugs = 0; room = None; kept = None; given = 0 }; logs = []; edges = 0 } }
@@ -111,8 +111,8 @@ impl BitRig {
     }
 }
 
-impl Rig for BitRig {
-    type P = WirePort;
+impl<L: RootLines + Send> Rig for BitRig<L> {
+    type P = WirePort<L>;
 
     ghost tells = { true };
 
@@ -137,10 +137,10 @@ impl Rig for BitRig {
 
     ghost returned = { λ r. unset (length r.logs) };
 
-    /// It never fails, except when out of memory. Neither wire of a root has changed yet.
-    fn plug(&mut self, alloc: Global, board: &Accepted) -> Result<Vec<WirePort>, RigFail>
+    /// It never fails, except when out of memory. Nothing was seen on the wires of a root yet.
+    fn plug(&mut self, alloc: Global, board: &Accepted) -> Result<Vec<WirePort<L>>, RigFail>
         ensures ports { IfOk result (λ ports. map wired ports.items ≡ map (opening_wired board.now) (range_with_len 0 (length board.now.roots))) }
-        ensures counts { IfOk result (λ ports. All (λ p. p.counts ≡ record { edges = 0; flips = 0 }) ports.items) }
+        ensures seen { IfOk result (λ ports. All (λ p. p.seen ≡ []) ports.items) }
         ensures board { OnOk result (self.new.sim.room ≡ Some board.now) }
         ensures unplugged { OnErr result (self.new.sim.room ≡ None) }
         ensures kept { self.new.sim.kept ≡ None }
@@ -162,7 +162,7 @@ impl Rig for BitRig {
         }
     }
 
-    fn unplug(&mut self, ports: Vec<WirePort>)
+    fn unplug(&mut self, ports: Vec<WirePort<L>>)
         requires { is_some self.old.sim.room ≡ true }
         ensures plugged { is_some self.new.sim.room ≡ false }
         ensures plugs { self.new.sim.plugs ≡ self.old.sim.plugs }
@@ -189,7 +189,7 @@ impl Rig for BitRig {
 }
 
 /// The ports of the board's roots, in order.
-fn open_ports(alloc: Global, board: &Accepted) -> Result<Vec<WirePort>, NoMemory>
+fn open_ports<L: RootLines>(alloc: Global, board: &Accepted) -> Result<Vec<WirePort<L>>, NoMemory>
     ensures { IfOk result (λ ports. map wired ports.items ≡ map (opening_wired board.now) (range_with_len 0 (length board.now.roots))) }
 {
     let count = board.board().roots().len() as u16;

@@ -5,7 +5,7 @@
 //! `i2c_spec` says, and `SimRig` meets `Rig`. Neither ever fails by a fault. `FailPort` and `FailRig` are the same with
 //! calls and plugs that fail, exactly those that are listed. `HoldPort` and `HoldRig` meet what `SimPort` and `SimRig` do,
 //! and the ports of two roots wait for each other. `BitRig` meets `Rig` too, and its ports drive two wires, bit by bit: they
-//! never fail, and it tells how often SCL rose. `SimWorld` is that world alone, whose calls may come at any time.
+//! never fail, they show what their calls show (`specs/Shows.antt`), and it tells how often SCL rose. `SimWorld` is that world alone, whose calls may come at any time.
 //! Definitions: `World` of `i2c_spec` (UM10204 section 3.1), `specs/FailPorts.antt`.
 #![tactic(auto)]
 
@@ -20,6 +20,7 @@ mod parted_port;
 mod phase;
 mod place;
 mod reach;
+mod root_lines;
 mod sim_port;
 mod sim_rig;
 mod sim_world;
@@ -30,10 +31,12 @@ mod wired_and;
 mod words;
 
 pub use bit_rig::BitRig;
+pub use bus_lines::BusLines;
 pub use fail_port::FailPort;
 pub use fail_rig::FailRig;
 pub use hold_port::HoldPort;
 pub use hold_rig::HoldRig;
+pub use root_lines::RootLines;
 pub use sim_port::SimPort;
 pub use sim_rig::SimRig;
 pub use sim_world::SimWorld;

@@ -1,10 +1,11 @@
 //! A port on two wires that was taken apart, and the room for one of each root.
 ghost use Rattle.std.specs.Prelude.{◌≡◌, ◌<◌, ◌≤◌, ◌+◌, ◌++◌, [], ◌∷◌, All, length, map, min, vec_len, vec_capacity, IfOk};
 ghost use Rattle.ports.specs.Causes.{MOST};
+ghost use Rattle.wire_spec.specs.Bus.{edges_in};
 ghost use Rattle.i2c_physics.specs.BitRigs.{edges_of, parted};
 
-use crate::WirePort;
 use crate::unplug::Returned;
+use crate::{RootLines, WirePort};
 use bus_lines::Apart;
 use i2c_board::Accepted;
 use std::alloc::{AllocError, Global};
@@ -76,7 +77,7 @@ impl PartsBuffer {
     }
 
     /// Takes these ports apart, in order.
-    pub fn fill(self, ports: Vec<WirePort>) -> PartedPorts
+    pub fn fill<L: RootLines>(self, ports: Vec<WirePort<L>>) -> PartedPorts
         ensures ports { length ports.items ≤ length self.roots → result.ports.items ≡ map parted ports.items }
         ensures edges { result.edges ≡ edges_of ports.items }
         ensures faults { All (λ p. p.faults ≡ 0) ports.items }
@@ -91,7 +92,7 @@ impl PartsBuffer {
 }
 
 /// Takes these ports apart after others, as far as there is room. How often SCL rose on them, up to 2^64 - 1.
-fn take_apart(done: &mut Vec<PartedPort>, ports: Vec<WirePort>) -> u64
+fn take_apart<L: RootLines>(done: &mut Vec<PartedPort>, ports: Vec<WirePort<L>>) -> u64
     ensures ports { vec_len done.old + vec_len ports ≤ vec_capacity done.old → done.new.items ≡ done.old.items ++ map parted ports.items }
     ensures edges { result ≡ edges_of ports.items }
     ensures faults { All (λ p. p.faults ≡ 0) ports.items }
@@ -104,16 +105,17 @@ fn take_apart(done: &mut Vec<PartedPort>, ports: Vec<WirePort>) -> u64
 }
 
 /// Takes this port apart after others, where there is room. How often SCL rose on it, up to 2^64 - 1.
-fn take_one(done: &mut Vec<PartedPort>, port: WirePort) -> u64
+fn take_one<L: RootLines>(done: &mut Vec<PartedPort>, port: WirePort<L>) -> u64
     ensures port { vec_len done.old < vec_capacity done.old → done.new.items ≡ done.old.items ++ parted port ∷ [] }
     ensures room { vec_capacity done.old ≤ vec_capacity done.new }
-    ensures edges { result ≡ min port.counts.edges MOST }
+    ensures edges { result ≡ min (edges_in port.seen) MOST }
     ensures faults { port.faults ≡ 0 }
 {
     let parts = port.into_parts();
-    let edges = parts.lines.edges();
+    let lines = parts.lines.into_lines();
+    let edges = lines.edges();
     let _ = done.push(PartedPort {
-        targets: parts.lines.apart(),
+        targets: lines.apart(),
         busy: parts.busy,
     });
     edges

@@ -6,13 +6,14 @@ ghost use Rattle.i2c_base.specs.declared.port.Phase.{Phase};
 ghost use Rattle.i2c_base.specs.declared.port.PortCall.TheVariants as call;
 ghost use Rattle.i2c_spec.specs.World.{after, answer, takes, gives};
 ghost use Rattle.ports.specs.LineCalls.{HasLine};
-ghost use Rattle.wire_spec.specs.Calls.{more_edges};
-ghost use Rattle.i2c_bits.specs.Counting.{StartCounts, StopCounts};
+ghost use Rattle.wire_spec.specs.Calls.{byte_seen};
+ghost use Rattle.i2c_bits.specs.Showing.{address_byte, StartShows, StopShows};
 ghost use Rattle.i2c_bits.specs.PortViews as view;
 ghost use Rattle.i2c_bits.specs.Stands.{world_at};
 ghost use Rattle.i2c_physics.specs.BitRigs.{opening_wired, wired};
+ghost use Rattle.i2c_physics.specs.Shows.{ShowsCalls};
 
-use bus_lines::BusLines;
+use crate::RootLines;
 use i2c_base::{Addr, Answer, MuxId, NoMemory, SegId};
 use i2c_bits::{BitPort, ClosedPort};
 use i2c_board::Accepted;
@@ -20,46 +21,56 @@ use ports::{Failed, Port};
 use std::alloc::Global;
 use std::marker::Model;
 
-/// The port of one root of a board that drives its two wires, bit by bit, with the board's targets on them. No call of it fails, so
-/// that its count of faults is 0 by its type.
+/// The port of one root of a board that drives its two wires, bit by bit, with the board's targets on them. By its type no call of it
+/// has failed, and its wires have shown what its calls show.
 #[derive(Drop)]
-pub struct WirePort {
-    port: BitPort<BusLines>,
+pub struct WirePort<L: RootLines> {
+    port: BitPort<L>,
 }
 
-impl Model for WirePort {
-    ghost use Rattle.std.specs.Prelude.{◌≡◌};
+impl<L: RootLines> Model for WirePort<L> {
     ghost use Rattle.i2c_bits.specs.PortViews.{BitPortView};
+    ghost use Rattle.i2c_physics.specs.BitRigs.{IsWirePort};
 
     ghost Value = { BitPortView };
 
     ghost view = { λ p. p.port };
 
-    ghost invariant = { λ p. p.port.faults ≡ 0 };
+    ghost invariant = { λ p. IsWirePort p.port };
 }
 
-impl WirePort {
+impl<L: RootLines> WirePort<L> {
     /// The port of this root, in the root's opening world, on wires that haven't changed yet.
     pub(crate) fn open(alloc: Global, board: &Accepted, root: SegId) -> Result<Self, NoMemory>
         ensures { IfOk result (λ port. wired port ≡ opening_wired board.now root) }
     {
-        let lines = BusLines::open(alloc, board, root)?;
+        L::tell();
+        let lines = L::open(alloc, board, root)?;
         Ok(WirePort {
             port: BitPort::open(lines),
         })
     }
 
+    /// Its lines. Their board and root are those of its world.
+    pub fn lines(&self) -> &L
+        ensures world { world_at (L.board result.now) (view.is_busy self.now.phase) (L.bus result.now) ≡ self.now.world }
+        ensures seen { (L.bus result.now).seen ≡ self.now.seen }
+        ensures shows { ShowsCalls self.now }
+    {
+        self.port.lines()
+    }
+
     /// Its lines, and whether a message was in progress on them.
-    pub(crate) fn into_parts(self) -> ClosedPort<BusLines>
-        ensures world { world_at result.lines.rooted result.busy result.lines.bus ≡ self.world }
-        ensures counts { result.lines.bus.counts ≡ self.counts }
+    pub(crate) fn into_parts(self) -> ClosedPort<L>
+        ensures world { world_at (L.board result.lines) result.busy (L.bus result.lines) ≡ self.world }
+        ensures seen { (L.bus result.lines).seen ≡ self.seen }
         ensures faults { self.faults ≡ 0 }
     {
         self.port.into_parts()
     }
 }
 
-impl Port for WirePort {
+impl<L: RootLines + Send> Port for WirePort<L> {
     ghost tells = { true };
 
     ghost world = { λ p. p.world };
@@ -72,7 +83,7 @@ impl Port for WirePort {
 
     ghost setup = { λ p. [] };
 
-    /// It is answered, and is nine clock pulses, or ten where it is a repeated one; of one that is too slow the pulses aren't told.
+    /// It is answered, and shows its address byte and the answer; of one that is too slow a ninth rise of SCL isn't told.
     #[inline(always)]
     fn start(&mut self, addr: Addr, reading: bool) -> Result<Answer, Failed>
         requires phase { MayStart self.old.phase }
@@ -84,12 +95,13 @@ impl Port for WirePort {
         ensures phase { IfOk result (λ a. self.new.phase ≡ phase_started reading a) }
         ensures world { self.new.world ≡ after self.old.world (call.Start addr reading) }
         ensures log { self.new.log ≡ self.old.log ++ call.Start addr reading ∷ [] }
-        ensures counts { IfOk result (λ a. StartCounts (view.is_busy self.old.phase) a self.old.counts self.new.counts) }
+        ensures seen { IfOk result (λ a. StartShows (view.is_busy self.old.phase) (address_byte addr reading) a self.old.seen self.new.seen) }
     {
+        L::tell();
         self.port.start(addr, reading)
     }
 
-    /// It is answered, and is nine clock pulses.
+    /// It is answered, and shows the byte and the answer.
     #[inline(always)]
     fn put(&mut self, byte: u8) -> Result<bool, Failed>
         requires phase { MayPut self.old.phase }
@@ -100,12 +112,13 @@ impl Port for WirePort {
         ensures phase { IfOk result (λ acked. self.new.phase ≡ phase_put acked) }
         ensures world { self.new.world ≡ after self.old.world (call.Put byte) }
         ensures log { self.new.log ≡ self.old.log ++ call.Put byte ∷ [] }
-        ensures counts { self.new.counts ≡ more_edges 9 self.old.counts }
+        ensures seen { IfOk result (λ acked. self.new.seen ≡ byte_seen byte acked self.old.seen) }
     {
+        L::tell();
         self.port.put(byte)
     }
 
-    /// It gives a byte, and is nine clock pulses.
+    /// It gives a byte, and shows it and the controller's answer.
     #[inline(always)]
     fn get(&mut self, ack: bool) -> Result<u8, Failed>
         requires phase { MayGet self.old.phase }
@@ -116,12 +129,13 @@ impl Port for WirePort {
         ensures phase { self.new.phase ≡ phase_got ack }
         ensures world { self.new.world ≡ after self.old.world (call.Get ack) }
         ensures log { self.new.log ≡ self.old.log ++ call.Get ack ∷ [] }
-        ensures counts { self.new.counts ≡ more_edges 9 self.old.counts }
+        ensures seen { IfOk result (λ byte. self.new.seen ≡ byte_seen byte ack self.old.seen) }
     {
+        L::tell();
         self.port.get(ack)
     }
 
-    /// It frees the lines. SCL rises once before it, but for a start that was too slow.
+    /// It frees the lines, and shows a stop. SCL rises once before it, but for a start that was too slow.
     #[inline(always)]
     fn stop(&mut self) -> Result<(), Failed>
         requires phase { MayStop self.old.phase }
@@ -131,8 +145,9 @@ impl Port for WirePort {
         ensures phase { self.new.phase ≡ Phase.Idle }
         ensures world { self.new.world ≡ after self.old.world call.Stop }
         ensures log { self.new.log ≡ self.old.log ++ call.Stop ∷ [] }
-        ensures counts { StopCounts (view.is_late self.old.phase) self.old.counts self.new.counts }
+        ensures seen { StopShows (view.is_late self.old.phase) self.old.seen self.new.seen }
     {
+        L::tell();
         self.port.stop()
     }
 
@@ -146,8 +161,9 @@ impl Port for WirePort {
         ensures phase { self.new.phase ≡ Phase.Idle }
         ensures world { self.new.world ≡ after self.old.world (call.Line mux level) }
         ensures log { self.new.log ≡ self.old.log ++ call.Line mux level ∷ [] }
-        ensures counts { self.new.counts ≡ self.old.counts }
+        ensures seen { self.new.seen ≡ self.old.seen }
     {
+        L::tell();
         self.port.line(mux, level)
     }
 }

@@ -4,10 +4,10 @@
 //! its ports drive the two wires of each root, bit by bit.
 #![tactic(auto)]
 
-use i2c_physics::BitRig;
+use i2c_physics::{BitRig, BusLines};
 use std::process::ExitCode;
 
 fn main(rt: HostRuntime) -> ExitCode {
-    let called = i2c_command::call(&rt, &mut BitRig::new());
+    let called = i2c_command::call(&rt, &mut BitRig::<BusLines>::new());
     ExitCode::from(called.status.code())
 }

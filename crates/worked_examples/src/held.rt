@@ -117,7 +117,7 @@ impl Lines for HeldLines {
 
     ghost board = { λ l. record { board = record { version = 1; roots = []; muxes = []; devices = [] }; root = 0 } };
 
-    ghost bus = { λ l. bus_of false false [] (record { edges = 0; flips = 0 }) };
+    ghost bus = { λ l. bus_of false false [] [] };
 
     fn pull(&mut self, scl: bool, sda: bool) {
         let was = self.levels();

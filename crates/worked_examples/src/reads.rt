@@ -2,12 +2,13 @@
 ghost use Rattle.std.specs.Prelude.{◌≡◌, ◌+◌, ◌≤◌, IfSome, length};
 ghost use Rattle.i2c_base.specs.Limits.{MOST_CALLS};
 ghost use Rattle.i2c_base.specs.declared.port.Phase.{Phase};
+ghost use Rattle.worked_examples.specs.Reads.{read_seen};
 
 use case_parts::{Page, addr, byte};
 use i2c_base::{Addr, Answer};
 use i2c_board::Accepted;
 use i2c_outside::Rig;
-use i2c_physics::{BitRig, WirePort};
+use i2c_physics::{BitRig, BusLines, WirePort};
 use ports::Port;
 use std::alloc::Global;
 
@@ -21,12 +22,11 @@ pub struct Read {
 }
 
 /// Reads a register as SMBus 3.2 has it (section 6.5.5): a start to write, the number of the register, a repeated start to
-/// read, one byte that isn't acknowledged, and a stop. None where the rest was not acknowledged. SCL rises 38 times in it: nine times
-/// for each address and for each byte (UM10204 sections 3.1.5 and 3.1.6), and once before the repeated start and before the stop.
-fn read_register(port: &mut WirePort, addr: Addr, register: u8) -> Option<u8>
+/// read, one byte that isn't acknowledged, and a stop. None where the rest was not acknowledged. All of it is seen on the wires.
+fn read_register(port: &mut WirePort<BusLines>, addr: Addr, register: u8) -> Option<u8>
     requires idle { port.old.phase ≡ Phase.Idle }
     requires room { length port.old.log + 5 ≤ MOST_CALLS }
-    ensures { IfSome result (λ byte. port.new.counts ≡ record { edges = port.old.counts.edges + 38; flips = port.old.counts.flips + 3 }) }
+    ensures { IfSome result (λ byte. port.new.seen ≡ read_seen addr register byte port.old.seen) }
 {
     let Ok(Answer::Ack) = port.start(addr, false) else {
         return None;
@@ -51,7 +51,7 @@ fn read_register(port: &mut WirePort, addr: Addr, register: u8) -> Option<u8>
 pub fn read_once(alloc: Global, board: &Accepted, addr: Addr, register: u8) -> Option<Read>
     ensures { IfSome result (λ read. read.edges ≡ 38) }
 {
-    let mut rig = BitRig::new();
+    let mut rig = BitRig::<BusLines>::new();
     let Ok(mut ports) = rig.plug(alloc, board) else {
         return None;
     };

@@ -5,7 +5,7 @@ use Rattle.i2c_physics.proofs.WireLemmas.{one_more_edge, one_more_parted}
 use Rattle.i2c_physics.proofs.parted_port.take_apart.Goals as goal
 
 pub loop-port-preserved : goal.loop-port-preserved
-loop-port-preserved c = record {
+loop-port-preserved g c = record {
   grown = omega (arith, c.take_one.ensures.room, c.loop-port.invariant.grown);
   whole = omega (arith, length-append c.loop-port.yielded (c.in-Some.port ∷ []), c.in-Some.ensures.steps.1, c.loop-port.invariant.whole);
   kept = λ h.
@@ -23,7 +23,7 @@ loop-port-preserved c = record {
 }
 
 pub loop-port-init : goal.loop-port-init
-loop-port-init c = record {
+loop-port-init g c = record {
   grown = omega arith;
   whole = omega (arith, c.into_iter-port-iterator.ensures.into_iter_gives.1);
   kept = λ room. sym (append-nil _);

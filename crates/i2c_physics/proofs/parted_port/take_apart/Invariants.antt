@@ -3,7 +3,7 @@ use Rattle.i2c_physics.proofs.Cited.{◌≡◌, ◌≤◌, ◌+◌, ◌++◌, le
 use Rattle.i2c_physics.proofs.parted_port.take_apart.Given as goal
 
 abbrev pub invariant-loop-port : goal.invariant-loop-port
-invariant-loop-port l = record {
+invariant-loop-port g l = record {
   grown : vec_capacity l.fn.done ≤ vec_capacity l.done;
   whole : length l.yielded + l.port-iterator.rest.len ≡ vec_len l.fn.ports;
   kept : vec_len l.fn.done + vec_len l.fn.ports ≤ vec_capacity l.fn.done → l.done.items ≡ l.fn.done.items ++ map parted l.yielded;

@@ -10,7 +10,7 @@ given : {Z E : Type 0} (b : BoardView) (r : Result (Vec BitPortView Z) E) (Q : V
 given b r Q are each = IfOk-weaker r _ Q each are
 
 pub plug-tells : goal.plug-tells
-plug-tells x c =
+plug-tells g x c =
     let b = c.args.board.now in
     let are = c.ensures.ports in
     record {

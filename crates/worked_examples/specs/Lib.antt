@@ -1,0 +1,2 @@
+-- What an analyser sees of a read.
+pub mod Reads
