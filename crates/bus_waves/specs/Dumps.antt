@@ -21,12 +21,21 @@ is_start was is = (was == BOTH_HIGH) && (is == 1)
 abbrev pub starts_by : (was is : ℕ) → ℕ → ℕ
 starts_by was is n = if is_start was is then counted n else n
 
--- a time, and a comment with the number of a start, from 1
 abbrev pub time_line : ℕ → List ℕ
 time_line t = codes "#" ++ (decimal t ++ codes "\n")
 
-abbrev pub start_line : ℕ → List ℕ
-start_line n = codes "$comment start " ++ (decimal n ++ codes " $end\n")
+-- a start by its number, from 1, and its time
+abbrev pub start_line : (time starts : ℕ) → List ℕ
+start_line t n = codes "$comment start " ++ (decimal n ++ (codes " at " ++ (decimal t ++ codes " $end\n")))
+
+abbrev pub started_line : (was is : ℕ) → (time starts : ℕ) → List ℕ
+started_line was is t n = if is_start was is then start_line t n else []
+
+-- the starts among these steps, behind those levels, that time and so many starts
+abbrev pub starts_from : (was time starts : ℕ) → List ℕ → List ℕ
+starts_from was time starts [] = []
+starts_from was time starts (is ∷ steps) =
+    started_line was is (later time) (starts_by was is starts) ++ starts_from is (later time) (starts_by was is starts) steps
 
 -- a wire by its letter, ! for SCL and " for SDA, where its level isn't what it was
 abbrev pub scl_line : (was is : ℕ) → List ℕ
@@ -36,30 +45,28 @@ abbrev pub sda_line : (was is : ℕ) → List ℕ
 sda_line was is = if (was / 2) == (is / 2) then [] else if (is / 2) == 1 then codes "1\"\n" else codes "0\"\n"
 
 -- a step at which a level changes; one at which none does has no line
-abbrev pub change_lines : (was is : ℕ) → (time starts : ℕ) → List ℕ
-change_lines was is time starts =
-    if was == is then []
-    else time_line time ++ ((if is_start was is then start_line starts else []) ++ (scl_line was is ++ sda_line was is))
+abbrev pub change_lines : (was is : ℕ) → (time : ℕ) → List ℕ
+change_lines was is time = if was == is then [] else time_line time ++ (scl_line was is ++ sda_line was is)
 
--- these steps, behind those levels, that time and so many starts; and the time of the last
-abbrev pub lines_from : (was time starts : ℕ) → List ℕ → List ℕ
-lines_from was time starts [] = time_line time
-lines_from was time starts (is ∷ steps) =
-    change_lines was is (later time) (starts_by was is starts) ++ lines_from is (later time) (starts_by was is starts) steps
+-- these steps, behind those levels and that time; and the end of the last, which is a step long
+abbrev pub lines_from : (was time : ℕ) → List ℕ → List ℕ
+lines_from was time [] = time_line (later time)
+lines_from was time (is ∷ steps) = change_lines was is (later time) ++ lines_from is (later time) steps
 
--- the wires, which are high before the first step
-abbrev pub wires_text : List ℕ
-wires_text = codes "$var wire 1 ! scl $end\n$var wire 1 \" sda $end\n"
-
-abbrev pub start_text : List ℕ
-start_text = codes "$upscope $end\n$enddefinitions $end\n#0\n$dumpvars\n1!\n1\"\n$end\n"
-
--- a root by its number
+-- a root by its number, and its wires
 abbrev pub scope_text : ℕ → List ℕ
 scope_text root = codes "$scope module root" ++ (decimal root ++ codes " $end\n")
 
-abbrev pub head_of : ℕ → List ℕ
-head_of root = codes "$timescale 1 ns $end\n" ++ (scope_text root ++ (wires_text ++ start_text))
+abbrev pub wires_text : List ℕ
+wires_text = codes "$var wire 1 ! scl $end\n$var wire 1 \" sda $end\n$upscope $end\n"
 
+abbrev pub head_of : ℕ → List ℕ
+head_of root = codes "$timescale 1 ns $end\n" ++ (scope_text root ++ wires_text)
+
+-- the wires are high before the first step
+abbrev pub defined_text : List ℕ
+defined_text = codes "$enddefinitions $end\n#0\n$dumpvars\n1!\n1\"\n$end\n"
+
+-- the definitions, with a comment for each start, and then the changes
 abbrev pub dump_of : (root : ℕ) → (steps : List ℕ) → List ℕ
-dump_of root steps = head_of root ++ lines_from BOTH_HIGH 0 0 steps
+dump_of root steps = head_of root ++ (starts_from BOTH_HIGH 0 0 steps ++ (defined_text ++ lines_from BOTH_HIGH 0 steps))

@@ -3,3 +3,4 @@ pub mod Levels
 pub mod Recordings
 pub mod Dumps
 pub mod Readings
+pub mod Waves

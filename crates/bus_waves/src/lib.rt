@@ -10,6 +10,7 @@ mod dump;
 mod laws;
 mod record;
 mod recorded;
+mod wave;
 
 pub use dump::dump_text;
 pub use laws::{
@@ -17,3 +18,4 @@ pub use laws::{
     the_levels_tell_the_calls,
 };
 pub use recorded::Recorded;
+pub use wave::wave_text;

@@ -12,11 +12,11 @@ use std::alloc::Global;
 use std::marker::Model;
 
 /// The lines of a root with the levels behind each step of their controller. No byte goes over them at once. A contract sees the lines;
-/// by their type the record, where it is whole, is of all that was done on them.
+/// by their type what is kept, where it is whole, is of all that was done on them.
 #[derive(Drop)]
 pub struct Recorded {
     lines: BusLines,
-    record: Record,
+    kept: Record,
 }
 
 impl Model for Recorded {
@@ -28,7 +28,7 @@ impl Model for Recorded {
 
     ghost view = { λ r. r.lines };
 
-    ghost invariant = { λ r. r.record.whole ≡ true → IsRecording r.lines.rooted r.lines.bus r.record.scl r.record.sda r.record.free r.record.steps.items };
+    ghost invariant = { λ r. r.kept.whole ≡ true → IsRecording r.lines.rooted r.lines.bus r.kept.scl r.kept.sda r.kept.free r.kept.steps.items };
 }
 
 impl Recorded {
@@ -36,8 +36,8 @@ impl Recorded {
     pub fn steps(&self) -> Option<&[u8]>
         ensures { IfSome result (λ steps. AreSteps self.now.rooted self.now.bus steps.now) }
     {
-        if self.record.whole {
-            Some(self.record.steps.as_slice())
+        if self.kept.whole {
+            Some(self.kept.steps.as_slice())
         } else {
             None
         }
@@ -56,21 +56,21 @@ impl Lines for Recorded {
     fn pull(&mut self, scl: bool, sda: bool) {
         self.lines.pull(scl, sda);
         let (clock, data) = self.lines.levels();
-        self.record.keep(clock, data);
+        self.kept.keep(clock, data);
     }
 
     fn look(&mut self) -> (bool, bool) {
         let seen = self.lines.look();
         let (clock, data) = self.lines.levels();
-        self.record.keep(clock, data);
+        self.kept.keep(clock, data);
         seen
     }
 
     fn line(&mut self, mux: MuxId, level: u8) {
-        self.record.rests();
+        self.kept.rests();
         self.lines.line(mux, level);
         let (clock, data) = self.lines.levels();
-        self.record.keep(clock, data);
+        self.kept.keep(clock, data);
     }
 }
 
@@ -82,7 +82,7 @@ impl RootLines for Recorded {
     fn open(alloc: Global, board: &Accepted, root: SegId) -> Result<Self, NoMemory> {
         Ok(Recorded {
             lines: BusLines::open(alloc, board, root)?,
-            record: Record::open(alloc),
+            kept: Record::open(alloc),
         })
     }
 

@@ -5,4 +5,4 @@ use Rattle.bus_waves.proofs.dump.push_steps.Given as goal
 
 abbrev pub invariant-loop-number : goal.invariant-loop-number
 invariant-loop-number l =
-    l.out.items ++ lines_from l.was l.time l.starts (drop l._number l.steps) ≡ l.fn.out.items ++ lines_from BOTH_HIGH 0 0 l.steps
+    l.out.items ++ lines_from l.was l.time (drop l._number l.steps) ≡ l.fn.out.items ++ lines_from BOTH_HIGH 0 l.steps

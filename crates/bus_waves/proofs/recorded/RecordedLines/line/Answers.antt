@@ -22,7 +22,7 @@ invariant_of-self c = λ whole.
     let more = e.steps whole in
     let rests = c.rests.ensures.whole more.0 in
     let was = c.self.invariant rests.0 in
-    let same : r ≡ record c.self.inside.record { whole = r.whole } = c.rests.ensures.kept in
+    let same : r ≡ record c.self.inside.kept { whole = r.whole } = c.rests.ensures.kept in
     let was_now : IsRecording old.rooted old.bus r.scl r.sda r.free r.steps.items =
     subst (λ (x : Record). IsRecording old.rooted old.bus x.scl x.sda x.free x.steps.items) (sym same) was in
     let does = c.line.ensures.bus refl in

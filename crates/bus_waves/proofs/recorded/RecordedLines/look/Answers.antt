@@ -7,7 +7,7 @@ use Rattle.bus_waves.proofs.recorded.RecordedLines.look.Goals as goal
 pub invariant_of-self : goal.invariant_of-self
 invariant_of-self c = λ whole.
     let old = c.self.inside.lines in
-    let r = c.self.inside.record in
+    let r = c.self.inside.kept in
     let e = c.keep.ensures in
     let more = e.steps whole in
     let was = c.self.invariant more.0 in
