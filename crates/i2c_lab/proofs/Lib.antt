@@ -4,3 +4,4 @@ pub mod ListLemmas
 pub mod NumberLemmas
 pub mod RowLaws
 pub mod SessionLemmas
+pub mod WaveLemmas

@@ -1,5 +1,5 @@
 -- `faults BOARD FAULTS SCHEDULE SCRIPT...`, with 1 to 8 scripts: a replay in which the calls fail that a list names.
-use Rattle.std.specs.Prelude.{◌≡◌, ℕ, Bool, List, Some, length, map, codes}
+use Rattle.std.specs.Prelude.{◌≡◌, ℕ, Bool, false, List, Some, length, map, codes}
 use Rattle.std.specs.List.{range_with_len}
 use Rattle.i2c_base.specs.declared.port.PortCall.{PortCall}
 use Rattle.i2c_spec.specs.Targets.{TargetState}
@@ -17,6 +17,7 @@ is_faults words = is_extra (codes "faults") words
 -- the text spells the calls that it lists; and the run is a replay of the scripts over the board, whichever calls fail in it
 abbrev pub list_row : ExtraRow (List (ℕ × ℕ))
 list_row = record {
+  in_word = false;
   spells = ListsCalls;
   fails = IsListFault;
   runs = λ b calls texts words bytes logs states counts. HasRun b texts (Some words) bytes logs states counts;

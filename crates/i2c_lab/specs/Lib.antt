@@ -3,3 +3,4 @@ pub mod CallLists
 pub mod Faults
 pub mod Lab
 pub mod SessionForm
+pub mod Waves

@@ -1,5 +1,5 @@
 //! A list of calls that fail, as one file more of a replay.
-ghost use Rattle.std.specs.Prelude.{◌≡◌, ◌<◌, ◌≤◌, ◌==◌, ◌⊎◌, Some, None, Ok, Err, OnOk, OnErr, IfOk, IfErr, IfSome};
+ghost use Rattle.std.specs.Prelude.{◌≡◌, false, ◌<◌, ◌≤◌, ◌==◌, ◌⊎◌, Some, None, Ok, Err, OnOk, OnErr, IfOk, IfErr, IfSome};
 ghost use Rattle.std.specs.List.{position};
 ghost use Rattle.i2c_top.specs.Runs.{HasRun};
 ghost use Rattle.i2c_top.specs.declared.status.Status.TheVariants as status;
@@ -50,8 +50,8 @@ fn colon_in(word: &[u8]) -> Option<usize>
 fn call_around(roots: u16, root: &[u8], call: &[u8]) -> Option<(SegId, u32)>
     ensures { result ≡ call_around roots root.now call.now }
 {
-    let root = number_in(root)?;
-    let call = number_in(call)?;
+    let root = number_in(root, u32::MAX)?;
+    let call = number_in(call, u32::MAX)?;
     if root < u32::from(roots) {
         Some((SegId(root as u16), call))
     } else {
@@ -109,11 +109,17 @@ fn read_calls(alloc: Global, roots: u16, text: &[u8]) -> Result<Vec<(SegId, u32)
 }
 
 impl ExtraFile for CallList {
+    ghost in_word = { false };
+
     ghost spells = { ListsCalls };
 
     ghost fails = { IsListFault };
 
     ghost runs = { λ b calls texts words bytes logs states counts. HasRun b texts (Some words) bytes logs states counts };
+
+    fn in_word() -> bool {
+        false
+    }
 
     fn read(alloc: Global, board: &Accepted, text: &[u8]) -> Result<Self, Status>
         ensures calls { IfOk result (ListsCalls board.now text.now) }

@@ -1,6 +1,6 @@
 -- The callers of a run on their seats: what a core is opened with, and what it is when all are through.
 use Rattle.i2c_top.proofs.Cited.{◌≡◌, ◌⊎◌, ℕ, zero, suc, ◌+◌, ◌<◌, ◌≤◌, true, IsTrue, List, [], ◌∷◌, length, map, reverse, All, Option}
-use Rattle.i2c_top.proofs.Cited.{Some, None, Result, Ok, Err, inl, inr, refl, sym, ◌∙◌, ap, subst, arith, IfOk, slice_get, enumerate_from}
+use Rattle.i2c_top.proofs.Cited.{Some, None, Result, Ok, Err, inl, inr, refl, sym, ◌∙◌, ap, subst, arith, IfOk, OnOk, slice_get, enumerate_from}
 use Rattle.i2c_top.proofs.Cited.{range_with_len, option_map_or, cases_lt, length-map, sum_by-cons, length-enumerate_from}
 use Rattle.i2c_top.proofs.Cited.{length-range_with_len, get_or-range_with_len, slice_get_past, get_or_from_slice_get, Entry, Idle, PortCall}
 use Rattle.i2c_top.proofs.Cited.{Reply, BoardView, MOST_CALLERS, TransferView, IsFairCaller, Asks, IsPlainBoard, MeetsRules, root_of, World}
@@ -14,7 +14,8 @@ use Rattle.std.proofs.lemmas.List.Elements.{All-from_get_or}
 use Rattle.std.proofs.lemmas.Option.{slice_get_within}
 use Rattle.i2c_base.specs.declared.caller.Caller.{Ghosts as CallerGhosts}
 use Rattle.ports.specs.declared.port.Port.{Ghosts as PortGhosts}
-use Rattle.i2c_spec.specs.World.{openings}
+use Rattle.i2c_spec.specs.Targets.{TargetState}
+use Rattle.i2c_spec.specs.World.{AreWorldsOf, devices_of, openings}
 use Rattle.i2c_spec.proofs.TreeLemmas.{tree_root_is}
 use Rattle.bus_laws.specs.Following.{GoesOnBy}
 use Rattle.bus_core.specs.Opens.{opening_of}
@@ -25,7 +26,7 @@ use Rattle.bus_core.proofs.Loops.{script-none}
 use Rattle.bus_core.proofs.Told.{has-by, roots-told}
 use Rattle.bus_groups.specs.Slots.{IsTold}
 use Rattle.journal_check.proofs.PortLemmas.{firsts}
-use Rattle.i2c_top.specs.Cores.{IsAsOne}
+use Rattle.i2c_top.specs.Cores.{HasRunOver, IsAsOne}
 use Rattle.i2c_top.proofs.RunLemmas.{same_asks}
 use Rattle.i2c_base.proofs.ListLemmas.{there, map_at}
 
@@ -415,6 +416,27 @@ as-one {P} {C} {S} g row b callers ports x y left as_one =
 pub if-ok : {A E : Type 0} (Q R : A → Type 0) → ((a : A) → Q a → R a) → (r : Result A E) → IfOk r Q → IfOk r R
 if-ok Q R each (Ok a) ok = each a ok
 if-ok Q R each (Err e) ok = tt
+
+-- .. also of what says nothing of it
+pub on-ok : {A E X : Type 0} (r : Result A E) → X → OnOk r X
+on-ok (Ok a) x = x
+on-ok (Err e) x = tt
+
+pub on-ok-then : {A E X Y : Type 0} → (X → Y) → (r : Result A E) → OnOk r X → OnOk r Y
+on-ok-then f (Ok a) x = f x
+on-ok-then f (Err e) x = tt
+
+-- a run over ports is one by what the rig holds that they were given back to
+pub run-given-back : {P : Type 0} (g : PortGhosts P) (b : BoardView) (ports : List P)
+    (run : List (List PortCall) → List TargetState → List ℕ → Type 0) → HasRunOver g b ports run
+    → (logs : List (List PortCall)) (states : List TargetState) (counts : List ℕ)
+    → (AreWorldsOf b (map g.world ports) → logs ≡ map g.log ports)
+    → (AreWorldsOf b (map g.world ports) → states ≡ devices_of b (map g.world ports)) → counts ≡ map g.faults ports
+    → run logs states counts
+run-given-back g b ports run over logs states counts logged left counted =
+    subst (λ (ls : List (List PortCall)). run ls states counts) (sym (logged over.worlds))
+    (subst (λ (ss : List TargetState). run (map g.log ports) ss counts) (sym (left over.worlds))
+    (subst (λ (cs : List ℕ). run (map g.log ports) (devices_of b (map g.world ports)) cs) (sym counted) over.by))
 
 -- what holds of the journal of cores that ran holds of their run's
 pub of-journal : {P C E : Type 0} (Q : List Entry → Type 0) (r : Result (Ran P C) E) → IfOk r (λ x. Q (one_of x).journal.entries)

@@ -3,7 +3,7 @@ use Rattle.i2c_top.proofs.Cited.{◌≡◌, ℕ, ◌⊎◌, inl, inr, length, re
 use Rattle.i2c_top.proofs.Cited.{MOST_COST, HasBadSchedule, Status}
 use Rattle.i2c_top.specs.forms.Extras.{ExtraNames, ExtraRow, HasBadExtra, HasDearExtra, HasExtraFiles, HasExtraScripts}
 use Rattle.i2c_top.specs.forms.Extras.{HasExtraTexts, HasMisspelled, HasSpelled, IsExtraCause, IsExtraRow, as_run, extra_cost}
-use Rattle.i2c_top.specs.forms.Extras.{extra_form}
+use Rattle.i2c_top.specs.forms.Extras.{extra_form, text_at}
 use Rattle.i2c_top.specs.declared.status.Status.TheVariants as status
 use Rattle.i2c_top.proofs.BoardLemmas.{no_board, one_why, one_board_in, one_text}
 use Rattle.i2c_top.proofs.ReplayCauses.{DecideBoard, DecideScript, agree_script, all_earlier, no_schedule, not_dear, one_word}
@@ -89,7 +89,7 @@ module _ {V : Type 0} (x : ExtraRow V) (row : IsExtraRow x) (file : Files) (name
   spelled_bad s a b =
       let bad = over_same b.scripts.board a.scripts.board s b.bad in
       row.either a.scripts.board.board a.extra.text a.extra.value s a.extra.spells
-      (subst (λ t. x.fails a.scripts.board.board t s) (one_text (file names.extra) bad.text a.extra.text bad.there a.extra.there) bad.fails)
+      (subst (λ t. x.fails a.scripts.board.board t s) (one_text (text_at x file names.extra) bad.text a.extra.text bad.there a.extra.there) bad.fails)
 
   agree_behind : (s r : Status) → DecideBehind s → DecideBehind r → r ≡ s
   agree_behind s r (inl a) (inl b) = agree_spelled s r a b
@@ -98,7 +98,7 @@ module _ {V : Type 0} (x : ExtraRow V) (row : IsExtraRow x) (file : Files) (name
   agree_behind s r (inr a) (inr b) =
       let bad = over_same b.scripts.board a.scripts.board r b.bad in
       row.one a.scripts.board.board a.bad.text s r a.bad.fails
-      (subst (λ t. x.fails a.scripts.board.board t r) (one_text (file names.extra) bad.text a.bad.text bad.there a.bad.there) bad.fails)
+      (subst (λ t. x.fails a.scripts.board.board t r) (one_text (text_at x file names.extra) bad.text a.bad.text bad.there a.bad.there) bad.fails)
 
   good_board : (s : Status) → HasExtraScripts file names → DecideBoard file (as_run names) s → ⊥
   good_board s a b = no_board file names.board b.why a.board b.board

@@ -1,6 +1,6 @@
 -- How a call with one file more ends: what each refusal of its files comes from, and what a run of them comes to. No induction.
 use Rattle.i2c_top.proofs.Cited.{IsRunOver}
-use Rattle.i2c_top.proofs.Cited.{◌≡◌, ℕ, ◌+◌, ◌<◌, ◌≤◌, inl, inr, Bool, IsTrue, List, length, Some, Result, Ok, Err, refl, sym}
+use Rattle.i2c_top.proofs.Cited.{◌≡◌, ◌⊎◌, ℕ, ◌+◌, ◌<◌, ◌≤◌, inl, inr, Bool, true, false, IsTrue, List, length, Option, Some, if◌then◌else◌, Result, Ok, Err, refl, sym}
 use Rattle.i2c_top.proofs.Cited.{◌∙◌, ap, subst, arith, IfOk, IfErr, take_all, CallerView, PortCall, BoardView, TargetState}
 use Rattle.i2c_top.proofs.Cited.{Rose, CameToRefusal, CameToSuccess, HasEndedAs, Files, TellsItsFiles}
 use Rattle.i2c_top.proofs.Cited.{KeepsShelf, AreScriptsIn, IsAcceptedIn, IsRejectedIn, IsRefusedAt}
@@ -10,8 +10,8 @@ use Rattle.i2c_top.proofs.Cited.{HasScriptsBefore, Status}
 use Rattle.i2c_top.specs.Readings.{HasReadExtra, HasReadSomeExtra, IsBadExtra, IsExtraIn, IsBadSchedule}
 use Rattle.i2c_top.specs.Status.{Refused as IsRefused, class_of}
 use Rattle.i2c_top.specs.forms.Extras.{ExtraNames, ExtraRow, HasExtraFiles, HasExtraReport, HasExtraScripts, HasExtraTexts, HasMisspelled}
-use Rattle.i2c_top.specs.forms.Extras.{HasSpelled, HasWrittenExtra, IsExtraAfter, IsExtraCause, IsExtraFault, IsExtraPlace, IsExtraRefusal}
-use Rattle.i2c_top.specs.forms.Extras.{IsExtraRow, IsExtraSkipped, IsOfExtra, as_run, extra_form}
+use Rattle.i2c_top.specs.forms.Extras.{HasSpelled, HasWrittenExtra, IsExtraAfter, IsExtraCause, IsExtraFault, IsExtraFile, IsExtraPlace, IsExtraRefusal}
+use Rattle.i2c_top.specs.forms.Extras.{IsExtraRow, IsExtraSkipped, IsOfExtra, as_run, extra_form, text_at}
 use Rattle.i2c_top.specs.declared.status.Status.TheVariants as status
 use Rattle.i2c_top.proofs.EndingLemmas.{came_to_success, memory_wanting, file_unread, run_refused, text_refused}
 use Rattle.i2c_top.proofs.FileLemmas.{kept_then, same_bad, same_scripts, same_texts}
@@ -27,19 +27,29 @@ module _ {V : Type 0} (x : ExtraRow V) where
         | inr (inr h) ↦ absurd (omega (arith, e, h))
       ]
 
-  -- ---- what the text of a file spells
-  pub extra_there : (file : Files) (b : BoardView) (name text : List ℕ) (r : Result V Status) → file name ≡ Some text
+  -- ---- where its text stands
+  pub text_in_word : (file : Files) (word : List ℕ) → x.in_word ≡ true → text_at x file word ≡ Some word
+  text_in_word file word is = ap (λ (b : Bool). if b then Some word else file word) is
+
+  pub text_in_file : (file : Files) (word : List ℕ) → x.in_word ≡ false → text_at x file word ≡ file word
+  text_in_file file word is = ap (λ (b : Bool). if b then Some word else file word) is
+
+  -- ---- what a text spells
+  pub extra_there : (file : Files) (b : BoardView) (name text : List ℕ) (r : Result V Status) → text_at x file name ≡ Some text
       → IfOk r (x.spells b text) → IfOk r (IsExtraIn x file b name)
   extra_there file b name text (Ok v) there is =
       record { has = record { text = text; there = there; value = v; spells = is }; same = refl }
   extra_there file b name text (Err e) there is = tt
 
   -- ---- such a file that is the same
+  same_text : (file file_now : Files) (name : List ℕ) → ((n : List ℕ) → file_now n ≡ file n) → text_at x file_now name ≡ text_at x file name
+  same_text file file_now name same = ap (λ (o : Option (List ℕ)). if x.in_word then Some name else o) (same name)
+
   pub same_extra : (file file_now : Files) (b : BoardView) (name : List ℕ) (v : V) → ((n : List ℕ) → file_now n ≡ file n)
       → IsExtraIn x file_now b name v → IsExtraIn x file b name v
   same_extra file file_now b name v same is =
       record {
-        has = record { text = is.has.text; there = sym (same name) ∙ is.has.there; value = is.has.value; spells = is.has.spells };
+        has = record { text = is.has.text; there = sym (same_text file file_now name same) ∙ is.has.there; value = is.has.value; spells = is.has.spells };
         same = is.same;
       }
 
@@ -74,22 +84,35 @@ module _ {V : Type 0} (x : ExtraRow V) where
   own-refused : (s : Status) → IsOfExtra s → class_of s ≡ IsRefused
   own-refused (status.Map why) own = refl
   own-refused (status.Faults word) own = refl
+  own-refused (status.NoRoot bus) own = refl
   own-refused _ own = absurd own
 
   own-cause : (file : Files) (names : ExtraNames) (s : Status) → IsOfExtra s → HasMisspelled x file names s → IsExtraCause x file names s
   own-cause file names (status.Map why) own bad = bad
   own-cause file names (status.Faults word) own bad = bad
+  own-cause file names (status.NoRoot bus) own bad = bad
   own-cause file names _ own bad = absurd own
 
   own-refusal : (s : Status) → IsOfExtra s → IsExtraFault x s → IsExtraRefusal x s
   own-refusal (status.Map why) own fault = fault
   own-refusal (status.Faults word) own fault = fault
+  own-refusal (status.NoRoot bus) own fault = fault
   own-refusal _ own fault = absurd own
 
   own-skips : (s : Status) (other : ℕ) → IsOfExtra s → IsExtraSkipped s other → IsExtraAfter 2 other
   own-skips (status.Map why) other own skipped = skipped.1
   own-skips (status.Faults word) other own skipped = skipped.1
+  own-skips (status.NoRoot bus) other own skipped = skipped.1
   own-skips _ other own skipped = absurd own
+
+  -- a text that is no file's isn't unread
+  pub never_unread : IsExtraRow x → (b : BoardView) (text : List ℕ) (e : Status) → (e ≡ status.Memory) ⊎ x.fails b text e
+      → e ≡ status.Read 2 → ⊥
+  never_unread row b text e told same =
+      elim told [
+        | inl m ↦ absurd (let h : status.Memory ≡ status.Read 2 = sym m ∙ same in cc)
+        | inr f ↦ subst IsOfExtra same (row.own b text e f)
+      ]
 
   -- ---- what was read is what the files have
   abbrev pub has_scripts : (file : Files) (names : ExtraNames) (b : BoardView) → IsAcceptedIn file names.board b
@@ -115,9 +138,13 @@ module _ {V : Type 0} (x : ExtraRow V) where
   has_extra_texts file names b v texts words read =
       record { files = has_spelled file names b v read.board_in read.scripts read.extra_in; schedule = read.words_in.has }
 
+  -- a place that isn't that of the file more
+  place_of : (names : ExtraNames) (place : ℕ) → 1 ≤ place → place < 4 + length names.scripts → (place ≡ 2 → ⊥) → IsExtraPlace x names place
+  place_of names place first last away = record { first = first; last = last; file = λ e. absurd (away e) }
+
   -- the board is read, so the shelf tells it where it tells the files that are read
   when : (names : ExtraNames) (shelf : ShelfView) {X : Type 0} → (IsTrue shelf.tells → X) → TellsItsFiles (extra_form x names) shelf → X
-  when names shelf f t = f (t 1 (record { first = omega arith; last = omega arith }))
+  when names shelf f t = f (t 1 (place_of names 1 (omega arith) (omega arith) (λ e. omega (arith, e))))
 
   -- ---- files that were not read, or refused
   module _ (names : ExtraNames) (shelf shelf_now : ShelfView) (rig : RigView) (kept : KeepsShelf (extra_form x names) shelf shelf_now) where
@@ -134,7 +161,7 @@ module _ {V : Type 0} (x : ExtraRow V) where
         elim refused [
           | inl h ↦ subst Refused (sym h.0)
               (file_unread (extra_form x names) shelf shelf_now rig 1 (when names shelf (λ t. inl refl))
-              (record { named = record { first = omega arith; last = omega arith }; rose = h.1 })
+              (record { named = place_of names 1 (omega arith) (omega arith) (λ e. omega (arith, e)); rose = h.1 })
               (λ other after. others other (after_first other after)) kept)
           | inr (inl m) ↦ subst Refused (sym m) starved
           | inr (inr b) ↦ subst Refused (sym b.same)
@@ -154,7 +181,7 @@ module _ {V : Type 0} (x : ExtraRow V) where
               (file_unread (extra_form x names) shelf shelf_now rig (4 + r.caller)
               (when names shelf (λ t. inr (inl (record { caller = r.caller; at = refl; earlier = earlier t }))))
               (record {
-                named = record { first = omega arith; last = (let low = r.known in omega (arith, low)) };
+                named = place_of names (4 + r.caller) (omega arith) (let low = r.known in omega (arith, low)) (λ e. omega (arith, e));
                 rose = subst (λ (k : ℕ). Rose k (shelf_now.faults (4 + r.caller))) (others (4 + r.caller)
                     (λ e. absurd (omega (arith, e)))) h.1;
               }) rest kept)
@@ -193,13 +220,14 @@ module _ {V : Type 0} (x : ExtraRow V) where
         → ((place : ℕ) → (place ≡ 2 → ⊥) → shelf_now.faults place ≡ mid.faults place)
         → (IsTrue shelf.tells → IsAcceptedIn shelf.file names.board b)
         → (IsTrue shelf.tells → HasScripts shelf.file b names.scripts (length names.scripts))
+        → (s ≡ status.Read 2 → x.in_word ≡ false)
         → IsRefusedAt 2 (IsBadExtra x shelf.tells mid.file b names.extra) (mid.faults 2) (shelf_now.faults 2) s → Refused s
-    extra_refused row b mid s same others behind board scripts refused =
+    extra_refused row b mid s same others behind board scripts of_file refused =
         elim refused [
           | inl h ↦ subst Refused (sym h.0)
               (file_unread (extra_form x names) shelf shelf_now rig 2 (when names shelf (λ t. inr (inr (inl (refl, on t)))))
               (record {
-                named = record { first = omega arith; last = omega arith };
+                named = record { first = omega arith; last = omega arith; file = λ _. of_file h.0 };
                 rose = subst (λ (k : ℕ). Rose k (shelf_now.faults 2)) (others 2 (omega arith) (λ e. absurd (omega (arith, e)))) h.1;
               }) (λ other after. rest other after) kept)
           | inr (inl m) ↦ subst Refused (sym m) starved
@@ -210,7 +238,7 @@ module _ {V : Type 0} (x : ExtraRow V) where
                 scripts = on t;
                 bad = record {
                   text = n.text;
-                  there = sym (same names.extra) ∙ n.there t;
+                  there = sym (same_text shelf.file mid.file names.extra same) ∙ n.there t;
                   fails = subst (λ k. x.fails k n.text s) (board t).same n.fails;
                 };
               }))) (own-refusal s own (record { board = b; text = n.text; fails = n.fails }))
@@ -238,7 +266,7 @@ module _ {V : Type 0} (x : ExtraRow V) where
           | inl h ↦ subst Refused (sym h.0)
               (file_unread (extra_form x names) shelf shelf_now rig 3 (when names shelf (λ t. inr (inr (inr (refl, spelled t)))))
               (record {
-                named = record { first = omega arith; last = omega arith };
+                named = place_of names 3 (omega arith) (omega arith) (λ e. omega (arith, e));
                 rose = subst (λ (k : ℕ). Rose k (shelf_now.faults 3)) was h.1;
               }) (λ other after. absurd (after.not_last refl)) kept)
           | inr (inl e) ↦ subst Refused (sym e) starved
@@ -335,30 +363,32 @@ module _ {V : Type 0} (x : ExtraRow V) where
       let s = h.said ok in record { bytes = s.text; report = s.answer.by_files shelf rig ports; written = s.written sink }
 
   -- what is read one after the other is read of the form's files: the board,
-  pub kept_board : (names : ExtraNames) (a b : ShelfView) → KeepsBut (λ p. p ≡ 1) a b → KeepsBut (IsExtraPlace names) a b
+  pub kept_board : (names : ExtraNames) (a b : ShelfView) → KeepsBut (λ p. p ≡ 1) a b → KeepsBut (IsExtraPlace x names) a b
   kept_board names a b k =
       record {
         words = k.words;
         files = k.files;
-        others = λ p no. k.others p (λ e. no (record { first = omega (arith, e); last = omega (arith, e) }));
+        others = λ p no. k.others p (λ e. no (place_of names p (omega (arith, e)) (omega (arith, e)) (λ two. omega (arith, e, two))));
       }
 
   -- .. the scripts,
   pub kept_scripts : (names : ExtraNames) (n : ℕ) (a b c : ShelfView) → length names.scripts ≡ n → KeepsBut (λ p. p ≡ 1) a b
-      → KeepsBut (λ p. (4 ≤ p) × (p < 4 + n)) b c → KeepsBut (IsExtraPlace names) a c
+      → KeepsBut (λ p. (4 ≤ p) × (p < 4 + n)) b c → KeepsBut (IsExtraPlace x names) a c
   kept_scripts names n a b c many board =
-      kept_then (IsExtraPlace names) (λ p. (4 ≤ p) × (p < 4 + n)) (IsExtraPlace names) a b c (λ p h. h)
-      (λ p h. record { first = omega (arith, h.0); last = omega (arith, h.1, many) }) (kept_board names a b board)
+      kept_then (IsExtraPlace x names) (λ p. (4 ≤ p) × (p < 4 + n)) (IsExtraPlace x names) a b c (λ p h. h)
+      (λ p h. place_of names p (omega (arith, h.0)) (omega (arith, h.1, many)) (λ two. omega (arith, h.0, two))) (kept_board names a b board)
 
-  -- .. and the file more or the schedule, each by its place;
-  pub kept_more : (names : ExtraNames) (place : ℕ) (a b c : ShelfView) → 1 ≤ place → place < 4 → KeepsBut (IsExtraPlace names) a b
-      → KeepsBut (λ p. p ≡ place) b c → KeepsBut (IsExtraPlace names) a c
-  kept_more names place a b c low high =
-      kept_then (IsExtraPlace names) (λ p. p ≡ place) (IsExtraPlace names) a b c (λ p h. h)
-      (λ p e. record { first = omega (arith, e, low); last = omega (arith, e, high) })
-
-  -- the file more is at 2
+  -- .. the file more, which is at 2,
   pub kept_extra : (names : ExtraNames) (n : ℕ) (a b c d : ShelfView) → length names.scripts ≡ n → KeepsBut (λ p. p ≡ 1) a b
-      → KeepsBut (λ p. (4 ≤ p) × (p < 4 + n)) b c → KeepsBut (λ p. p ≡ 2) c d → KeepsBut (IsExtraPlace names) a d
+      → KeepsBut (λ p. (4 ≤ p) × (p < 4 + n)) b c → KeepsBut (IsExtraFile x) c d → KeepsBut (IsExtraPlace x names) a d
   kept_extra names n a b c d many board scripts =
-      kept_more names 2 a c d (omega arith) (omega arith) (kept_scripts names n a b c many board scripts)
+      kept_then (IsExtraPlace x names) (IsExtraFile x) (IsExtraPlace x names) a c d (λ p h. h)
+      (λ p h. record { first = omega (arith, h.0); last = omega (arith, h.0); file = λ _. h.1 })
+      (kept_scripts names n a b c many board scripts)
+
+  -- .. and the schedule
+  pub kept_schedule : (names : ExtraNames) (a b c : ShelfView) → KeepsBut (IsExtraPlace x names) a b → KeepsBut (λ p. p ≡ 3) b c
+      → KeepsBut (IsExtraPlace x names) a c
+  kept_schedule names a b c =
+      kept_then (IsExtraPlace x names) (λ p. p ≡ 3) (IsExtraPlace x names) a b c (λ p h. h)
+      (λ p e. place_of names p (omega (arith, e)) (omega (arith, e)) (λ two. omega (arith, e, two)))

@@ -162,8 +162,8 @@ module _ {C S : Type 0} (row : CallerGhosts C S) (b : BoardView) (callers : List
   logs_are : logs ≡ map (calls_of b asks past) (range_with_len 0 (length b.roots))
   logs_are = listed (calls_of b asks past) logs (length b.roots) over.logs_count over.log
 
-  are_worlds : AreWorldsOf b worlds
-  are_worlds = subst (λ (ws : List World). AreWorldsOf b ws) (sym worlds_are) left_by.worlds
+  pub worlds-over : AreWorldsOf b worlds
+  worlds-over = subst (λ (ws : List World). AreWorldsOf b ws) (sym worlds_are) left_by.worlds
 
   -- their report is that of the journal, whatever each prints
   module _ (printed : S → List Reply → List ℕ) where
@@ -226,9 +226,9 @@ module _ {C S : Type 0} (row : CallerGhosts C S) (b : BoardView) (callers : List
         in_range = in_range;
         legal = is_legal;
         complete = is_complete;
-        called = given.logged are_worlds ∙ logs_are
+        called = given.logged worlds-over ∙ logs_are
             ∙ ap (λ (calls : ℕ → List PortCall). map calls (range_with_len 0 (length b.roots))) same_calls;
-        faults = subst (λ (ls : List (List PortCall)). AreCounted b ls counts) (sym (given.logged are_worlds))
+        faults = subst (λ (ls : List (List PortCall)). AreCounted b ls counts) (sym (given.logged worlds-over))
             (given.counted over.logs_count);
-        left = given.devices are_worlds ∙ ap (devices_of b) worlds_are ∙ left_by.states ∙ same_states;
+        left = given.devices worlds-over ∙ ap (devices_of b) worlds_are ∙ left_by.states ∙ same_states;
       }

@@ -1,7 +1,7 @@
 -- What a shelf gave, whatever it tells, as the files of other names: each file is called by the number of its place. The inductions go
 -- over the texts.
 use Rattle.i2c_top.proofs.Cited.{◌≡◌, ℕ, suc, zero, ◌+◌, ◌<◌, List, [], ◌∷◌, length, All, Option, None, Some, Ok, refl, sym, ◌∙◌, ap}
-use Rattle.i2c_top.proofs.Cited.{subst, arith, slice_get, is_some, option_map, length-map, All-head, All-tail, CallerView}
+use Rattle.i2c_top.proofs.Cited.{subst, arith, Bool, true, false, if◌then◌else◌, slice_get, is_some, option_map, length-map, All-head, All-tail, CallerView}
 use Rattle.i2c_top.proofs.Cited.{BoardView, IsSpelled, Files, IsAnyName, IsAcceptedIn, IsOrderIn, HasReadSome, HasReadSomeJournal}
 use Rattle.i2c_top.proofs.Cited.{texts_of, schedule_read, script_name, texts_in, IsInGrammar, HasScript, HasScripts}
 use Rattle.i2c_top.proofs.Cited.{Names, names_of, VerifyNames}
@@ -158,7 +158,13 @@ some-read names b scripts callers words spelled grammar count known order =
     from : AreFrom all 2 texts
     from c at is = ap (slice_get all) (let e : at ≡ suc (suc c) = omega (arith, is) in e)
 
--- THE FILES of a call with one file more
+-- a text that is in a word, or in file 1
+extra-there : (file : Files) (text : List ℕ) → file (1 ∷ []) ≡ Some text → (word : Bool)
+    → (if word then Some (if word then text else 1 ∷ []) else file (if word then text else 1 ∷ [])) ≡ Some text
+extra-there file text there true = refl
+extra-there file text there false = there
+
+-- THE FILES of a call with one file or word more
 pub some-extra : {V : Type 0} (x : ExtraRow V) (names : ExtraNames) (b : BoardView) (scripts : List CallerView) (v : V) (callers : ℕ)
     (words : List ℕ) → IsSpelled b
     → All (λ s. IsInGrammar b s.script.text) scripts → IsExtraSpelled x b v → length scripts ≡ length names.scripts
@@ -166,13 +172,13 @@ pub some-extra : {V : Type 0} (x : ExtraRow V) (names : ExtraNames) (b : BoardVi
 some-extra x names b scripts v callers words spelled grammar told count known order =
     record {
       file = contents all;
-      called = record { board = 0 ∷ []; extra = 1 ∷ []; schedule = 2 ∷ []; scripts = numbered 3 texts };
+      called = record { board = 0 ∷ []; extra = if x.in_word then told.text else 1 ∷ []; schedule = 2 ∷ []; scripts = numbered 3 texts };
       like = many;
       so = record {
         board_in = accepted-numbered b spelled (told.text ∷ order.text ∷ texts);
         scripts = scripts-numbered all 3 b scripts grammar from;
         texts_are = sym (texts-numbered all 3 texts from);
-        extra_in = record { has = record { text = told.text; there = refl; value = v; spells = told.spells }; same = refl };
+        extra_in = record { has = record { text = told.text; there = extra-there (contents all) told.text refl x.in_word; value = v; spells = told.spells }; same = refl };
         words_in = record {
           has = record {
             text = order.text;

@@ -77,3 +77,9 @@ pub record AreGivenBack (b : BoardView) (worlds : List World) (logs kept : List 
   pub devices : AreWorldsOf b worlds → states ≡ devices_of b worlds
   pub logged : AreWorldsOf b worlds → kept ≡ logs
   pub counted : length logs ≡ length b.roots → AreCounted b logs counts
+
+-- ports are left of a run whose worlds are those of a board; it is a run by their calls, the devices that they leave, and what they counted
+pub record HasRunOver {P : Type 0} (g : PortGhosts P) (b : BoardView) (ports : List P)
+    (run : List (List PortCall) → List TargetState → List ℕ → Type 0) : Type 0 where
+  pub worlds : AreWorldsOf b (map g.world ports)
+  pub by : run (map g.log ports) (devices_of b (map g.world ports)) (map g.faults ports)

@@ -8,7 +8,7 @@ use Rattle.caller_core.specs.View.{CallerView}
 use Rattle.i2c_top.specs.Scripts.{script_name, IsInGrammar, HasScript, HasBadScript, HasScripts, HasSchedule, HasBadSchedule, HasOrder, words_in, texts_in}
 use Rattle.i2c_top.specs.Traces.{IsUnread}
 use Rattle.i2c_top.specs.forms.Replays.{Names, AreLike, IsPlaceIn, IsScheduleAt, IsReadInTurn, IsReplayCause}
-use Rattle.i2c_top.specs.forms.Extras.{ExtraNames, ExtraRow, HasExtra, AreExtraLike}
+use Rattle.i2c_top.specs.forms.Extras.{ExtraNames, ExtraRow, HasExtra, AreExtraLike, text_at}
 use Rattle.i2c_top.specs.forms.Verifies.{VerifyNames, AreVerifyLike}
 use Rattle.i2c_top.specs.Runs.{AreOpened, texts_of, MOST_COST}
 use Rattle.i2c_top.specs.declared.status.BoardRefusal.{BoardRefusal}
@@ -115,7 +115,7 @@ pub record IsBadSchedule (why : ℕ → Type 0) (s : Status) : Type 0 where
 
 pub record IsBadExtra {V : Type 0} (x : ExtraRow V) (tells : Bool) (file : Files) (board : BoardView) (name : List ℕ) (s : Status) : Type 0 where
   pub text : List ℕ
-  pub there : IsTrue tells → file name ≡ Some text
+  pub there : IsTrue tells → text_at x file name ≡ Some text
   pub fails : x.fails board text s
 
 -- the schedule was refused, where there is one

@@ -45,7 +45,7 @@ pub use files::read_accepted;
 pub use number::number_named;
 pub use program::top;
 pub use report::report_text;
-pub use run::run_scripts;
+pub use run::{RunLeft, plugged, run_ports, run_scripts};
 pub use schedule::{White, each_word_is_a_number};
 pub use status::{BoardRefusal, Status};
 pub use text::ReportText;

@@ -1,14 +1,16 @@
 //! Callers over the ports of a rig, which is plugged before them and unplugged after.
 ghost use Rattle.std.specs.Prelude.{◌≡◌, ◌<◌, ◌≤◌, ◌⊎◌, ℕ, List, [], false, true, None, Some, Err, IfOk, OnOk, IfErr, OnErr, IsTrue, All, length, map, flat_map, vec_capacity};
+ghost use Rattle.i2c_base.specs.Board.{BoardView};
 ghost use Rattle.i2c_base.specs.Limits.{MOST_CALLERS};
 ghost use Rattle.i2c_spec.specs.Fair.{IsFairCaller};
 ghost use Rattle.ports.specs.Causes.{Rose, counted};
 ghost use Rattle.bus_groups.specs.Rounds.{one_of};
 ghost use Rattle.bus_journal.specs.Ranges.{IsEntry};
+ghost use Rattle.bus_spec.specs.Report.{report_lines};
 ghost use Rattle.bus_spec.specs.Schedule.{Follows};
 ghost use Rattle.caller_core.specs.View.{CallerView};
 ghost use Rattle.i2c_top.specs.Callers.{AreReady, left_in, scripts_in, asks_in, printed_in, HasRunBy, HasRunOfAny};
-ghost use Rattle.i2c_top.specs.Cores.{AreFresh, AreGivenBack, HaveJournal, IsLeftOf};
+ghost use Rattle.i2c_top.specs.Cores.{AreFresh, AreGivenBack, HasRunOver, HaveJournal, IsLeftOf};
 ghost use Rattle.i2c_top.specs.Faults.{AccountsForFaults};
 ghost use Rattle.i2c_top.specs.Traces.{AreReturned, IsAtMostOnce, IsRunOver, IsUnplugged, rig_view};
 ghost use Rattle.i2c_top.specs.Runs.{AreOpened, texts_of, cost_of_texts, MOST_COST, HasRun, HasRunTold, script_row};
@@ -23,7 +25,7 @@ use crate::printer::Printer;
 use crate::report::report_of_callers;
 use crate::summary::summary_of;
 use crate::text::ReportText;
-use bus_core::ClosedCore;
+use bus_core::{ClosedCore, Seat};
 use bus_groups::Ran;
 use bus_journal::Journal;
 use caller_core::{Script, scripts_are_fair};
@@ -50,8 +52,9 @@ fn alone<P: Port>(ports: Vec<(SegId, CountedPort<P>)>, room: Vec<P>) -> Vec<P>
     alone
 }
 
-// Plugs a rig: its ports, and room for as many. It answers `Rig` where the rig counted a fault in its one plug.
-fn plugged<R: Rig>(
+/// Plugs a rig: its ports, and room for as many. It answers `Rig` where the rig counted a fault in its one plug, and else fails only
+/// when out of memory; a rig that was plugged then is unplugged.
+pub fn plugged<R: Rig>(
     alloc: Global,
     board: &Accepted,
     rig: &mut R,
@@ -102,7 +105,57 @@ fn given_back<R: Rig>(ports: Vec<(SegId, CountedPort<R::P>)>, room: Vec<R::P>, r
     rig.unplug(alone(ports, room));
 }
 
-// Gives the ports that are left of a run back to their rig, and makes the report.
+/// What is left of a run: its ports, each at the number of its root, and its report, where there was memory for it.
+#[derive(Drop)]
+pub struct RunLeft<P> {
+    pub ports: Vec<P>,
+    pub report: Result<ReportText, Status>,
+}
+
+// The report of what is left of callers, which fails only when out of memory.
+fn report_of<C: Printer>(
+    alloc: Global,
+    seats: &[Seat<C>],
+    journals: Vec<Journal>,
+) -> Result<ReportText, Status>
+    ensures text { IfOk result (λ text. text ≡ report_lines (map (λ s. C.printed (C.script s.caller) (C.taken s.caller)) seats.now) (flat_map (λ j. j.entries) journals.items)) }
+    ensures failed { IfErr result (λ e. e ≡ status.Memory) }
+{
+    Ok(report_of_callers(alloc, seats, journals)?)
+}
+
+// The ports that are left of a run, and its report.
+fn left_of_run<C: Printer, P: Port>(
+    alloc: Global,
+    ran: Result<Ran<CountedPort<P>, C>, NoMemory>,
+    room: Vec<P>,
+) -> RunLeft<P>
+    requires empty { room.items ≡ [] }
+    requires room { IfOk ran (λ x. length x.ports.items ≤ vec_capacity room) }
+    requires fair { IsFairCaller C.asked C.left C.board }
+    ensures run { IsTrue P.tells → (b : BoardView) (callers : List C) (ports : List _) → IfOk ran (λ x. IsLeftOf P.Port C.Caller b callers ports (one_of x))
+        → IfOk result.report (λ text. HasRunOver P.Port b result.ports.items (HasRunBy b (length (scripts_in C.Caller callers)) (asks_in C.asked (scripts_in C.Caller callers)) (printed_in C.printed (scripts_in C.Caller callers)) (HaveJournal ran) text)) }
+    ensures setups { (setups : List (List ℕ)) → IfOk ran (λ x. map (λ p. P.setup p.1) x.ports.items ≡ setups) → OnOk result.report (map P.setup result.ports.items ≡ setups) }
+    ensures failed { IfErr result.report (λ e. e ≡ status.Memory) }
+{
+    let Ok(ran) = ran else {
+        return RunLeft {
+            ports: room,
+            report: Err(Status::Memory),
+        };
+    };
+    let Ran {
+        ports,
+        seats,
+        journals,
+    } = ran;
+    are_in_range(journals.as_slice());
+    let ports = alone(ports, room);
+    let report = report_of(alloc, seats.as_slice(), journals);
+    RunLeft { ports, report }
+}
+
+// Makes the report of a run, and gives the ports that are left of it back to their rig.
 fn report_of_run<C: Printer, R: Rig>(
     alloc: Global,
     ran: Result<Ran<CountedPort<R::P>, C>, NoMemory>,
@@ -119,18 +172,9 @@ fn report_of_run<C: Printer, R: Rig>(
     ensures failed { IfErr result (λ e. e ≡ status.Memory) }
     ensures rig { IsUnplugged (rig_view R.Rig R.P.tells rig.old) (rig_view R.Rig R.P.tells rig.new) }
 {
-    let Ok(ran) = ran else {
-        rig.unplug(room);
-        return Err(Status::Memory);
-    };
-    let Ran {
-        ports,
-        seats,
-        journals,
-    } = ran;
-    are_in_range(journals.as_slice());
-    given_back(ports, room, rig);
-    Ok(report_of_callers(alloc, seats.as_slice(), journals)?)
+    let RunLeft { ports, report } = left_of_run(alloc, ran, room);
+    rig.unplug(ports);
+    report
 }
 
 // The same, and makes the summary of a plan.
@@ -209,6 +253,30 @@ pub fn run_scripts<R: Rig>(
     scripts_are_fair();
     let limit = limit_of(board, scripts.as_slice());
     run_callers(alloc, board, scripts, limit, words, rig)
+}
+
+/// The same of scripts over the ports of a rig that was plugged, with room for as many, and leaves the ports.
+pub fn run_ports<P: Port>(
+    alloc: Global,
+    board: &Accepted,
+    scripts: Vec<Script>,
+    words: &[u8],
+    ports: Vec<P>,
+    room: Vec<P>,
+) -> RunLeft<P>
+    requires opened { AreOpened board.now scripts.items }
+    requires few { length scripts.items ≤ MOST_CALLERS }
+    requires named { All (λ c. c < length scripts.items) words.now }
+    requires cheap { cost_of_texts board.now (texts_of scripts.items) ≤ MOST_COST }
+    requires fresh { AreFresh P.Port board.now ports.items }
+    requires room { (room.items ≡ []) × (length ports.items ≤ vec_capacity room) }
+    ensures run { IsTrue P.tells → IfOk result.report (λ text. HasRunOver P.Port board.now result.ports.items (HasRun board.now (texts_of scripts.items) (Some words.now) text)) }
+    ensures failed { IfErr result.report (λ e. e ≡ status.Memory) }
+{
+    scripts_are_fair();
+    let limit = limit_of(board, scripts.as_slice());
+    let ran = finished(alloc, board, scripts, limit, words, ports);
+    left_of_run(alloc, ran, room)
 }
 
 /// Runs generated scripts by their schedule, and gives the summary of their plan.

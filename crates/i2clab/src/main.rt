@@ -1,13 +1,14 @@
-//! `i2clab`: runs of the buses of `i2cbus` while chosen calls of their controllers fail, and sessions over them.
+//! `i2clab`: runs of the buses of `i2cbus` while chosen calls of their controllers fail, the levels of their wires, and sessions over them.
 //!
-//! It hands the real files, the standard input and output and a rig to `lab`, and ends with the status's number. The rig is `FailRig`: its
-//! ports are those of the bytes, and fail where a list says.
+//! It hands the real files, the standard input and output and two rigs to `lab`, and ends with the status's number. The ports of `FailRig` are
+//! those of the bytes, and fail where a list says; those of `BitRig` drive two wires, whose levels are kept.
 #![tactic(auto)]
 
+use bus_waves::Recorded;
 use i2c_command::words_of;
 use i2c_lab::lab;
 use i2c_outside::{FileShelf, StdoutSink};
-use i2c_physics::FailRig;
+use i2c_physics::{BitRig, FailRig};
 use i2c_session::LineInput;
 use i2c_top::Status;
 use std::io::BufReader;
@@ -25,6 +26,7 @@ fn main(rt: HostRuntime) -> ExitCode {
     let mut shelf = FileShelf::new(&rt, words.as_slice());
     let mut sink = StdoutSink::new(&rt);
     let mut rig = FailRig::new(false, Vec::new(alloc));
+    let mut wires = BitRig::<Recorded>::new();
     let status = lab(
         alloc,
         words.as_slice(),
@@ -32,6 +34,7 @@ fn main(rt: HostRuntime) -> ExitCode {
         &mut input,
         &mut sink,
         &mut rig,
+        &mut wires,
     );
     ExitCode::from(status.code())
 }

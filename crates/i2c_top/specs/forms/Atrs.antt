@@ -1,5 +1,5 @@
 -- `atr BOARD MAP SCHEDULE SCRIPT...`, with 1 to 8 scripts: a replay by a map of address translators.
-use Rattle.std.specs.Prelude.{ℕ, Bool, List, codes}
+use Rattle.std.specs.Prelude.{ℕ, Bool, false, List, codes}
 use Rattle.i2c_base.specs.declared.port.PortCall.{PortCall}
 use Rattle.i2c_spec.specs.Targets.{TargetState}
 use Rattle.addr_atr.specs.Callers.{AtrCallerView}
@@ -18,6 +18,7 @@ is_atr words = is_extra (codes "atr") words
 -- a map spells itself over a board, which is accepted as it is lowered; and the run is that over the lowered board
 abbrev pub map_row : ExtraRow MapView
 map_row = record {
+  in_word = false;
   spells = IsMapOf;
   fails = IsMapFault;
   runs = λ b m texts words bytes logs states counts. HasAtrRun m texts words bytes logs states counts;

@@ -1,6 +1,7 @@
--- `FORM BOARD FILE SCHEDULE SCRIPT...`, with 1 to 8 scripts: a replay by one file more. What that file says over the board, and what a run
--- by it is, is a row of facts; the words, what the files say where a call ends with a status, and its report are told for any row.
-use Rattle.std.specs.Prelude.{⊤, ◌≡◌, ℕ, ◌+◌, ◌<◌, ◌≤◌, ◌⊎◌, nat_le, Bool, true, ◌&&◌, IsTrue, List, ◌++◌, length, drop, map, slice_get, string_bytes, None, Some}
+-- `FORM BOARD FILE SCHEDULE SCRIPT...`, with 1 to 8 scripts: a replay by one file more, or by one word more in its place. What its text says
+-- over the board, and what a run by it is, is a row of facts; the words, what the files say where a call ends with a status, and its report are
+-- told for any row.
+use Rattle.std.specs.Prelude.{⊤, ◌≡◌, ℕ, ◌+◌, ◌<◌, ◌≤◌, ◌⊎◌, nat_le, Bool, true, false, ◌&&◌, if◌then◌else◌, IsTrue, List, ◌++◌, length, drop, map, slice_get, string_bytes, Option, None, Some}
 use Rattle.std.specs.Str.{bytes_eq}
 use Rattle.i2c_base.specs.declared.port.PortCall.{PortCall}
 use Rattle.i2c_base.specs.Board.{BoardView}
@@ -20,20 +21,30 @@ use Rattle.i2c_top.specs.declared.extra.ExtraWords.{ExtraWords}
 use Rattle.i2c_top.specs.declared.status.Status.{Status}
 use Rattle.i2c_top.specs.declared.status.Status.TheVariants as status
 
--- `spells`: over a board a text spells this. `fails`: this refusal is the first thing that is wrong with it. `runs`: by this, scripts of
+-- `in_word`: the text is the word itself, and no file is read. `spells`: over a board a text spells this. `fails`: this refusal is the first thing that is wrong with it. `runs`: by this, scripts of
 -- these texts that follow the words are run over the board, and these bytes are the report, with what the rig then holds
 pub record ExtraRow (V : Type 0) : Type 1 where
+  pub in_word : Bool
   pub spells : BoardView → List ℕ → V → Type 0
   pub fails : BoardView → List ℕ → Status → Type 0
   pub runs : BoardView → V → (texts : List (List ℕ)) → (words bytes : List ℕ) → List (List PortCall) → List TargetState → List ℕ → Type 0
 
 abbrev pub row_of : {V : Type 0} → ExtraGhosts V → ExtraRow V
-row_of g = record { spells = g.spells; fails = g.fails; runs = g.runs }
+row_of g = record { in_word = g.in_word; spells = g.spells; fails = g.fails; runs = g.runs }
 
--- the refusals of such a file, which are no other file's
+-- its text, by the word that stands there: that of the file with this name, or the word
+abbrev pub text_at : {V : Type 0} → ExtraRow V → Files → List ℕ → Option (List ℕ)
+text_at x file word = if x.in_word then Some word else file word
+
+-- a file more stands at this place
+abbrev pub IsExtraFile : {V : Type 0} → ExtraRow V → ℕ → Type 0
+IsExtraFile x place = (place ≡ 2) × (x.in_word ≡ false)
+
+-- the refusals of such a text, which are no other text's
 abbrev pub IsOfExtra : Status → Type 0
 IsOfExtra (status.Map why) = ⊤
 IsOfExtra (status.Faults word) = ⊤
+IsOfExtra (status.NoRoot bus) = ⊤
 IsOfExtra _ = ⊥
 
 -- what every row keeps: its refusals are its own, and a text spells something or fails, with one refusal
@@ -75,9 +86,10 @@ abbrev pub as_run : ExtraNames → Names
 as_run names = names_of names.board None names.scripts
 
 -- a file of the call stands at this place
-pub record IsExtraPlace (names : ExtraNames) (place : ℕ) : Type 0 where
+pub record IsExtraPlace {V : Type 0} (x : ExtraRow V) (names : ExtraNames) (place : ℕ) : Type 0 where
   pub first : 1 ≤ place
   pub last : place < 4 + length names.scripts
+  pub file : place ≡ 2 → x.in_word ≡ false
 
 -- the names stand at their places among the words
 pub record AreExtraPlaced (words : List (List ℕ)) (names : ExtraNames) : Type 0 where
@@ -93,17 +105,17 @@ pub record IsExtraSpelled {V : Type 0} (x : ExtraRow V) (board : BoardView) (v :
   pub text : List ℕ
   pub spells : x.spells board text v
 
--- the file is there, and its text spells this over the board
+-- the text is there, and spells this over the board
 pub record HasExtra {V : Type 0} (x : ExtraRow V) (file : Files) (board : BoardView) (name : List ℕ) : Type 0 where
   pub text : List ℕ
-  pub there : file name ≡ Some text
+  pub there : text_at x file name ≡ Some text
   pub value : V
   pub spells : x.spells board text value
 
 -- it is there, and this is the first thing that is wrong with it
 pub record HasBadExtra {V : Type 0} (x : ExtraRow V) (file : Files) (board : BoardView) (name : List ℕ) (s : Status) : Type 0 where
   pub text : List ℕ
-  pub there : file name ≡ Some text
+  pub there : text_at x file name ≡ Some text
   pub fails : x.fails board text s
 
 -- there are a board, and scripts that are in the grammar
@@ -214,7 +226,7 @@ IsExtraAnswer x file names rig text =
 -- THE ROW: it reads the board, the scripts, the file more and the schedule, and plugs the rig; a success writes the report of a run
 abbrev pub extra_form : {V : Type 0} → ExtraRow V → ExtraNames → Form
 extra_form x names = record {
-  reads = IsExtraPlace names;
+  reads = IsExtraPlace x names;
   turn = λ file place. IsExtraTurn x file names place;
   skips = IsExtraSkipped;
   refuses = IsExtraRefusal x;

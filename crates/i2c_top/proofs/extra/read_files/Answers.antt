@@ -3,19 +3,19 @@ use Rattle.i2c_top.proofs.Cited.{texts_of}
 use Rattle.i2c_top.specs.Readings.{HasReadExtra}
 use Rattle.i2c_top.specs.forms.Extras.{IsExtraPlace, extra_told, row_of}
 use Rattle.i2c_top.proofs.FileLemmas.{all_scripts, dear_of, passed_on}
-use Rattle.i2c_top.proofs.ExtraLemmas.{board_told, cost_told, extra_read, extra_refused, kept_board, kept_extra, kept_more, kept_scripts}
+use Rattle.i2c_top.proofs.ExtraLemmas.{board_told, cost_told, extra_read, extra_refused, kept_board, kept_extra, kept_schedule, kept_scripts}
 use Rattle.i2c_top.proofs.ExtraLemmas.{same_extra, script_told, word_told}
 use Rattle.i2c_top.proofs.SomeFiles.{some-extra}
 use Rattle.i2c_top.proofs.extra.read_files.Goals as goal
 use Rattle.i2c_top.proofs.extra.read_files.Goals.{After-schedule_in, In_ok-words}
 
 -- the board, the scripts, the file more and the schedule were read of the form's files
-all-kept : (g : _) (c : After-schedule_in g) → KeepsBut (IsExtraPlace (extra_told c.args.names.now))
+all-kept : (g : _) (c : After-schedule_in g) → KeepsBut (IsExtraPlace (row_of g.E.ExtraFile) (extra_told c.args.names.now))
     (shelf_view g.S.Shelf c.args.shelf.now) (shelf_view g.S.Shelf c.schedule_in.new.shelf)
 all-kept g c =
     let names = extra_told c.args.names.now in
     let many = length-map c.args.names.now.scripts.now string_bytes in
-    kept_more (row_of g.E.ExtraFile) names 3 _ _ _ (omega arith) (omega arith)
+    kept_schedule (row_of g.E.ExtraFile) names _ _ _
     (kept_extra (row_of g.E.ExtraFile) names _ _ _ _ _ many c.read_accepted.ensures.kept c.scripts_in.ensures.kept c.extra_in.ensures.kept) c.schedule_in.ensures.kept
 
 -- the schedule is one of as many callers as there are names of scripts
@@ -64,12 +64,12 @@ returns-in_err-extra-clause-refused g c =
     (λ n. c.scripts_in.ensures.kept.files n ∙ c.read_accepted.ensures.kept.files n)
     (λ place low away. c.scripts_in.ensures.kept.others place (λ h. absurd (omega (arith, h.0, low)))
     ∙ c.read_accepted.ensures.kept.others place away)
-    c.extra_in.ensures.kept.others c.in_ok-board.ensures.board
+    (λ place away. c.extra_in.ensures.kept.others place (λ h. away h.0)) c.in_ok-board.ensures.board
     (all_scripts g.S.Shelf.tells (g.S.Shelf.file c.args.shelf.now)
     (g.S.Shelf.file c.read_accepted.new.shelf) names.scripts c.in_ok-board.board
     c.in_ok-scripts.scripts.items c.read_accepted.ensures.kept.files (c.in_ok-scripts.ensures.count
     ∙ sym many) c.in_ok-scripts.ensures.scripts)
-    c.in_err-extra.ensures.refused)
+    c.in_err-extra.ensures.file c.in_err-extra.ensures.refused)
 
 pub returns-in_err-words-clause-kept : goal.returns-in_err-words-clause-kept
 returns-in_err-words-clause-kept g c = all-kept g (goal.at.returns-in_err-words-clause-kept g c).After-schedule_in
@@ -86,7 +86,7 @@ returns-in_err-words-clause-refused g c =
     (λ rig. word_told (row_of g.E.ExtraFile) names _ _ rig kept c.in_ok-board.board c.in_ok-extra.extra
     (shelf_view g.S.Shelf c.extra_in.new.shelf) c.callers_of-callers.result
     c.in_err-words.field-0.0 (λ n. c.extra_in.ensures.kept.files n ∙ same n)
-    (c.extra_in.ensures.kept.others 3 (λ e. absurd (omega (arith, e))) ∙ c.scripts_in.ensures.kept.others 3 (λ h. absurd (omega (arith, h.0)))
+    (c.extra_in.ensures.kept.others 3 (λ h. absurd (omega (arith, h.0))) ∙ c.scripts_in.ensures.kept.others 3 (λ h. absurd (omega (arith, h.0)))
     ∙ c.read_accepted.ensures.kept.others 3 (λ e. absurd (omega (arith, e))))
     c.in_ok-board.ensures.board
     (all_scripts g.S.Shelf.tells (g.S.Shelf.file c.args.shelf.now)
