@@ -1,5 +1,5 @@
 //! The lines of an input, taken one at a time.
-ghost use Rattle.std.specs.Prelude.{◌≡◌, ◌-◌, ◌^◌, ◌<◌, ◌≤◌, true, Ok, Err, IfOk, IfSome};
+ghost use Rattle.std.specs.Prelude.{◌≡◌, ◌≢◌, ◌+◌, ◌-◌, ◌^◌, ◌≤◌, true, Ok, Err, IfOk, IfSome};
 ghost use Rattle.ports.specs.Causes.{Rose};
 ghost use Rattle.i2c_session.specs.Inputs.{IsNext, lines_in};
 
@@ -38,7 +38,8 @@ impl<R: BufRead + Drop> LineInput<R> {
     /// reader does, and behind 2^64 - 1 lines.
     pub fn next_line(&mut self, line: &mut Vec<u8>) -> Result<bool, ReadFail>
         ensures line { IfSome (lines_in (R.remaining self.old.reader)) (λ lines. IfOk result (λ there. IsNext there line.new.items lines (lines_in (R.remaining self.new.reader)))) }
-        ensures falls { result ≡ Ok true → self.new.left < self.old.left }
+        ensures one { result ≡ Ok true → self.old.left ≡ self.new.left + 1 }
+        ensures none { result ≢ Ok true → self.new.left ≡ self.old.left }
         ensures cause { result ≡ Err ReadFail.Failed → Rose self.old.faults self.new.faults }
         ensures later { self.old.faults ≤ self.new.faults }
     {
@@ -63,6 +64,7 @@ impl<R: BufRead + Drop> LineInput<R> {
     fn failed(&mut self) -> ReadFail
         ensures fail { result ≡ ReadFail.Failed }
         ensures rose { Rose self.old.faults self.new.faults }
+        ensures left { self.new.left ≡ self.old.left }
         ensures later { self.old.faults ≤ self.new.faults }
     {
         self.faults = self.faults.saturating_add(1);
