@@ -111,12 +111,30 @@ fn add_calls(calls: &mut Vec<(SegId, u32)>, text: &str) -> Option<()> {
     Some(())
 }
 
-// Adds the words of a text.
-fn add_words(words: &mut Vec<String>, alloc: Global, text: &str) -> Option<()> {
-    for word in text.split_whitespace() {
-        words.push(String::from_str(alloc, word).ok()?).ok()?;
+/// Adds a word.
+pub fn add_word(words: &mut Vec<String>, alloc: Global, word: &str) -> Result<(), AllocError> {
+    words.push(String::from_str(alloc, word)?)?;
+    Ok(())
+}
+
+/// Adds words.
+pub fn add_each(
+    words: &mut Vec<String>,
+    alloc: Global,
+    others: &[String],
+) -> Result<(), AllocError> {
+    for word in others {
+        add_word(words, alloc, word.as_str())?;
     }
-    Some(())
+    Ok(())
+}
+
+// Adds the words of a text.
+fn add_words(words: &mut Vec<String>, alloc: Global, text: &str) -> Result<(), AllocError> {
+    for word in text.split_whitespace() {
+        add_word(words, alloc, word)?;
+    }
+    Ok(())
 }
 
 // The same words again.
@@ -208,7 +226,7 @@ impl Call {
     /// Has the words of this text.
     pub fn read_words(&mut self, alloc: Global, text: &str) -> Option<()> {
         self.words.clear();
-        add_words(&mut self.words, alloc, text)
+        add_words(&mut self.words, alloc, text).ok()
     }
 
     /// Has the words of another call.
@@ -248,6 +266,14 @@ impl Call {
         match self.words.as_slice().get(place) {
             Some(word) => word.as_str(),
             None => "",
+        }
+    }
+
+    /// The words from a place on, none where there are fewer.
+    pub fn words_from(&self, place: usize) -> &[String] {
+        match self.words.as_slice().get(place..) {
+            Some(words) => words,
+            None => &[],
         }
     }
 

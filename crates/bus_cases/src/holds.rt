@@ -1,7 +1,7 @@
 //! Two callers on two roots, whose ports wait for each other.
 
 use crate::case::{Case, Files, shelf_of, sink_of};
-use crate::turns::put_lines;
+use crate::show::put_lines;
 use case_parts::Page;
 use i2c_base::SegId;
 use i2c_outside::OpenGate;

@@ -62,7 +62,7 @@ fn text_of<'f>(files: &'f Files, name: &str) -> &'f str {
 }
 
 /// Adds the number of a caller, of the first or the second one.
-fn add_word(words: &mut Vec<u8>, is_second: bool) -> Option<()> {
+fn add_caller(words: &mut Vec<u8>, is_second: bool) -> Option<()> {
     let word = if is_second { b"1 " } else { b"0 " };
     words.extend_from_slice(word).ok()
 }
@@ -73,7 +73,7 @@ fn put_schedule(words: &mut Vec<u8>, number: u16) -> Option<()> {
     let mut rest = number;
     for _ in 0..DIGITS {
         if rest > 1 {
-            add_word(words, rest % 2 == 1)?;
+            add_caller(words, rest % 2 == 1)?;
         }
         rest /= 2;
     }

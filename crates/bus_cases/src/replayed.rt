@@ -1,21 +1,17 @@
 //! A call with register caches beside the same call without them.
 
-use crate::case::{Call, Case, Files};
+use crate::case::{Call, Case, Files, add_each, add_word};
 use case_parts::{Page, same_registers};
-use std::alloc::Global;
+use std::alloc::{AllocError, Global};
 use std::sync::Wait;
 use std::thread::Threads;
 
 /// The words of a call, as those of a replay.
-fn replay_words(alloc: Global, call: &Call) -> Option<Vec<String>> {
+fn replay_words(alloc: Global, call: &Call) -> Result<Vec<String>, AllocError> {
     let mut words = Vec::new(alloc);
-    words.push(String::from_str(alloc, "replay").ok()?).ok()?;
-    for word in call.words.as_slice().get(1..)? {
-        words
-            .push(String::from_str(alloc, word.as_str()).ok()?)
-            .ok()?;
-    }
-    Some(words)
+    add_word(&mut words, alloc, "replay")?;
+    add_each(&mut words, alloc, call.words_from(1))?;
+    Ok(words)
 }
 
 /// Makes a call, and makes it as a replay, in the same case. Puts whether the sections are the same, and the devices but for their
@@ -30,7 +26,7 @@ pub fn put_replayed<H: Threads + Wait + Sync>(
 ) -> Option<()> {
     call.make(rt, alloc, case, files)?;
     let mut replay = Call::new(alloc)?;
-    replay.words = replay_words(alloc, call)?;
+    replay.words = replay_words(alloc, call).ok()?;
     replay.make(rt, alloc, case, files)?;
     let (sections, journal) = call.report()?;
     let (others, whole) = replay.report()?;

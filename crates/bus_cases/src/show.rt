@@ -8,8 +8,8 @@ use targets::DeviceState;
 /// The most places of a command line.
 const PLACES: u8 = 16;
 
-// The lines of a text.
-fn put_lines(page: &mut Page, text: &str) {
+/// Puts the lines of a text, each after two spaces.
+pub fn put_lines(page: &mut Page, text: &str) {
     for line in text.lines() {
         page.put("  ");
         page.put_line(line);

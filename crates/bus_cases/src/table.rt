@@ -11,7 +11,7 @@ use crate::show::{put_answers, put_call, put_calls};
 use crate::turns::put_turns;
 use crate::verified::is_verified;
 use case_parts::{Page, parted};
-use std::alloc::Global;
+use std::alloc::{AllocError, Global};
 use std::collections::BTreeMap;
 use std::sync::Wait;
 use std::thread::Threads;
@@ -30,8 +30,10 @@ pub struct Table {
 }
 
 // Adds a line to a file.
-fn add_line(bytes: &mut Vec<u8>, line: &str) -> bool {
-    bytes.extend_from_slice(line.as_bytes()).is_ok() && bytes.push(b'\n').is_ok()
+fn add_line(bytes: &mut Vec<u8>, line: &str) -> Result<(), AllocError> {
+    bytes.extend_from_slice(line.as_bytes())?;
+    bytes.push(b'\n')?;
+    Ok(())
 }
 
 impl Table {
@@ -73,7 +75,7 @@ impl Table {
     fn has_added(&mut self, line: &str) -> bool {
         match &self.file {
             Some(name) => match self.files.get_mut(name.as_str()) {
-                Some(bytes) => add_line(bytes, line),
+                Some(bytes) => add_line(bytes, line).is_ok(),
                 None => false,
             },
             None => false,

@@ -1,6 +1,7 @@
 //! Two callers as running threads that take turns at a gate.
 
 use crate::case::{Call, Case, Files};
+use crate::show::put_lines;
 use case_parts::Page;
 use i2c_base::{LockId, SegId};
 use i2c_outside::{Point, TurnGate};
@@ -35,14 +36,6 @@ fn is_between(alloc: Global, journal: &str, held: u8, other: u8) -> Option<bool>
     let settle = place_of(journal, front_of(alloc, "settle", held)?.as_str(), 0)?;
     let second = place_of(journal, front_of(alloc, "settle", other)?.as_str(), 1)?;
     Some(free < second && second < settle)
-}
-
-/// Puts the lines of a text, each after two spaces.
-pub fn put_lines(page: &mut Page, text: &str) {
-    for line in text.lines() {
-        page.put("  ");
-        page.put_line(line);
-    }
 }
 
 /// The sections of a report, and where in its journal the other caller settled.

@@ -1,27 +1,21 @@
 //! What the checker of journals says of the report that a call wrote.
 
-use crate::case::{Call, Case, Files};
-use std::alloc::Global;
+use crate::case::{Call, Case, Files, add_each, add_word};
+use std::alloc::{AllocError, Global};
 use std::sync::Wait;
 use std::thread::Threads;
 
 /// The name of the file of a report. No file of a table has it, since a word has no space.
 const REPORT: &str = "the report";
 
-fn push(words: &mut Vec<String>, alloc: Global, word: &str) -> Option<()> {
-    words.push(String::from_str(alloc, word).ok()?).ok()
-}
-
 /// The words by which the report of a call is verified: over its board, with its scripts.
-fn verify_words(alloc: Global, call: &Call) -> Option<Vec<String>> {
+fn verify_words(alloc: Global, call: &Call) -> Result<Vec<String>, AllocError> {
     let mut words = Vec::new(alloc);
-    for word in ["verify", call.word(1), REPORT] {
-        push(&mut words, alloc, word)?;
-    }
-    for script in call.words.as_slice().get(call.first_script()..)? {
-        push(&mut words, alloc, script.as_str())?;
-    }
-    Some(words)
+    add_word(&mut words, alloc, "verify")?;
+    add_word(&mut words, alloc, call.word(1))?;
+    add_word(&mut words, alloc, REPORT)?;
+    add_each(&mut words, alloc, call.words_from(call.first_script()))?;
+    Ok(words)
 }
 
 /// These files, and the report that a call wrote.
@@ -51,7 +45,7 @@ pub fn is_verified<H: Threads + Wait + Sync>(
     call: &Call,
 ) -> Option<bool> {
     let mut check = Call::new(alloc)?;
-    check.words = verify_words(alloc, call)?;
+    check.words = verify_words(alloc, call).ok()?;
     let files = with_report(alloc, files, call)?;
     check.make(rt, alloc, &Case::new(alloc), &files)?;
     let (_, journal) = call.report()?;
