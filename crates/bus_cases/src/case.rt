@@ -1,5 +1,5 @@
 //! A case: what fails outside of the program, and a call that is made with it.
-ghost use Rattle.std.specs.Prelude.{◌≡◌, Some, map, string_bytes, IfOk, IfSome, OnSome};
+ghost use Rattle.std.specs.Prelude.{◌≡◌, ◌++◌, ◌∷◌, [], Some, map, string_bytes, IfOk, IfSome, OnOk, OnSome};
 ghost use Rattle.i2c_outside.specs.Shelves.{held};
 ghost use Rattle.i2c_physics.specs.SimRigs.{kept_states};
 ghost use Rattle.i2c_physics.specs.FailPorts.{counts_given, logs_given};
@@ -112,17 +112,17 @@ fn add_calls(calls: &mut Vec<(SegId, u32)>, text: &str) -> Option<()> {
 }
 
 /// Adds a word.
-pub fn add_word(words: &mut Vec<String>, alloc: Global, word: &str) -> Result<(), AllocError> {
+pub fn add_word(words: &mut Vec<String>, alloc: Global, word: &str) -> Result<(), AllocError>
+    ensures { OnOk result (map string_bytes words.new.items ≡ map string_bytes words.old.items ++ word.now ∷ []) }
+{
     words.push(String::from_str(alloc, word)?)?;
     Ok(())
 }
 
 /// Adds words.
-pub fn add_each(
-    words: &mut Vec<String>,
-    alloc: Global,
-    others: &[String],
-) -> Result<(), AllocError> {
+pub fn add_each(words: &mut Vec<String>, alloc: Global, others: &[String]) -> Result<(), AllocError>
+    ensures { OnOk result (map string_bytes words.new.items ≡ map string_bytes words.old.items ++ map string_bytes others.now) }
+{
     for word in others {
         add_word(words, alloc, word.as_str())?;
     }
@@ -142,9 +142,7 @@ fn copied(alloc: Global, words: &[String]) -> Result<Vec<String>, AllocError>
     ensures { IfOk result (λ v. map string_bytes v.items ≡ map string_bytes words.now) }
 {
     let mut copy = Vec::new(alloc);
-    for word in words {
-        copy.push(String::from_str(alloc, word.as_str())?)?;
-    }
+    add_each(&mut copy, alloc, words)?;
     Ok(copy)
 }
 
